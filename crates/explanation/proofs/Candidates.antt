@@ -1,5 +1,5 @@
 -- What became of offers, one after the other; and traces by the kind of their offer.
-use Rattle.std.proofs.Common.{◌≡◌, ◌<◌, ◌≤◌, ◌+◌, ℕ, List, [], ◌∷◌, ◌++◌, Option, take, length, get_or, refl, sym, ap, subst, ◌∙◌, inl, inr, arith}
+use Rattle.std.proofs.Common.{◌≡◌, ◌<◌, ◌≤◌, ◌+◌, ℕ, List, [], ◌∷◌, ◌++◌, Option, take, length, get_or, refl, sym, ap, subst, ◌∙◌, inl, inr}
 use Rattle.std.specs.Prelude.{Contains}
 use Rattle.std.specs.List.Sorted.{IsStrictlySortedBy}
 use Rattle.std.proofs.lemmas.Grind.{flat_map-append}
@@ -21,11 +21,11 @@ use Rattle.explanation.specs.declared.offer.OfferKind.TheVariants as kind
 use Rattle.explanation.specs.declared.offered.ExternalKey.{ExternalKey}
 use Rattle.explanation.specs.declared.trace.Trace.{Trace}
 use Rattle.explanation.specs.Judging.{IsJudged, IsRivalsOf}
-use Rattle.explanation.specs.Networks.{AreOfNetwork, by_networks, offers_for}
-use Rattle.explanation.specs.Outside.{AreForwarded, AreOutside, AreTracesAs, AreWithin, IsForwarded, IsOutside, LeadsForward, LeadsOutside}
+use Rattle.explanation.specs.Groups.{AreOfNetwork, offers_for}
+use Rattle.explanation.specs.Networks.{by_networks}
+use Rattle.explanation.specs.Outside.{AreForwarded, AreOutside, AreTracesAs, AreWithin}
 use Rattle.explanation.specs.Explained.{AddsJudged, AddsNetwork, AreCandidates, AreInOrder, AreNetworks, AreTracesFor, IsCandidate, MakesMore, offers_of}
 use Rattle.explanation.proofs.OfNetwork.{just_those}
-use Rattle.explanation.proofs.TraceLists.{traces_as}
 
 module _ (w : Layers) (o : Offer) (paths : List Path) where
   -- the traces of an offer of an area
@@ -40,13 +40,7 @@ module _ (w : Layers) (o : Offer) (paths : List Path) where
   outside_as scope metric external traces none are = subst (λ (address : ℕ). AreOutside w address o paths traces) (sym none) are
 
   pub forwarded_as : (scope : Scope) (metric : ℕ) (external : External) (traces : List Trace) → 0 < external.forwarding → AreForwarded w external.forwarding o paths traces → AreTracesAs w o scope (kind.AsExternal metric external) paths traces
-  forwarded_as scope metric external traces some are = traces_as (IsForwarded w external.forwarding o) (LeadsForward w external.forwarding o) (IsOutside w external.forwarding o) (LeadsOutside w external.forwarding o) paths traces
-      (λ (t : Trace) is. inr (inr (some, is)))
-      (λ (path : Path) leads. elim leads [
-        | inl l ↦ let none = l.0 in absurd (omega (arith, some, none))
-        | inr (inl l) ↦ let none = l.0 in absurd (omega (arith, some, none))
-        | inr (inr l) ↦ l.1
-      ]) are
+  forwarded_as scope metric external traces some are = inr (inr (some, are))
 
 module _ (w : Layers) (all : List Offer) where
   -- beside its rivals

@@ -1,11 +1,17 @@
 pub mod StubLinks
 pub mod Tails
 pub mod PathLinks
+pub mod NoSteps
 pub mod TraceLists
 pub mod Interfaces
 pub mod Rivals
 pub mod Standings
 pub mod OfNetwork
+pub mod Searching
+pub mod Groups
+pub mod Wanted
+pub mod AllWanted
+pub mod Keys
 pub mod Told
 pub mod OneFate
 pub mod Forwarding

@@ -8,15 +8,15 @@ use Rattle.ospf_types.proofs.Elements.{first_element, first_or_later, later_elem
 use Rattle.ospf_types.specs.declared.prefix.Prefix.{Prefix}
 use Rattle.ospf_types.specs.RangeChanges.{is_same_prefix}
 use Rattle.explanation.specs.declared.offer.Offer.{Offer}
-use Rattle.explanation.specs.Networks.{AreOfNetwork, offers_for}
+use Rattle.explanation.specs.Groups.{AreOfNetwork, offers_for}
 
 -- two prefixes with one address and one length are one
-same_prefix : (p q : Prefix) → is_same_prefix p q ≡ true → p ≡ q
+pub same_prefix : (p q : Prefix) → is_same_prefix p q ≡ true → p ≡ q
 same_prefix p q is =
     let parts = and_parts (p.address == q.address) (p.length == q.length) is in
     λ i. record { address = eqb-true p.address q.address parts.0 i; length = eqb-true p.length q.length parts.1 i }
 
-prefix_same : (p q : Prefix) → p ≡ q → is_same_prefix p q ≡ true
+pub prefix_same : (p q : Prefix) → p ≡ q → is_same_prefix p q ≡ true
 prefix_same p q is = and_from (p.address == q.address) (p.length == q.length) (eq-eqb p.address q.address (ap (λ (x : Prefix). x.address) is)) (eq-eqb p.length q.length (ap (λ (x : Prefix). x.length) is))
 
 module _ (p : Prefix) where

@@ -17,7 +17,8 @@ use Rattle.explanation.specs.declared.offer.OfferKind.TheVariants as kind
 use Rattle.explanation.specs.declared.offered.ExternalKey.{ExternalKey}
 use Rattle.explanation.specs.Judging.{IsCostWithin, IsFateWithin, IsGreatestId, IsJudged, IsJudgedAs, IsJudgedIn, IsJudgedWithin, IsRivalsOf, LacksCostWithin}
 use Rattle.explanation.specs.Layers.{AreAreas, internal_at}
-use Rattle.explanation.specs.Networks.{AreOfNetwork, IsTakenAmong}
+use Rattle.explanation.specs.Groups.{AreOfNetwork}
+use Rattle.explanation.specs.Networks.{IsTakenAmong}
 use Rattle.explanation.specs.Offered.{IsStubCost, IsSummaryCost, LacksStubCost, LacksSummaryCost}
 use Rattle.explanation.specs.Outside.{IsInRoute}
 use Rattle.explanation.proofs.Rivals.{some_same}
@@ -26,7 +27,7 @@ use Rattle.explanation.proofs.Standings.{has_cost, one_cost, one_distance}
 -- beside one route within the AS
 alone : (e : Entry) (greatest : Option ℕ) (o : Offer) (area cost : ℕ) (f : Fate) → IsFateWithin (Some e) greatest o area cost fate.Taken → IsFateWithin (Some e) greatest o area cost f → f ≡ fate.Taken
 alone e greatest o area cost fate.IntraArea taken is = absurd (taken.3 is.1 is.0)
-alone e greatest o area cost fate.Costlier taken is = let no_more = taken.0 in absurd (omega (arith, no_more, is))
+alone e greatest o area cost fate.Costlier taken is = let no_more = taken.0 in let more = is.0 in absurd (omega (arith, no_more, more))
 alone e greatest o area cost fate.LesserArea taken is = absurd (is.1 taken.1)
 alone e greatest o area cost fate.LesserId taken is = absurd (is.3 (taken.2 is.2))
 alone e greatest o area cost fate.Taken taken is = refl
@@ -68,10 +69,10 @@ module _ (w : Layers) (are : AreAreas w.areas.now) where
 
     has_stub : (metric c : ℕ) (f : Fate) → IsStubCost w area o metric c → LacksStubCost w area o f → ⊥
     has_stub metric c fate.MaxAge x lacks = let young = x.0 in omega (arith, young, lacks)
-    has_stub metric c fate.NoInterface x lacks = elim x.1 [ inl own ↦ lacks.1 own.1 | inr far ↦ far.0 lacks.0 ]
+    has_stub metric c fate.NoInterface x lacks = elim x.1 [ inl own ↦ lacks.2 own.1 | inr far ↦ far.0 lacks.1 ]
     has_stub metric c fate.Unreached x lacks = elim x.1 [
-      | inl own ↦ lacks.0 own.0
-      | inr far ↦ let wrong : Some far.1.0 ≡ None = one_distance w.areas.now are area (Router o.source.key.router) (Some far.1.0) None far.1.1 lacks.1 in absurd cc
+      | inl own ↦ lacks.1 own.0
+      | inr far ↦ let wrong : Some far.1.0 ≡ None = one_distance w.areas.now are area (Router o.source.key.router) (Some far.1.0) None far.1.1 lacks.2 in absurd cc
     ]
     has_stub metric c _ x lacks = lacks
 
@@ -82,12 +83,12 @@ module _ (w : Layers) (are : AreAreas w.areas.now) where
 
     has_summary : (metric c : ℕ) (f : Fate) → IsSummaryCost w area o metric c → LacksSummaryCost w area o metric f → ⊥
     has_summary metric c fate.NotExamined x lacks = let is = x.0 in absurd cc
-    has_summary metric c fate.ActiveRange x lacks = x.2 lacks
-    has_summary metric c fate.NoBorderRouter x lacks = lacks x.3.0 x.3.1
-    has_summary metric c fate.MaxAge x lacks = let young = x.1.0 in omega (arith, young, lacks)
-    has_summary metric c fate.Infinity x lacks = let less = x.1.1 in omega (arith, less, lacks)
-    has_summary metric c fate.Own x lacks = x.1.2 lacks
-    has_summary metric c _ x lacks = lacks
+    has_summary metric c fate.ActiveRange x lacks = x.2 lacks.2
+    has_summary metric c fate.NoBorderRouter x lacks = lacks.3 x.3.0 x.3.1
+    has_summary metric c fate.MaxAge x lacks = let young = x.1.0 in let old = lacks.1.1 in omega (arith, young, old)
+    has_summary metric c fate.Infinity x lacks = let less = x.1.1 in let more = lacks.1 in omega (arith, less, more)
+    has_summary metric c fate.Own x lacks = x.1.2 lacks.1.2
+    has_summary metric c _ x lacks = lacks.1
 
     one_within : (k : OfferKind) (c d : ℕ) → IsCostWithin w area o k c → IsCostWithin w area o k d → c ≡ d
     one_within (kind.Stub metric) c d x y = one_stub metric c d x y
@@ -104,7 +105,7 @@ module _ (w : Layers) (are : AreAreas w.areas.now) where
     never_taken : (k : OfferKind) → LacksCostWithin w area o k fate.Taken → ⊥
     never_taken (kind.Stub metric) lacks = lacks
     never_taken kind.Transit lacks = lacks
-    never_taken (kind.Summary metric) lacks = lacks
+    never_taken (kind.Summary metric) lacks = lacks.1
     never_taken (kind.AsExternal metric external) lacks = absurd cc
 
     module _ (e : Entry) (greatest : Option ℕ) where

@@ -65,6 +65,6 @@ module _ (w : Layers) (are : AreAreas w.areas.now) (area : ℕ) (o : Offer) wher
   -- and no reason to have none
   pub has_cost : (c : ℕ) (f : Fate) → IsTransitCost w area o c → LacksTransitCost w area o f → ⊥
   has_cost c fate.MaxAge x lacks = let young = x.0 in omega (arith, young, lacks)
-  has_cost c fate.Another x lacks = lacks.2 (one_key_standing w.areas.now are area (Network o.source.key.id) lacks.0 (Some o.source.key) lacks.1 x.1)
-  has_cost c fate.Unreached x lacks = let wrong : Some c ≡ None = one_distance w.areas.now are area (Network o.source.key.id) (Some c) None x.2 lacks in cc
+  has_cost c fate.Another x lacks = lacks.3 (one_key_standing w.areas.now are area (Network o.source.key.id) lacks.1 (Some o.source.key) lacks.2 x.1)
+  has_cost c fate.Unreached x lacks = let wrong : Some c ≡ None = one_distance w.areas.now are area (Network o.source.key.id) (Some c) None x.2 lacks.2 in cc
   has_cost c _ x lacks = lacks

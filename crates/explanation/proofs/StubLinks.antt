@@ -1,11 +1,12 @@
 -- The TOS entries of a stub link do not count.
-use Rattle.std.proofs.Common.{◌≡◌, ℕ, List, [], ◌∷◌, map, refl, ap}
+use Rattle.std.proofs.Common.{◌≡◌, Bool, List, [], ◌∷◌, map, refl, ap}
 use Rattle.std.specs.List.{filter_map, cons_option}
 use Rattle.ospf_types.specs.declared.key.Scope.{Scope}
+use Rattle.ospf_types.specs.declared.prefix.Prefix.{Prefix}
 use Rattle.ospf_types.specs.Lsa.{Lsa, RouterLink}
 use Rattle.lsa_codec.specs.Readers.{without_tos}
-use Rattle.explanation.specs.Offers.{stub_around}
+use Rattle.explanation.specs.Offers.{stub_if}
 
-pub stubs_without_tos : (scope : Scope) (address : ℕ) (l : Lsa) (ks : List RouterLink) → filter_map (stub_around scope address l) (map without_tos ks) ≡ filter_map (λ (k : RouterLink). stub_around scope address l (without_tos k)) ks
-stubs_without_tos scope address l [] = refl
-stubs_without_tos scope address l (k ∷ ks) = ap (cons_option (stub_around scope address l (without_tos k))) (stubs_without_tos scope address l ks)
+pub stubs_without_tos : (wanted : Prefix → Bool) (scope : Scope) (l : Lsa) (ks : List RouterLink) → filter_map (stub_if wanted scope l) (map without_tos ks) ≡ filter_map (λ (k : RouterLink). stub_if wanted scope l (without_tos k)) ks
+stubs_without_tos wanted scope l [] = refl
+stubs_without_tos wanted scope l (k ∷ ks) = ap (cons_option (stub_if wanted scope l (without_tos k))) (stubs_without_tos wanted scope l ks)

@@ -16,7 +16,8 @@ use Rattle.explanation.specs.declared.offered.ExternalKey.{ExternalKey}
 use Rattle.explanation.specs.declared.trace.Trace.{Trace}
 use Rattle.explanation.specs.Judging.{IsJudged}
 use Rattle.explanation.specs.Layers.{AreLayers}
-use Rattle.explanation.specs.Networks.{IsJudgedAmong, all_offers, by_networks, offers_for}
+use Rattle.explanation.specs.Groups.{offers_for}
+use Rattle.explanation.specs.Networks.{IsJudgedAmong, all_offers, by_networks}
 use Rattle.explanation.specs.Outside.{AreTraces}
 
 -- Of an offer that is taken, a trace for each of the paths that it gives to its network's route. Of others there is none.

@@ -88,13 +88,17 @@ abbrev pub IsSummary : OfferKind → Type 0
 IsSummary (kind.Summary metric) = Unit {0}
 IsSummary _ = ⊥
 
--- within the AS, beside the route and such a transit network (16.1, 16.2); where an offer has paths, there is a route
+-- no summary beside an intra-area route (16.2 (6))
+abbrev pub IsComparable : Entry → Offer → Type 0
+IsComparable e o = IsSummary o.kind → e.kind ≢ Intra
+
+-- within the AS, beside the route and such a transit network (16.1, 16.2), the first step that decides; where an offer has paths, there is a route
 abbrev pub IsFateWithin : Option Entry → Option ℕ → Offer → ℕ → ℕ → Fate → Type 0
 IsFateWithin (Some e) greatest o area cost fate.IntraArea = (e.kind ≡ Intra) × IsSummary o.kind
-IsFateWithin (Some e) greatest o area cost fate.Costlier = e.cost < cost
-IsFateWithin (Some e) greatest o area cost fate.LesserArea = (cost ≤ e.cost) × (e.area ≢ Some area)
+IsFateWithin (Some e) greatest o area cost fate.Costlier = (e.cost < cost) × IsComparable e o
+IsFateWithin (Some e) greatest o area cost fate.LesserArea = (cost ≤ e.cost) × (e.area ≢ Some area) × IsComparable e o
 IsFateWithin (Some e) greatest o area cost fate.LesserId = (cost ≤ e.cost) × (e.area ≡ Some area) × (o.kind ≡ kind.Transit) × (greatest ≢ Some o.source.key.id)
-IsFateWithin (Some e) greatest o area cost fate.Taken = (cost ≤ e.cost) × (e.area ≡ Some area) × (o.kind ≡ kind.Transit → greatest ≡ Some o.source.key.id) × (IsSummary o.kind → e.kind ≢ Intra)
+IsFateWithin (Some e) greatest o area cost fate.Taken = (cost ≤ e.cost) × (e.area ≡ Some area) × (o.kind ≡ kind.Transit → greatest ≡ Some o.source.key.id) × IsComparable e o
 IsFateWithin None greatest o area cost fate.Unreached = Unit {0}
 IsFateWithin _ greatest o area cost _ = ⊥
 

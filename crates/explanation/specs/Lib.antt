@@ -1,8 +1,10 @@
 pub mod Offers
+pub mod Groups
 pub mod Layers
 pub mod Offered
 pub mod Judging
 pub mod Networks
+pub mod Giving
 pub mod Traces
 pub mod Outside
 pub mod Explained

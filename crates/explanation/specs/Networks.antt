@@ -1,40 +1,36 @@
 -- What all databases offer of networks that contain an address, and what becomes of an offer beside the others for its network (RFC 2328, 11.1 and 16).
-use Rattle.std.specs.Prelude.{ℕ, ◌≡◌, ◌↔◌, List, ◌++◌, Contains, Option, filter}
+use Rattle.std.specs.Prelude.{ℕ, Bool, List, ◌++◌, Option}
 use Rattle.std.specs.FinMap.{values}
 use Rattle.std.specs.List.{flat_map}
 use Rattle.ospf_types.specs.declared.entry.Entry.{Entry}
 use Rattle.ospf_types.specs.declared.key.Scope.TheVariants.{Area, As}
 use Rattle.ospf_types.specs.declared.prefix.Prefix.{Prefix}
-use Rattle.ospf_types.specs.RangeChanges.{is_same_prefix}
 use Rattle.event_state.specs.States.{database_of, lsas_of}
 use Rattle.intra.specs.Inputs.{AreaValue}
+use Rattle.explanation.specs.Groups.{AreOfNetwork, offers_for}
 use Rattle.explanation.specs.declared.fate.Fate.TheVariants.{Taken}
 use Rattle.explanation.specs.declared.judging.Judged.{Judged}
 use Rattle.explanation.specs.declared.layers.Layers.{Layers}
 use Rattle.explanation.specs.declared.offer.Offer.{Offer}
 use Rattle.explanation.specs.declared.offered.ExternalKey.{ExternalKey}
 use Rattle.explanation.specs.Judging.{IsJudged, IsRivalsOf}
-use Rattle.explanation.specs.Offers.{offers_among}
+use Rattle.explanation.specs.Offers.{is_around, offers_among}
 
--- what the LSAs of these areas offer of networks that contain the address
-abbrev pub offers_in_areas : ℕ → List AreaValue → List Offer
-offers_in_areas address areas = flat_map (λ (a : AreaValue). offers_among (Area a.id) address (values a.lsas)) areas
+-- what the LSAs of these areas offer of the networks at which the test gives true
+abbrev pub offers_in_areas : (Prefix → Bool) → List AreaValue → List Offer
+offers_in_areas wanted areas = flat_map (λ (a : AreaValue). offers_among wanted (Area a.id) (values a.lsas)) areas
 
 -- what all LSAs do: those of the areas in their order, and then the AS-external-LSAs
-abbrev pub all_offers : Layers → ℕ → List Offer
-all_offers w address = offers_in_areas address w.areas.now ++ offers_among As address (lsas_of (database_of w.state.now As))
+abbrev pub all_wanted : (Prefix → Bool) → Layers → List Offer
+all_wanted wanted w = offers_in_areas wanted w.areas.now ++ offers_among wanted As (lsas_of (database_of w.state.now As))
 
--- those of the offers that are of the network, in their order
-abbrev pub offers_for : Prefix → List Offer → List Offer
-offers_for p all = filter (λ (o : Offer). is_same_prefix o.network p) all
+-- of networks that contain the address
+abbrev pub all_offers : Layers → ℕ → List Offer
+all_offers w address = all_wanted (is_around address) w
 
 -- those of each of these networks, one network after the other
 abbrev pub by_networks : List Offer → List Prefix → List Offer
 by_networks all networks = flat_map (λ (p : Prefix). offers_for p all) networks
-
--- just those of the offers that are of the network
-abbrev pub AreOfNetwork : Prefix → List Offer → List Offer → Type 0
-AreOfNetwork p all found = (o : Offer) → Contains found o ↔ (Contains all o × (o.network ≡ p))
 
 -- what the offer comes to, beside just those of all that are for its network
 pub record IsJudgedAmong (w : Layers) (all : List Offer) (o : Offer) (judged : Judged) : Type 0 where

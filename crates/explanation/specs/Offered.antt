@@ -40,11 +40,11 @@ IsStubCost w area o metric cost = (o.age < MaxAge) × (
     ((o.source.key.router ≡ root_of w) × HasInterfaceOn w area o.network × (cost ≡ metric))
     ⊎ ((o.source.key.router ≢ root_of w) × ((distance : ℕ) × IsDistanceOf w.areas.now area (Router o.source.key.router) (Some distance) × (cost ≡ distance + metric))))
 
--- why a stub network has none
+-- why a stub network has none: the first of these that holds
 abbrev pub LacksStubCost : Layers → ℕ → Offer → Fate → Type 0
 LacksStubCost w area o fate.MaxAge = MaxAge ≤ o.age
-LacksStubCost w area o fate.NoInterface = (o.source.key.router ≡ root_of w) × (HasInterfaceOn w area o.network → ⊥)
-LacksStubCost w area o fate.Unreached = (o.source.key.router ≢ root_of w) × IsDistanceOf w.areas.now area (Router o.source.key.router) None
+LacksStubCost w area o fate.NoInterface = (o.age < MaxAge) × (o.source.key.router ≡ root_of w) × (HasInterfaceOn w area o.network → ⊥)
+LacksStubCost w area o fate.Unreached = (o.age < MaxAge) × (o.source.key.router ≢ root_of w) × IsDistanceOf w.areas.now area (Router o.source.key.router) None
 LacksStubCost w area o _ = ⊥
 
 -- the cost of a transit network, for which the LSA stands: its distance
@@ -52,11 +52,12 @@ abbrev pub IsTransitCost : Layers → ℕ → Offer → ℕ → Type 0
 IsTransitCost w area o cost = (o.age < MaxAge)
     × IsKeyStanding w.areas.now area (Network o.source.key.id) (Some o.source.key) × IsDistanceOf w.areas.now area (Network o.source.key.id) (Some cost)
 
--- why a transit network has none
+-- why a transit network has none: the first of these that holds
 abbrev pub LacksTransitCost : Layers → ℕ → Offer → Fate → Type 0
 LacksTransitCost w area o fate.MaxAge = MaxAge ≤ o.age
-LacksTransitCost w area o fate.Another = (key : Option Key) × IsKeyStanding w.areas.now area (Network o.source.key.id) key × (key ≢ Some o.source.key)
-LacksTransitCost w area o fate.Unreached = IsDistanceOf w.areas.now area (Network o.source.key.id) None
+LacksTransitCost w area o fate.Another = (o.age < MaxAge) × (key : Option Key) × IsKeyStanding w.areas.now area (Network o.source.key.id) key × (key ≢ Some o.source.key)
+LacksTransitCost w area o fate.Unreached = (o.age < MaxAge)
+    × IsKeyStanding w.areas.now area (Network o.source.key.id) (Some o.source.key) × IsDistanceOf w.areas.now area (Network o.source.key.id) None
 LacksTransitCost w area o _ = ⊥
 
 -- ---- summaries (16.2)
@@ -65,11 +66,11 @@ LacksTransitCost w area o _ = ⊥
 abbrev pub IsBorderReached : Layers → ℕ → ℕ → ReachedValue → Type 0
 IsBorderReached w area router r = (reached_at w.calculation.now.intra.areas area router ≡ Some r) × (0 < bit_and r.flags B)
 
--- an LSA that is passed over at once: at MaxAge, at LSInfinity, or the router's own
+-- an LSA that is passed over at once, and the first reason that holds: at LSInfinity, at MaxAge (1), or the router's own (2)
 abbrev pub IsUnfit : Layers → Offer → ℕ → Fate → Type 0
-IsUnfit w o metric fate.MaxAge = MaxAge ≤ o.age
 IsUnfit w o metric fate.Infinity = LSInfinity ≤ metric
-IsUnfit w o metric fate.Own = o.source.key.router ≡ root_of w
+IsUnfit w o metric fate.MaxAge = (metric < LSInfinity) × (MaxAge ≤ o.age)
+IsUnfit w o metric fate.Own = (metric < LSInfinity) × (o.age < MaxAge) × (o.source.key.router ≡ root_of w)
 IsUnfit w o metric _ = ⊥
 
 -- none of that
@@ -82,12 +83,15 @@ IsSummaryCost w area o metric cost =
     (is_examined w.active.now area ≡ true) × IsFit w o metric × (IsActiveIn w.calculation.now.active o.network → ⊥)
     × ((r : ReachedValue) × IsBorderReached w area o.source.key.router r × (cost ≡ r.distance + metric))
 
--- why a summary has none
+-- why a summary has none: the first of the steps that speaks against it, in the order of 16.2
 abbrev pub LacksSummaryCost : Layers → ℕ → Offer → ℕ → Fate → Type 0
 LacksSummaryCost w area o metric fate.NotExamined = is_examined w.active.now area ≡ false
-LacksSummaryCost w area o metric fate.ActiveRange = IsActiveIn w.calculation.now.active o.network
-LacksSummaryCost w area o metric fate.NoBorderRouter = (r : ReachedValue) → IsBorderReached w area o.source.key.router r → ⊥
-LacksSummaryCost w area o metric f = IsUnfit w o metric f
+LacksSummaryCost w area o metric fate.ActiveRange =
+    (is_examined w.active.now area ≡ true) × IsFit w o metric × IsActiveIn w.calculation.now.active o.network
+LacksSummaryCost w area o metric fate.NoBorderRouter =
+    (is_examined w.active.now area ≡ true) × IsFit w o metric × (IsActiveIn w.calculation.now.active o.network → ⊥)
+    × ((r : ReachedValue) → IsBorderReached w area o.source.key.router r → ⊥)
+LacksSummaryCost w area o metric f = (is_examined w.active.now area ≡ true) × IsUnfit w o metric f
 
 -- ---- AS-external-LSAs (16.4)
 
@@ -103,17 +107,26 @@ key_by is_type_2 metric class distance =
     if is_type_2 then record { is_type_2 = is_type_2; metric = metric; class = class; cost = distance }
     else record { is_type_2 = is_type_2; metric = 0; class = class; cost = distance + metric }
 
+-- the AS boundary router has an entry, whatever the forwarding address
+abbrev pub IsBoundaryReached : Layers → ℕ → Type 0
+IsBoundaryReached w router = (p : PreferredValue) × (get w.calculation.now.external.preferred router ≡ Some p)
+
 -- what an AS-external-LSA is compared by
 abbrev pub IsExternalKey : Layers → Offer → ℕ → External → ExternalKey → Type 0
-IsExternalKey w o metric external key = IsFit w o metric
+IsExternalKey w o metric external key = IsFit w o metric × IsBoundaryReached w o.source.key.router
     × ((class distance : ℕ) × LeadsAt w o.source.key.router external.forwarding class distance × (key ≡ key_by external.is_type_2 metric class distance))
+
+-- what it is compared by if it has a forwarding address, whichever the AS boundary router
+abbrev pub IsForwardedKey : Layers → ℕ → External → ExternalKey → Type 0
+IsForwardedKey w metric external key =
+    (class distance : ℕ) × ((router : ℕ) → LeadsAt w router external.forwarding class distance) × (key ≡ key_by external.is_type_2 metric class distance)
 
 -- the forwarding address leads nowhere
 abbrev pub LeadsNowhere : Layers → ℕ → Type 0
 LeadsNowhere w address = (0 < address) × ((f : ForwardValue) (way : WayValue) → get w.calculation.now.external.forwards address ≡ Some f → f.way ≡ Some way → ⊥)
 
--- why it is not compared
+-- why it is not compared: the first of the steps that speaks against it, in the order of 16.4
 abbrev pub LacksKey : Layers → Offer → ℕ → External → Fate → Type 0
-LacksKey w o metric external fate.NoBoundaryRouter = get w.calculation.now.external.preferred o.source.key.router ≡ None
-LacksKey w o metric external fate.NoForward = LeadsNowhere w external.forwarding
+LacksKey w o metric external fate.NoBoundaryRouter = IsFit w o metric × (get w.calculation.now.external.preferred o.source.key.router ≡ None)
+LacksKey w o metric external fate.NoForward = IsFit w o metric × IsBoundaryReached w o.source.key.router × LeadsNowhere w external.forwarding
 LacksKey w o metric external f = IsUnfit w o metric f

@@ -1,5 +1,6 @@
 -- The paths that an offer gives and their traces, inside an area and outside the AS (RFC 2328, 16.1, 16.2 and 16.4).
-use Rattle.std.specs.Prelude.{ℕ, ◌≡◌, ◌⊎◌, ◌<◌, List, [], ◌∷◌, ◌++◌, Contains, Option, Some, None, bit_and}
+use Rattle.std.specs.Prelude.{ℕ, ◌≡◌, ◌⊎◌, ◌<◌, List, [], ◌∷◌, ◌++◌, Contains, Option, Some, None, bit_and, map}
+use Rattle.std.specs.List.{All}
 use Rattle.std.specs.FinMap.{get}
 use Rattle.ospf_types.specs.declared.entry.Entry.{Entry}
 use Rattle.ospf_types.specs.declared.entry.Vertex.TheVariants.{Router}
@@ -19,9 +20,12 @@ use Rattle.intra.specs.Intras.{reached_at}
 use Rattle.external.specs.Forwards.{ForwardValue}
 use Rattle.external.specs.Preferred.{PreferredValue}
 use Rattle.explanation.specs.Layers.{HasArea, internal_at}
-use Rattle.explanation.specs.Networks.{IsTakenAmong, all_offers}
+use Rattle.explanation.specs.Groups.{offers_for}
+use Rattle.explanation.specs.Networks.{IsTakenAmong, all_offers, all_wanted}
 use Rattle.explanation.specs.Offered.{root_of}
-use Rattle.explanation.specs.Offers.{source_of}
+use Rattle.explanation.specs.Offers.{is_one_of, source_of}
+use Rattle.explanation.specs.declared.forward.Forward.{Forward}
+use Rattle.explanation.specs.declared.grouping.Group.{Group}
 use Rattle.explanation.specs.declared.layers.Layers.{Layers}
 use Rattle.explanation.specs.declared.offer.Offer.{Offer}
 use Rattle.explanation.specs.declared.offer.OfferKind.{OfferKind}
@@ -29,7 +33,8 @@ use Rattle.explanation.specs.declared.offer.OfferKind.TheVariants as kind
 use Rattle.explanation.specs.declared.trace.Place.TheVariants as place
 use Rattle.explanation.specs.declared.trace.Step.{Step}
 use Rattle.explanation.specs.declared.trace.Trace.{Trace}
-use Rattle.explanation.specs.Traces.{AreJustTraces, AreSteps, AreTracesInTurn, HasTrace, IsOver, IsOwnTrace, IsTraceBy, LeadsBy, last_from, last_of}
+use Rattle.explanation.specs.Giving.{AreOfEach, GivesOne}
+use Rattle.explanation.specs.Traces.{AreOwnTraces, AreSteps, AreTracesBy, last_from, last_of}
 
 -- ---- of an offer of an area (16.1, 16.2)
 
@@ -37,18 +42,10 @@ use Rattle.explanation.specs.Traces.{AreJustTraces, AreSteps, AreTracesInTurn, H
 abbrev pub IsOwnStub : Layers → Offer → Type 0
 IsOwnStub w o = ((metric : ℕ) × (o.kind ≡ kind.Stub metric)) × (o.source.key.router ≡ root_of w)
 
--- The path is one that the offer gives in the area: of the root's own stub network, one over an interface on it. Else one that names the border router of a summary,
--- and by which the area's tree leads to the router or the transit network that the offer is of.
-abbrev pub LeadsOver : Layers → ℕ → Offer → Path → Type 0
-LeadsOver w area o path = (IsOwnStub w o × IsOver w area o path) ⊎ ((IsOwnStub w o → ⊥) × LeadsBy w.areas.now area o path)
-
--- a trace of such a path: of one step over that interface, or over a path of the area's tree
-abbrev pub IsWithin : Layers → ℕ → Offer → Trace → Type 0
-IsWithin w area o t = (IsOwnStub w o × IsOwnTrace w area o t) ⊎ ((IsOwnStub w o → ⊥) × IsTraceBy w.areas.now area o t)
-
--- one for each of the paths that the offer gives, in their order
+-- The traces of the paths that the offer gives in the area, in their order. The root's own stub network gives those over an interface on it. Any other offer gives those by
+-- which the area's tree leads to the router or the transit network that it is of; those of a summary name its border router.
 abbrev pub AreWithin : Layers → ℕ → Offer → List Path → List Trace → Type 0
-AreWithin w area o paths traces = AreTracesInTurn (IsWithin w area o) (LeadsOver w area o) paths traces
+AreWithin w area o paths traces = (IsOwnStub w o × AreOwnTraces w area o paths traces) ⊎ ((IsOwnStub w o → ⊥) × AreTracesBy w.areas.now area o paths traces)
 
 -- ---- of an AS-external-LSA without a forwarding address (16.4 (3))
 
@@ -66,45 +63,34 @@ abbrev pub IsToldStep : Layers → ℕ → ℕ → ℕ → Step → Type 0
 IsToldStep w area border router step = (a : AreaValue) × (l : Lsa) × HasArea w.areas.now area a × (get a.lsas (record { kind = 4; id = router; router = border }) ≡ Some l) × (l.header.age < MaxAge)
     × (metric_of l.body ≡ Some step.cost) × (step.source ≡ source_of (Area area) l) × (step.from ≡ place.Vertex (Router border)) × (step.to ≡ place.Vertex (Router router))
 
--- by way of a border router that tells of the AS boundary router (16.2)
-pub record IsTold (w : Layers) (o : Offer) (t : Trace) : Type 0 where
-  pub area : ℕ
-  pub border : ℕ
-  pub steps : List Step
-  pub told : Step
-  pub names : t.path.advertiser ≡ Some o.source.key.router
-  pub steps_are : AreSteps w.areas.now area (Router border) t.path.hop steps
-  pub told_is : IsToldStep w area border o.source.key.router told
-  pub whole : t.steps.items ≡ (steps ++ told ∷ []) ++ last_of o ∷ []
-
--- the path, in this area, names a border router whose summary-LSA tells of the AS boundary router
+-- the path names a border router of the area whose summary-LSA tells of the AS boundary router (16.2)
 abbrev pub IsToldOver : Layers → ℕ → Offer → Path → Type 0
 IsToldOver w area o within = (border : ℕ) × (told : Step) × (within.advertiser ≡ Some border) × IsToldStep w area border o.source.key.router told
 
--- a path of the AS boundary router's inter-area entry names such a border router
-pub record LeadsTold (w : Layers) (o : Offer) (path : Path) : Type 0 where
-  pub entry : Entry
-  pub area : ℕ
-  pub within : Path
-  pub entry_is : get w.calculation.now.inter.entries (dest.Router o.source.key.router) ≡ Some entry
-  pub area_is : entry.area ≡ Some area
-  pub among : Contains entry.paths within
-  pub told : IsToldOver w area o within
-  pub path_is : path ≡ external_path o within.hop
+-- the trace of such a path: that to the border router, and on from there
+pub record IsTold (w : Layers) (area : ℕ) (o : Offer) (within : Path) (t : Trace) : Type 0 where
+  pub border : ℕ
+  pub steps : List Step
+  pub told : Step
+  pub border_is : within.advertiser ≡ Some border
+  pub path_is : t.path ≡ external_path o within.hop
+  pub steps_are : AreSteps w.areas.now area (Router border) within.hop steps
+  pub told_is : IsToldStep w area border o.source.key.router told
+  pub whole : t.steps.items ≡ (steps ++ told ∷ []) ++ last_of o ∷ []
 
+-- one where the route has the path on from there
+abbrev pub GivesTold : Layers → ℕ → Offer → List Path → Path → List Trace → Type 0
+GivesTold w area o paths within traces = GivesOne (λ (t : Trace). IsTold w area o within t × Contains paths t.path) (IsToldOver w area o within × Contains paths (external_path o within.hop)) traces
+
+-- the inter-area entry of the AS boundary router, and the area that it leads through
+abbrev pub IsInterEntry : Layers → Offer → Entry → ℕ → Type 0
+IsInterEntry w o e area = (get w.calculation.now.inter.entries (dest.Router o.source.key.router) ≡ Some e) × (e.area ≡ Some area)
+
+-- for each path of the inter-area entry of the AS boundary router what it gives, in their order
 abbrev pub AreTold : Layers → Offer → List Path → List Trace → Type 0
-AreTold w o paths traces = AreJustTraces (IsTold w o) (LeadsTold w o) paths traces
-
--- a trace is added for this path of the inter-area entry, or none, just if it names no such border router or the route has no such path
-abbrev pub MayAddTold : Layers → ℕ → Offer → List Path → Path → List Trace → List Trace → Type 0
-MayAddTold w area o paths within before after =
-    ((t : Trace) × IsTold w o t × (t.path ≡ external_path o within.hop) × Contains paths t.path × (after ≡ before ++ t ∷ []))
-    ⊎ ((after ≡ before) × (IsToldOver w area o within → Contains paths (external_path o within.hop) → ⊥))
-
--- the traces for these paths of the inter-area entry
-pub record AreToldOver (w : Layers) (area : ℕ) (o : Offer) (paths withins : List Path) (traces : List Trace) : Type 0 where
-  pub sound : (t : Trace) → Contains traces t → Contains paths t.path × IsTold w o t
-  pub complete : (within : Path) → Contains withins within → IsToldOver w area o within → Contains paths (external_path o within.hop) → HasTrace traces (external_path o within.hop)
+AreTold w o paths traces =
+    ((e : Entry) × (area : ℕ) × IsInterEntry w o e area × AreOfEach (GivesTold w area o paths) e.paths traces)
+    ⊎ (((e : Entry) (area : ℕ) → IsInterEntry w o e area → ⊥) × (traces ≡ []))
 
 -- ---- of an AS-external-LSA with a forwarding address (16.4 (3))
 
@@ -116,80 +102,48 @@ match_of (Some f) = f.matched
 abbrev pub match_at : Layers → ℕ → Option Prefix
 match_at w address = match_of (get w.calculation.now.external.forwards address)
 
--- an offer of the network that is the longest match, which is taken there
-pub record IsMatching (w : Layers) (address : ℕ) (by : Offer) : Type 0 where
-  pub matched : match_at w address ≡ Some by.network
-  pub among : Contains (all_offers w by.network.address) by
-  pub taken : IsTakenAmong w (all_offers w by.network.address) by
-
 -- the offer is of this area, and its network has this route within the AS
 abbrev pub IsInRoute : Layers → Offer → ℕ → Entry → Type 0
 IsInRoute w by area e = (by.source.scope ≡ Area area) × (internal_at w.calculation.now by.network ≡ Some e)
 
--- a path toward the address, on from one that the offer gives to its network's route
-pub record LeadsToward (w : Layers) (address : ℕ) (o by : Offer) (path : Path) : Type 0 where
-  pub area : ℕ
-  pub entry : Entry
-  pub within : Path
-  pub route : IsInRoute w by area entry
-  pub among : Contains entry.paths within
-  pub leads : LeadsOver w area by within
-  pub path_is : path ≡ external_path o (toward address within.hop)
+-- what the offer gives to its network's route within the AS, if it has one
+abbrev pub GivesRoute : Layers → Offer → List Trace → Type 0
+GivesRoute w by traces =
+    ((area : ℕ) × (e : Entry) × IsInRoute w by area e × AreWithin w area by e.paths traces)
+    ⊎ (((area : ℕ) (e : Entry) → IsInRoute w by area e → ⊥) × (traces ≡ []))
 
--- the trace of such a path: that to the network, and on from there
-pub record IsToward (w : Layers) (address : ℕ) (o by : Offer) (t : Trace) : Type 0 where
-  pub area : ℕ
-  pub entry : Entry
-  pub inner : Trace
-  pub route : IsInRoute w by area entry
-  pub among : Contains entry.paths inner.path
-  pub within : IsWithin w area by inner
-  pub path_is : t.path ≡ external_path o (toward address inner.path.hop)
-  pub whole : t.steps.items ≡ inner.steps.items ++ last_from (place.Network by.network) o ∷ []
+-- that, if the offer is taken
+abbrev pub GivesTaken : Layers → Offer → List Trace → Type 0
+GivesTaken w by traces =
+    ((area : ℕ) × (e : Entry) × IsInRoute w by area e × IsTakenAmong w (all_offers w by.network.address) by × AreWithin w area by e.paths traces)
+    ⊎ (((area : ℕ) (e : Entry) → IsInRoute w by area e → IsTakenAmong w (all_offers w by.network.address) by → ⊥) × (traces ≡ []))
 
--- one for each of the paths toward the address by this offer
-abbrev pub AreToward : Layers → ℕ → Offer → List Path → Offer → List Trace → Type 0
-AreToward w address o paths by traces = AreJustTraces (IsToward w address o by) (LeadsToward w address o by) paths traces
+-- the traces to the network: of each offer of it that is taken one for each of the paths that it gives to the route within the AS, in the order of the offers and of the paths
+abbrev pub AreNetworkTraces : Layers → Prefix → List Trace → Type 0
+AreNetworkTraces w p traces = AreOfEach (GivesTaken w) (offers_for p (all_offers w p.address)) traces
 
--- such traces are added
-abbrev pub AddsToward : Layers → ℕ → Offer → List Path → Offer → List Trace → List Trace → Type 0
-AddsToward w address o paths by before after = (added : List Trace) × (after ≡ before ++ added) × AreToward w address o paths by added
+-- it goes on from a trace to the network toward the address, and is for one of these paths
+abbrev pub IsOnward : ℕ → Offer → List Path → Prefix → Trace → Trace → Type 0
+IsOnward address o paths p inner t = (t.path ≡ external_path o (toward address inner.path.hop)) × Contains paths t.path
+    × (t.steps.items ≡ inner.steps.items ++ last_from (place.Network p) o ∷ [])
 
--- a trace is added that goes on from this one, or none, just if that is for none of the paths
-abbrev pub MayAddInner : ℕ → Offer → List Path → Offer → Trace → List Trace → List Trace → Type 0
-MayAddInner address o paths by inner before after =
-    ((t : Trace) × (t.path ≡ external_path o (toward address inner.path.hop)) × Contains paths t.path
-    × (t.steps.items ≡ inner.steps.items ++ last_from (place.Network by.network) o ∷ []) × (after ≡ before ++ t ∷ []))
-    ⊎ ((after ≡ before) × (Contains paths (external_path o (toward address inner.path.hop)) → ⊥))
+abbrev pub GivesOnward : ℕ → Offer → List Path → Prefix → Trace → List Trace → Type 0
+GivesOnward address o paths p inner traces = GivesOne (IsOnward address o paths p inner) (Contains paths (external_path o (toward address inner.path.hop))) traces
 
-abbrev pub IsForwarded : Layers → ℕ → Offer → Trace → Type 0
-IsForwarded w address o t = (by : Offer) × IsMatching w address by × IsToward w address o by t
-
-abbrev pub LeadsForward : Layers → ℕ → Offer → Path → Type 0
-LeadsForward w address o path = (by : Offer) × IsMatching w address by × LeadsToward w address o by path
-
+-- for each trace to the longest match of the address one that goes on from it, in their order
 abbrev pub AreForwarded : Layers → ℕ → Offer → List Path → List Trace → Type 0
-AreForwarded w address o paths traces = AreJustTraces (IsForwarded w address o) (LeadsForward w address o) paths traces
+AreForwarded w address o paths traces =
+    ((p : Prefix) × (inners : List Trace) × (match_at w address ≡ Some p) × AreNetworkTraces w p inners × AreOfEach (GivesOnward address o paths p) inners traces)
+    ⊎ ((match_at w address ≡ None) × (traces ≡ []))
 
 -- ---- of any offer
 
--- The path is one that the AS-external-LSA gives: by its forwarding address, if it has one. Else in the area where the AS boundary router is reached, or, where it is in none, by
--- way of border routers that tell of it.
-abbrev pub LeadsOutside : Layers → ℕ → Offer → Path → Type 0
-LeadsOutside w address o path =
-    ((address ≡ 0) × ((area : ℕ) × IsBoundaryIn w o.source.key.router area × LeadsBy w.areas.now area o path))
-    ⊎ ((address ≡ 0) × (((area : ℕ) → IsBoundaryIn w o.source.key.router area → ⊥) × LeadsTold w o path))
-    ⊎ ((0 < address) × LeadsForward w address o path)
-
--- a trace of such a path
-abbrev pub IsOutside : Layers → ℕ → Offer → Trace → Type 0
-IsOutside w address o t =
-    ((address ≡ 0) × ((area : ℕ) × IsBoundaryIn w o.source.key.router area × IsTraceBy w.areas.now area o t))
-    ⊎ ((address ≡ 0) × (((area : ℕ) → IsBoundaryIn w o.source.key.router area → ⊥) × IsTold w o t))
-    ⊎ ((0 < address) × IsForwarded w address o t)
-
+-- By its forwarding address, if it has one. Else in the area where the AS boundary router is reached, or, where it is in none, by way of border routers that tell of it.
 abbrev pub AreOutside : Layers → ℕ → Offer → List Path → List Trace → Type 0
-AreOutside w address o paths traces = AreJustTraces (IsOutside w address o) (LeadsOutside w address o) paths traces
+AreOutside w address o paths traces =
+    ((address ≡ 0) × ((area : ℕ) × IsBoundaryIn w o.source.key.router area × AreTracesBy w.areas.now area o paths traces))
+    ⊎ ((address ≡ 0) × (((area : ℕ) → IsBoundaryIn w o.source.key.router area → ⊥) × AreTold w o paths traces))
+    ⊎ ((0 < address) × AreForwarded w address o paths traces)
 
 -- by how it is offered, and by the scope of its LSA
 abbrev pub AreTracesAs : Layers → Offer → Scope → OfferKind → List Path → List Trace → Type 0
@@ -197,6 +151,43 @@ AreTracesAs w o scope (kind.AsExternal metric external) paths traces = AreOutsid
 AreTracesAs w o (Area area) _ paths traces = AreWithin w area o paths traces
 AreTracesAs w o As _ paths traces = traces ≡ []
 
--- traces of the offer, one for each of the paths that it gives
+-- the traces of the offer, one for each of the paths that it gives
 abbrev pub AreTraces : Layers → Offer → List Path → List Trace → Type 0
 AreTraces w o paths traces = AreTracesAs w o o.source.scope o.kind paths traces
+
+-- ---- the forwarding addresses of several offers
+
+-- the longest match of the forwarding address
+abbrev pub match_by : Layers → OfferKind → Option Prefix
+match_by w (kind.AsExternal metric external) = match_at w external.forwarding
+match_by w _ = None
+
+-- it is one of these networks
+abbrev pub IsMatchedAt : Layers → List Prefix → ℕ → Type 0
+IsMatchedAt w networks address = (p : Prefix) → match_at w address ≡ Some p → Contains networks p
+
+abbrev pub IsMatched : Layers → List Prefix → Offer → Type 0
+IsMatched w networks o = (p : Prefix) → match_by w o.kind ≡ Some p → Contains networks p
+
+abbrev pub AreMatched : Layers → List Prefix → List Offer → Type 0
+AreMatched w networks offers = (o : Offer) → Contains offers o → IsMatched w networks o
+
+-- all that LSAs offer of its network, which is one of those that they were asked for
+abbrev pub AreAllOf : Layers → Group → Type 0
+AreAllOf w g = (networks : List Prefix) × Contains networks g.network × (g.offers.items ≡ offers_for g.network (all_wanted (is_one_of networks) w))
+
+abbrev pub networks_of : List Forward → List Prefix
+networks_of forwards = map (λ (f : Forward). f.network) forwards
+
+-- for each of these networks the traces to it
+pub record AreForwards (w : Layers) (networks : List Prefix) (forwards : List Forward) : Type 0 where
+  pub listed : networks_of forwards ≡ networks
+  pub right : All (λ (f : Forward). AreNetworkTraces w f.network f.traces.items) forwards
+
+-- the network and the traces to it are added
+abbrev pub AddsForward : Layers → Prefix → List Forward → List Forward → Type 0
+AddsForward w p before after = (f : Forward) × (f.network ≡ p) × AreNetworkTraces w p f.traces.items × (after ≡ before ++ f ∷ [])
+
+-- these are the traces to the network
+abbrev pub HasTraces : List Forward → Prefix → List Trace → Type 0
+HasTraces forwards p traces = (f : Forward) × Contains forwards f × (f.network ≡ p) × (traces ≡ f.traces.items)

@@ -26,6 +26,7 @@ use Rattle.explanation.specs.declared.trace.Place.{Place}
 use Rattle.explanation.specs.declared.trace.Place.TheVariants as place
 use Rattle.explanation.specs.declared.trace.Step.{Step}
 use Rattle.explanation.specs.declared.trace.Trace.{Trace}
+use Rattle.explanation.specs.Giving.{AreOfEach, GivesOne}
 use Rattle.explanation.specs.Offers.{source_of}
 use Rattle.explanation.specs.Layers.{HasArea, LacksArea}
 
@@ -74,36 +75,13 @@ pub record IsTraceTo (areas : List AreaValue) (id : ℕ) (v : Vertex) (advertise
 abbrev pub LeadsTo : List AreaValue → ℕ → Vertex → Option ℕ → Path → Type 0
 LeadsTo areas id v advertiser path = (path.advertiser ≡ advertiser) × ((a : AreaValue) × HasArea areas id a × HasHop a.tree.area.graph v path.hop)
 
--- ---- a trace for each path that leads there
+-- a trace to the vertex, for the path
+abbrev pub GivesTo : List AreaValue → ℕ → Vertex → Option ℕ → List Step → Path → List Trace → Type 0
+GivesTo areas id v advertiser on path traces = GivesOne (λ (t : Trace). IsTraceTo areas id v advertiser on t × (t.path ≡ path)) (LeadsTo areas id v advertiser path) traces
 
--- one of the traces is for the path
-abbrev pub HasTrace : List Trace → Path → Type 0
-HasTrace traces path = (t : Trace) × Contains traces t × (t.path ≡ path)
-
--- Each trace is for one of the paths, and each of the paths that leads there has one.
-pub record AreJustTraces (IsTrace : Trace → Type 0) (Leads : Path → Type 0) (paths : List Path) (traces : List Trace) : Type 0 where
-  pub sound : (t : Trace) → Contains traces t → Contains paths t.path × IsTrace t
-  pub complete : (path : Path) → Contains paths path → Leads path → HasTrace traces path
-
--- the traces are for some of the paths, one for each, in their order
-abbrev pub AreInTurn : List Path → List Trace → Type 0
-AreInTurn [] traces = traces ≡ []
-AreInTurn (path ∷ paths) traces = AreInTurn paths traces ⊎ ((t : Trace) × (rest : List Trace) × (traces ≡ t ∷ rest) × (t.path ≡ path) × AreInTurn paths rest)
-
--- one trace for each of the paths that leads there, in their order, and no other
-pub record AreTracesInTurn (IsTrace : Trace → Type 0) (Leads : Path → Type 0) (paths : List Path) (traces : List Trace) : Type 0 where
-  pub just : AreJustTraces IsTrace Leads paths traces
-  pub in_turn : AreInTurn paths traces
-
--- a trace for the path is added, just where it leads there
-abbrev pub MayAddTrace : (Trace → Type 0) → (Path → Type 0) → Path → List Trace → List Trace → Type 0
-MayAddTrace IsTrace Leads path before after =
-    ((t : Trace) × IsTrace t × (t.path ≡ path) × (after ≡ before ++ t ∷ []))
-    ⊎ ((after ≡ before) × (Leads path → ⊥))
-
--- traces to the vertex
+-- for each of the paths that leads to the vertex one trace, in their order
 abbrev pub AreTracesTo : List AreaValue → ℕ → Vertex → Option ℕ → List Step → List Path → List Trace → Type 0
-AreTracesTo areas id v advertiser on paths traces = AreTracesInTurn (IsTraceTo areas id v advertiser on) (LeadsTo areas id v advertiser) paths traces
+AreTracesTo areas id v advertiser on paths traces = AreOfEach (GivesTo areas id v advertiser on) paths traces
 
 -- ---- the traces of an offer
 
@@ -133,13 +111,9 @@ last_from from o = record { from = from; to = place.Network o.network; cost = me
 abbrev pub last_of : Offer → Step
 last_of o = last_from (place.Vertex (vertex_by o.kind o.source.key)) o
 
--- over a path to the vertex that it leads over, in the area
-abbrev pub IsTraceBy : List AreaValue → ℕ → Offer → Trace → Type 0
-IsTraceBy areas area o t = IsTraceTo areas area (vertex_by o.kind o.source.key) (advertiser_by o.kind o.source.key) (last_of o ∷ []) t
-
--- the path is one that leads to that vertex
-abbrev pub LeadsBy : List AreaValue → ℕ → Offer → Path → Type 0
-LeadsBy areas area o path = LeadsTo areas area (vertex_by o.kind o.source.key) (advertiser_by o.kind o.source.key) path
+-- over paths to the vertex that it leads over, in the area
+abbrev pub AreTracesBy : List AreaValue → ℕ → Offer → List Path → List Trace → Type 0
+AreTracesBy areas area o paths traces = AreTracesTo areas area (vertex_by o.kind o.source.key) (advertiser_by o.kind o.source.key) (last_of o ∷ []) paths traces
 
 -- ---- over an interface of the root
 
@@ -151,5 +125,9 @@ IsOver w area o path = (id : ℕ) × (i : Interface) × (path.hop ≡ Direct id)
 abbrev pub IsOwnTrace : Layers → ℕ → Offer → Trace → Type 0
 IsOwnTrace w area o t = IsOver w area o t.path × (t.steps.items ≡ last_of o ∷ [])
 
+abbrev pub GivesOwn : Layers → ℕ → Offer → Path → List Trace → Type 0
+GivesOwn w area o path traces = GivesOne (λ (t : Trace). IsOwnTrace w area o t × (t.path ≡ path)) (IsOver w area o path) traces
+
+-- for each of the paths over such an interface one trace, in their order
 abbrev pub AreOwnTraces : Layers → ℕ → Offer → List Path → List Trace → Type 0
-AreOwnTraces w area o paths traces = AreTracesInTurn (IsOwnTrace w area o) (IsOver w area o) paths traces
+AreOwnTraces w area o paths traces = AreOfEach (GivesOwn w area o) paths traces

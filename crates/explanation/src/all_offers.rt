@@ -1,11 +1,13 @@
-//! What the databases of a router offer of networks that contain an address.
+//! What the databases of a router offer of networks.
 ghost use Rattle.std.specs.Prelude.{◌≡◌, ◌++◌, IfOk, OnOk};
 ghost use Rattle.ospf_types.specs.RangeChanges.{is_same_prefix};
-ghost use Rattle.explanation.specs.Networks.{all_offers, offers_for, offers_in_areas};
+ghost use Rattle.explanation.specs.Groups.{offers_for};
+ghost use Rattle.explanation.specs.Networks.{all_wanted, offers_in_areas};
+ghost use Rattle.explanation.specs.Offers.{is_wanted};
 
 use crate::layers::Layers;
 use crate::offer::Offer;
-use crate::offers::Around;
+use crate::offers::{Asked, Wanted};
 use intra::AreaInputs;
 use ospf_types::key::Scope;
 use ospf_types::memory::Memory;
@@ -14,26 +16,31 @@ use std::alloc::Global;
 
 impl Layers<'_, '_> {
     /// What the LSAs of the areas offer, and then the AS-external-LSAs.
-    pub(crate) fn all_offers(self, alloc: Global, address: u32) -> Result<Vec<Offer>, Memory>
-        ensures { IfOk result (λ offers. offers.items ≡ all_offers self.entry address) }
+    pub(crate) fn all_offers(self, alloc: Global, wanted: Wanted<'_>) -> Result<Vec<Offer>, Memory>
+        ensures { IfOk result (λ offers.
+            offers.items ≡ all_wanted (is_wanted wanted.entry) self.entry) }
     {
         let mut offers = Vec::new(alloc);
-        add_areas(self.areas, address, &mut offers)?;
+        add_areas(self.areas, wanted, &mut offers)?;
         let scope = Scope::As;
         if let Some(database) = self.state.database(scope) {
-            Around { scope, address }.add_offers(&database.lsas()?, &mut offers)?;
+            Asked { scope, wanted }.add_offers(&database.lsas()?, &mut offers)?;
         }
         Ok(offers)
     }
 }
 
-fn add_areas(areas: &[AreaInputs<'_>], address: u32, offers: &mut Vec<Offer>) -> Result<(), Memory>
+fn add_areas(
+    areas: &[AreaInputs<'_>],
+    wanted: Wanted<'_>,
+    offers: &mut Vec<Offer>,
+) -> Result<(), Memory>
     ensures { OnOk result (offers.new.items
-        ≡ offers.old.items ++ offers_in_areas address areas.now) }
+        ≡ offers.old.items ++ offers_in_areas (is_wanted wanted.entry) areas.now) }
 {
     for area in areas {
         let scope = Scope::Area(area.id);
-        Around { scope, address }.add_offers(&area.database.lsas()?, offers)?;
+        Asked { scope, wanted }.add_offers(&area.database.lsas()?, offers)?;
     }
     Ok(())
 }

@@ -1,27 +1,26 @@
 //! Why the routing table has what it has for an address (RFC 2328, 11.1 and 16).
 ghost use Rattle.std.specs.Prelude.{IfNone, IfOk, IfSome, OnOk, option_copied};
-ghost use Rattle.std.specs.List.Sorted.{IsStrictlySortedBy};
-ghost use Rattle.ospf_types.specs.Network.{network_cmp};
 ghost use Rattle.calculation.specs.Calculations.{IsCalculationOf};
 ghost use Rattle.event_core.specs.Cores.{IsCurrent, state_of};
 ghost use Rattle.explanation.specs.Layers.{AreAreas};
 ghost use Rattle.explanation.specs.Networks.{all_offers};
-ghost use Rattle.explanation.specs.Outside.{AreTraces};
+ghost use Rattle.explanation.specs.Outside.{AreForwards, AreMatched, AreTraces, IsMatched};
 ghost use Rattle.explanation.specs.Explained.{AddsJudged, AddsNetwork, AreCandidates, AreInOrder, AreNetworks, AreTracesFor, IsExplained};
 
 use crate::all_offers::of_network;
 use crate::fate::Fate;
-use crate::forward::{Forwarded, is_taken};
+use crate::forward::{Forwarded, Forwards, is_taken};
 use crate::judging::{Judged, Rivals};
 use crate::layers::Layers;
+use crate::networks::Networks;
 use crate::offer::{Offer, OfferKind};
+use crate::offers::Wanted;
 use crate::trace::Trace;
 use event_core::{Calculated, Core};
 use ospf_types::hop::Path;
 use ospf_types::key::Scope;
 use ospf_types::memory::Memory;
 use ospf_types::prefix::Prefix;
-use result_map::ascending;
 use route_layers::active_areas;
 use state_trees::area_inputs;
 use std::alloc::Global;
@@ -95,11 +94,12 @@ impl Layers<'_, '_> {
         ensures in_order { IfOk result (λ candidates.
             AreInOrder (all_offers self.entry address) candidates.items) }
     {
-        let all = self.all_offers(alloc, address)?;
+        let all = self.all_offers(alloc, Wanted::Around(address))?;
+        let forwards = self.forwards(alloc, &all)?;
         let networks = networks_of(alloc, &all)?;
         let mut candidates = Vec::with_capacity(alloc, all.len())?;
-        for network in &networks {
-            self.push_network(*network, &all, &mut candidates)?;
+        for network in networks.as_slice() {
+            self.push_network(*network, &all, &forwards, &mut candidates)?;
         }
         Ok(candidates)
     }
@@ -109,16 +109,19 @@ impl Layers<'_, '_> {
         self,
         network: Prefix,
         all: &[Offer],
+        forwards: &Forwards,
         candidates: &mut Vec<Candidate>,
     ) -> Result<(), Memory>
-        requires { AreAreas self.areas.now }
+        requires areas { AreAreas self.areas.now }
+        requires forwards { AreForwards self forwards.now.networks forwards.now.items.items }
+        requires matched { AreMatched self forwards.now.networks all.now }
         ensures { OnOk result (AddsNetwork self.entry all.now network candidates.old.items
             candidates.new.items) }
     {
         let offers = of_network(*candidates.allocator(), network, all)?;
         let rivals = self.rivals(network, &offers);
         for offer in &offers {
-            self.push_candidate(offer, &rivals, candidates)?;
+            self.push_candidate(offer, &rivals, forwards, candidates)?;
         }
         Ok(())
     }
@@ -128,15 +131,18 @@ impl Layers<'_, '_> {
         self,
         offer: &Offer,
         rivals: &Rivals<'_>,
+        forwards: &Forwards,
         candidates: &mut Vec<Candidate>,
     ) -> Result<(), Memory>
-        requires { AreAreas self.areas.now }
+        requires areas { AreAreas self.areas.now }
+        requires forwards { AreForwards self forwards.now.networks forwards.now.items.items }
+        requires matched { IsMatched self forwards.now.networks offer.now }
         ensures { OnOk result (AddsJudged self.entry (option_copied rivals.now.internal)
             rivals.now.greatest rivals.now.least offer.now candidates.old.items
             candidates.new.items) }
     {
         let Judged { cost, fate } = self.judge(offer, rivals);
-        let traces = self.traces_if(*candidates.allocator(), fate, offer)?;
+        let traces = self.traces_if(*candidates.allocator(), fate, offer, forwards)?;
         candidates.push(Candidate {
             offer: *offer,
             cost,
@@ -147,8 +153,16 @@ impl Layers<'_, '_> {
     }
 
     // If the offer is taken, traces of it for the paths of its network's route.
-    fn traces_if(self, alloc: Global, fate: Fate, offer: &Offer) -> Result<Vec<Trace>, Memory>
-        requires { AreAreas self.areas.now }
+    fn traces_if(
+        self,
+        alloc: Global,
+        fate: Fate,
+        offer: &Offer,
+        forwards: &Forwards,
+    ) -> Result<Vec<Trace>, Memory>
+        requires areas { AreAreas self.areas.now }
+        requires forwards { AreForwards self forwards.now.networks forwards.now.items.items }
+        requires matched { IsMatched self forwards.now.networks offer.now }
         ensures { IfOk result (λ traces. AreTracesFor self.entry offer.now fate traces.items) }
     {
         if !is_taken(fate) {
@@ -157,13 +171,21 @@ impl Layers<'_, '_> {
         let Some(entry) = self.calculation.entry(offer.network) else {
             return Ok(Vec::new(alloc));
         };
-        let traces = self.traces(alloc, offer, entry.paths.as_slice())?;
+        let traces = self.traces(alloc, offer, forwards, entry.paths.as_slice())?;
         Ok(traces)
     }
 
-    // Traces of the offer for these paths.
-    fn traces(self, alloc: Global, offer: &Offer, paths: &[Path]) -> Result<Vec<Trace>, Memory>
-        requires { AreAreas self.areas.now }
+    // Traces of the offer for these paths, in their order.
+    fn traces(
+        self,
+        alloc: Global,
+        offer: &Offer,
+        forwards: &Forwards,
+        paths: &[Path],
+    ) -> Result<Vec<Trace>, Memory>
+        requires areas { AreAreas self.areas.now }
+        requires forwards { AreForwards self forwards.now.networks forwards.now.items.items }
+        requires matched { IsMatched self forwards.now.networks offer.now }
         ensures { IfOk result (λ traces. AreTraces self.entry offer.now paths.now traces.items) }
     {
         if let OfferKind::AsExternal(_, external) = offer.kind {
@@ -177,7 +199,7 @@ impl Layers<'_, '_> {
                 address,
                 paths,
             };
-            let traces = self.forward_traces(alloc, forwarded)?;
+            let traces = self.forward_traces(alloc, forwards, forwarded)?;
             return Ok(traces);
         }
         match offer.source.scope {
@@ -190,14 +212,13 @@ impl Layers<'_, '_> {
     }
 }
 
-// The networks of the offers, ascending, each once.
-fn networks_of(alloc: Global, offers: &[Offer]) -> Result<Vec<Prefix>, Memory>
-    ensures all { IfOk result (λ networks. AreNetworks offers.now networks.items) }
-    ensures ascend { IfOk result (λ networks. IsStrictlySortedBy network_cmp networks.items) }
+// The networks of the offers.
+fn networks_of(alloc: Global, offers: &[Offer]) -> Result<Networks, Memory>
+    ensures { IfOk result (AreNetworks offers.now) }
 {
     let mut networks = Vec::with_capacity(alloc, offers.len())?;
     for offer in offers {
         networks.push(offer.network)?;
     }
-    Ok(ascending(networks))
+    Ok(Networks::of(networks))
 }

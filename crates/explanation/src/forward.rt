@@ -1,13 +1,19 @@
 //! The traces of the paths that an AS-external-LSA gives by way of its forwarding address (RFC 2328, 16.4 (3)).
-ghost use Rattle.std.specs.Prelude.{◌≡◌, ◌↔◌, IfOk, IsTrue, OnOk};
+ghost use Rattle.std.specs.Prelude.{◌≡◌, ◌↔◌, Contains, IfOk, IsTrue, OnOk};
 ghost use Rattle.ospf_types.specs.External.{toward};
+ghost use Rattle.explanation.specs.Giving.{Adds};
+ghost use Rattle.explanation.specs.Groups.{AreGroups, offers_for};
 ghost use Rattle.explanation.specs.Layers.{AreAreas};
-ghost use Rattle.explanation.specs.Outside.{AddsToward, AreForwarded, MayAddInner, match_at};
+ghost use Rattle.explanation.specs.Networks.{all_offers, all_wanted};
+ghost use Rattle.explanation.specs.Offers.{is_one_of};
+ghost use Rattle.explanation.specs.Outside.{AddsForward, AreAllOf, AreForwarded, AreForwards, AreMatched, AreNetworkTraces, GivesOnward, GivesRoute, HasTraces, IsMatchedAt, match_at, match_by, networks_of};
 
-use crate::all_offers::of_network;
 use crate::fate::Fate;
+use crate::grouping::{Group, grouped};
 use crate::layers::Layers;
-use crate::offer::Offer;
+use crate::networks::Networks;
+use crate::offer::{Offer, OfferKind};
+use crate::offers::Wanted;
 use crate::outside::has_path;
 use crate::trace::{Place, Trace};
 use ospf_types::hop::{NextHop, Path};
@@ -15,6 +21,53 @@ use ospf_types::key::Scope;
 use ospf_types::memory::Memory;
 use ospf_types::prefix::Prefix;
 use std::alloc::Global;
+
+/// The longest match of forwarding addresses, and the traces to it.
+pub(crate) struct Forward {
+    pub(crate) network: Prefix,
+    pub(crate) traces: Vec<Trace>,
+}
+
+// proof: one call drops it, in place of a drop of each part wherever one is held.
+impl Drop for Forward {
+    fn drop(self) {
+        let Forward {
+            network: _,
+            traces: _traces,
+        } = self;
+    }
+}
+
+/// The longest matches of the forwarding addresses of several offers, and the traces to each.
+pub(crate) struct Forwards {
+    pub(crate) networks: Networks,
+    /// One for each of the networks, in their order.
+    pub(crate) items: Vec<Forward>,
+}
+
+// proof: one call drops it, in place of a drop of each part wherever one is held.
+impl Drop for Forwards {
+    fn drop(self) {
+        let Forwards {
+            networks: _networks,
+            items: _items,
+        } = self;
+    }
+}
+
+impl Forwards {
+    // The traces to the network, which is one of them.
+    fn traces_to(&self, network: Prefix) -> &[Trace]
+        requires listed { networks_of self.now.items.items ≡ self.now.networks }
+        requires among { Contains self.now.networks network }
+        ensures { HasTraces self.now.items.items network result.now }
+    {
+        let Some(place) = self.networks.place(network) else {
+            unreachable!()
+        };
+        self.items[place].traces.as_slice()
+    }
+}
 
 /// An AS-external-LSA with a forwarding address, and the paths of the route that it is to give.
 #[derive(Clone, Copy)]
@@ -25,30 +78,42 @@ pub(crate) struct Forwarded<'a> {
 }
 
 impl Layers<'_, '_> {
-    /// A trace for each of those paths.
-    pub(crate) fn forward_traces(
-        self,
-        alloc: Global,
-        forwarded: Forwarded<'_>,
-    ) -> Result<Vec<Trace>, Memory>
+    /// The longest matches of the forwarding addresses of the offers, and the traces to each. All LSAs are gone through once.
+    pub(crate) fn forwards(self, alloc: Global, offers: &[Offer]) -> Result<Forwards, Memory>
         requires { AreAreas self.areas.now }
-        ensures { IfOk result (λ traces. AreForwarded self.entry forwarded.entry.address
-            forwarded.entry.offer.now forwarded.entry.paths.now traces.items) }
+        ensures right { IfOk result (λ f. AreForwards self.entry f.networks f.items.items) }
+        ensures matched { IfOk result (λ f. AreMatched self.entry f.networks offers.now) }
     {
-        let mut traces = Vec::new(alloc);
-        let Some(network) = self.matched(forwarded.address) else {
-            return Ok(traces);
-        };
-        let all = self.all_offers(alloc, network.address())?;
-        let offers = of_network(alloc, network, &all)?;
-        let rivals = self.rivals(network, &offers);
-        for by in &offers {
-            let judged = self.judge(by, &rivals);
-            if is_taken(judged.fate) {
-                self.push_by(by, forwarded, &mut traces)?;
+        let networks = self.matched_networks(alloc, offers)?;
+        let groups = self.groups_of(alloc, &networks)?;
+        let mut items = Vec::with_capacity(alloc, groups.len())?;
+        for group in &groups {
+            self.push_forward(group, &mut items)?;
+        }
+        Ok(Forwards { networks, items })
+    }
+
+    // The longest matches of the forwarding addresses of the offers.
+    fn matched_networks(self, alloc: Global, offers: &[Offer]) -> Result<Networks, Memory>
+        ensures { IfOk result (λ networks. AreMatched self.entry networks offers.now) }
+    {
+        let mut networks = Vec::new(alloc);
+        for offer in offers {
+            if let Some(network) = self.matched_by(offer.kind) {
+                networks.push(network)?;
             }
         }
-        Ok(traces)
+        Ok(Networks::of(networks))
+    }
+
+    // The longest match of the forwarding address.
+    fn matched_by(self, kind: OfferKind) -> Option<Prefix>
+        ensures { result ≡ match_by self.entry kind }
+    {
+        match kind {
+            OfferKind::AsExternal(_, external) => self.matched(external.forwarding),
+            OfferKind::Stub(_) | OfferKind::Transit | OfferKind::Summary(_) => None,
+        }
     }
 
     // The network that is the longest match of the address.
@@ -61,42 +126,105 @@ impl Layers<'_, '_> {
         }
     }
 
-    // Adds a trace for each of the paths that this offer gives, which is one of the network's route.
-    fn push_by(
+    // What LSAs offer of the networks, network by network.
+    fn groups_of(self, alloc: Global, networks: &Networks) -> Result<Vec<Group>, Memory>
+        ensures { IfOk result (λ groups. AreGroups networks.now
+            (all_wanted (is_one_of networks.now) self.entry) groups.items) }
+    {
+        if networks.as_slice().is_empty() {
+            return Ok(Vec::new(alloc));
+        }
+        let all = self.all_offers(alloc, Wanted::Among(networks))?;
+        let groups = grouped(alloc, networks, &all)?;
+        Ok(groups)
+    }
+
+    // Adds the network and the traces to it.
+    fn push_forward(self, group: &Group, forwards: &mut Vec<Forward>) -> Result<(), Memory>
+        requires areas { AreAreas self.areas.now }
+        requires all { AreAllOf self group.now }
+        ensures { OnOk result (AddsForward self.entry group.now.network forwards.old.items
+            forwards.new.items) }
+    {
+        let network = group.network;
+        // proof: a network has its own address.
+        let _address = network.address();
+        let traces = self.network_traces(*forwards.allocator(), network, &group.offers)?;
+        forwards.push(Forward { network, traces })?;
+        Ok(())
+    }
+
+    // The traces to the network of these offers, by those that are taken.
+    fn network_traces(
         self,
-        by: &Offer,
-        forwarded: Forwarded<'_>,
-        traces: &mut Vec<Trace>,
-    ) -> Result<(), Memory>
+        alloc: Global,
+        network: Prefix,
+        offers: &[Offer],
+    ) -> Result<Vec<Trace>, Memory>
+        requires areas { AreAreas self.areas.now }
+        requires all { offers.now ≡ offers_for network (all_offers self network.address) }
+        ensures { IfOk result (λ traces. AreNetworkTraces self.entry network traces.items) }
+    {
+        let rivals = self.rivals(network, offers);
+        let mut traces = Vec::new(alloc);
+        for by in offers {
+            let judged = self.judge(by, &rivals);
+            if is_taken(judged.fate) {
+                self.push_route(by, &mut traces)?;
+            }
+        }
+        Ok(traces)
+    }
+
+    // Adds what the offer gives to its network's route within the AS.
+    fn push_route(self, by: &Offer, traces: &mut Vec<Trace>) -> Result<(), Memory>
         requires { AreAreas self.areas.now }
-        ensures { OnOk result (AddsToward self.entry forwarded.entry.address
-            forwarded.entry.offer.now forwarded.entry.paths.now by.now traces.old.items
+        ensures { OnOk result (Adds (GivesRoute self.entry by.now) traces.old.items
             traces.new.items) }
     {
-        let alloc = *traces.allocator();
         let Scope::Area(area) = by.source.scope else {
             return Ok(());
         };
         let Some(entry) = self.internal(by.network) else {
             return Ok(());
         };
-        let within = self.traces_within(alloc, area, by, entry.paths.as_slice())?;
-        for inner in &within {
-            push_inner(by, inner, forwarded, traces)?;
-        }
+        let mut within = self.traces_within(*traces.allocator(), area, by, entry.paths.as_slice())?;
+        traces.append(&mut within)?;
         Ok(())
+    }
+
+    /// A trace for each of those paths.
+    pub(crate) fn forward_traces(
+        self,
+        alloc: Global,
+        forwards: &Forwards,
+        forwarded: Forwarded<'_>,
+    ) -> Result<Vec<Trace>, Memory>
+        requires right { AreForwards self forwards.now.networks forwards.now.items.items }
+        requires matched { IsMatchedAt self forwards.now.networks forwarded.address }
+        ensures { IfOk result (λ traces. AreForwarded self.entry forwarded.entry.address
+            forwarded.entry.offer.now forwarded.entry.paths.now traces.items) }
+    {
+        let mut traces = Vec::new(alloc);
+        let Some(network) = self.matched(forwarded.address) else {
+            return Ok(traces);
+        };
+        for inner in forwards.traces_to(network) {
+            push_onward(network, inner, forwarded, &mut traces)?;
+        }
+        Ok(traces)
     }
 }
 
 // Adds the trace to the network, and on from there, if it is one of the paths.
-fn push_inner(
-    by: &Offer,
+fn push_onward(
+    network: Prefix,
     inner: &Trace,
     forwarded: Forwarded<'_>,
     traces: &mut Vec<Trace>,
 ) -> Result<(), Memory>
-    ensures { OnOk result (MayAddInner forwarded.entry.address forwarded.entry.offer.now
-        forwarded.entry.paths.now by.now inner.now traces.old.items traces.new.items) }
+    ensures { OnOk result (Adds (GivesOnward forwarded.entry.address forwarded.entry.offer.now
+        forwarded.entry.paths.now network inner.now) traces.old.items traces.new.items) }
 {
     let alloc = *traces.allocator();
     let path = Path {
@@ -107,7 +235,7 @@ fn push_inner(
         return Ok(());
     }
     let mut steps = Vec::from_slice(alloc, &inner.steps)?;
-    steps.push(forwarded.offer.last_step(Place::Network(by.network)))?;
+    steps.push(forwarded.offer.last_step(Place::Network(network)))?;
     traces.push(Trace { path, steps })?;
     Ok(())
 }

@@ -5,7 +5,7 @@ ghost use Rattle.ospf_types.specs.Inter.{LSInfinity};
 ghost use Rattle.ospf_types.specs.Intra.{LiesIn};
 ghost use Rattle.intra.specs.Intras.{most_cost};
 ghost use Rattle.explanation.specs.Layers.{AreAreas};
-ghost use Rattle.explanation.specs.Offered.{HasInterfaceOn, IsExternalKey, IsFit, IsOn, IsStubCost, IsSummaryCost, IsTransitCost, IsUnfit, LacksKey, LacksStubCost, LacksSummaryCost, LacksTransitCost, LeadsAt, LeadsNowhere, key_by};
+ghost use Rattle.explanation.specs.Offered.{HasInterfaceOn, IsExternalKey, IsFit, IsForwardedKey, IsOn, IsStubCost, IsSummaryCost, IsTransitCost, IsUnfit, LacksKey, LacksStubCost, LacksSummaryCost, LacksTransitCost, LeadsAt, LeadsNowhere, key_by};
 
 use crate::fate::Fate;
 use crate::layers::Layers;
@@ -119,6 +119,17 @@ impl Layers<'_, '_> {
             let (class, distance) = (preferred.class(), preferred.cost());
             return Ok(key_by(external.is_type_2, metric, class, distance));
         }
+        self.forwarded_key(metric, external)
+    }
+
+    // What it is compared by where it has a forwarding address.
+    fn forwarded_key(self, metric: u32, external: External) -> Result<ExternalKey, Fate>
+        requires metric { metric < LSInfinity }
+        requires some { 0 < external.forwarding }
+        ensures key { IfOk result (IsForwardedKey self.entry metric external) }
+        ensures none { IfErr result (λ fate.
+            (fate ≡ Fate.NoForward) × LeadsNowhere self.entry external.forwarding) }
+    {
         match self.forward(external.forwarding) {
             Some((class, distance)) => { Ok(key_by(external.is_type_2, metric, class, distance)) }
             None => Err(Fate::NoForward),

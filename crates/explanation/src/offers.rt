@@ -1,8 +1,9 @@
-//! Which LSAs offer networks that contain an address.
+//! Which LSAs offer networks.
 ghost use Rattle.std.specs.Prelude.{◌≡◌, ◌++◌, OnOk};
 ghost use Rattle.explanation.specs.Offers as said;
-ghost use Rattle.explanation.specs.Offers.{offers_among, offers_of, own_around};
+ghost use Rattle.explanation.specs.Offers.{is_wanted, offers_among, offers_of, own_if};
 
+use crate::networks::Networks;
 use crate::offer::{Offer, OfferKind, Source};
 use lsa_codec::Checked;
 use ospf_types::key::Scope;
@@ -10,19 +11,38 @@ use ospf_types::lsa::{Link, LinkKind};
 use ospf_types::memory::Memory;
 use ospf_types::prefix::Prefix;
 
-/// What LSAs are asked for: networks that contain an address.
+/// The networks that LSAs are asked for.
 #[derive(Clone, Copy)]
-pub(crate) struct Around {
-    /// The database that has the LSAs.
-    pub(crate) scope: Scope,
-    pub(crate) address: u32,
+pub(crate) enum Wanted<'n> {
+    /// Those that contain the address.
+    Around(u32),
+    /// These.
+    Among(&'n Networks),
 }
 
-impl Around {
+impl Wanted<'_> {
+    fn has(self, network: Prefix) -> bool
+        ensures { result ≡ is_wanted self.entry network }
+    {
+        match self {
+            Wanted::Around(address) => network.contains(address),
+            Wanted::Among(networks) => networks.has(network),
+        }
+    }
+}
+
+/// The LSAs of a database, and the networks that they are asked for.
+#[derive(Clone, Copy)]
+pub(crate) struct Asked<'n> {
+    pub(crate) scope: Scope,
+    pub(crate) wanted: Wanted<'n>,
+}
+
+impl Asked<'_> {
     /// Adds what these LSAs offer.
     pub(crate) fn add_offers(self, lsas: &[Checked], offers: &mut Vec<Offer>) -> Result<(), Memory>
         ensures { OnOk result (offers.new.items
-            ≡ offers.old.items ++ offers_among self.scope self.address lsas.now) }
+            ≡ offers.old.items ++ offers_among (is_wanted self.entry.wanted) self.entry.scope lsas.now) }
     {
         for lsa in lsas {
             self.add_lsa(lsa, offers)?;
@@ -32,7 +52,7 @@ impl Around {
 
     fn add_lsa(self, lsa: &Checked, offers: &mut Vec<Offer>) -> Result<(), Memory>
         ensures { OnOk result (offers.new.items
-            ≡ offers.old.items ++ offers_of self.scope self.address lsa.now) }
+            ≡ offers.old.items ++ offers_of (is_wanted self.entry.wanted) self.entry.scope lsa.now) }
     {
         self.add_stubs(lsa, offers)?;
         if let Some(offer) = self.own(lsa) {
@@ -44,7 +64,7 @@ impl Around {
     // Adds the stub links of a router-LSA (A.4.2).
     fn add_stubs(self, lsa: &Checked, offers: &mut Vec<Offer>) -> Result<(), Memory>
         ensures { OnOk result (offers.new.items ≡ offers.old.items
-            ++ said.stubs_of self.scope self.address lsa.now) }
+            ++ said.stubs_of (is_wanted self.entry.wanted) self.entry.scope lsa.now) }
     {
         for link in lsa.links() {
             if let Some(offer) = self.stub(lsa, link) {
@@ -56,7 +76,7 @@ impl Around {
 
     // What a link of a router-LSA offers.
     fn stub(self, lsa: &Checked, link: Link) -> Option<Offer>
-        ensures { result ≡ said.stub_around self.scope self.address lsa.now link }
+        ensures { result ≡ said.stub_if (is_wanted self.entry.wanted) self.entry.scope lsa.now link }
     {
         match link.kind {
             LinkKind::Stub => {
@@ -69,7 +89,7 @@ impl Around {
 
     // What a network-LSA, a summary-LSA of a network or an AS-external-LSA offers (A.4.3, A.4.4, A.4.5).
     fn own(self, lsa: &Checked) -> Option<Offer>
-        ensures { result ≡ own_around self.scope self.address lsa.now }
+        ensures { result ≡ own_if (is_wanted self.entry.wanted) self.entry.scope lsa.now }
     {
         match lsa.prefix() {
             Some(network) => self.offer(lsa, network, kind_of(lsa)),
@@ -78,9 +98,10 @@ impl Around {
     }
 
     fn offer(self, lsa: &Checked, network: Prefix, kind: OfferKind) -> Option<Offer>
-        ensures { result ≡ said.offer_around self.scope self.address lsa.now network kind }
+        ensures { result ≡ said.offer_if (is_wanted self.entry.wanted) self.entry.scope lsa.now
+            network kind }
     {
-        if !network.contains(self.address) {
+        if !self.wanted.has(network) {
             return None;
         }
         Some(Offer {

@@ -2,7 +2,8 @@
 ghost use Rattle.std.specs.Prelude.{ℕ, ◌↔◌, Contains, IfNone, IfOk, IfSome, IsTrue, OnOk};
 ghost use Rattle.explanation.specs.Layers.{AreAreas};
 ghost use Rattle.explanation.specs.declared.trace.Step.{Step};
-ghost use Rattle.explanation.specs.Outside.{AreOutside, AreTold, AreWithin, IsBoundaryIn, IsOwnStub, IsToldStep, MayAddTold};
+ghost use Rattle.explanation.specs.Giving.{Adds};
+ghost use Rattle.explanation.specs.Outside.{AreOutside, AreTold, AreWithin, GivesTold, IsBoundaryIn, IsOwnStub, IsToldStep};
 
 use crate::layers::Layers;
 use crate::offer::{Offer, OfferKind, Source};
@@ -142,8 +143,8 @@ impl Layers<'_, '_> {
     // Adds a trace by way of the border router that this path names, if the route has such a path.
     fn push_told(self, told: Told<'_>, within: &Path, traces: &mut Vec<Trace>) -> Result<(), Memory>
         requires { AreAreas self.areas.now }
-        ensures { OnOk result (MayAddTold self.entry told.entry.area told.entry.offer.now
-            told.entry.paths.now within.now traces.old.items traces.new.items) }
+        ensures { OnOk result (Adds (GivesTold self.entry told.entry.area told.entry.offer.now
+            told.entry.paths.now within.now) traces.old.items traces.new.items) }
     {
         let Told { area, offer, paths } = told;
         let alloc = *traces.allocator();

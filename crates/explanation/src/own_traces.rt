@@ -1,6 +1,7 @@
 //! The traces of the root's own stub networks (RFC 2328, 16.1): a step each, over an interface.
 ghost use Rattle.std.specs.Prelude.{◌↔◌, IfOk, IsTrue, OnOk};
-ghost use Rattle.explanation.specs.Traces.{AreOwnTraces, IsOver, IsOwnTrace, MayAddTrace};
+ghost use Rattle.explanation.specs.Giving.{Adds};
+ghost use Rattle.explanation.specs.Traces.{AreOwnTraces, GivesOwn, IsOver};
 
 use crate::layers::Layers;
 use crate::offer::Offer;
@@ -38,8 +39,8 @@ impl Layers<'_, '_> {
         path: &Path,
         traces: &mut Vec<Trace>,
     ) -> Result<(), Memory>
-        ensures { OnOk result (MayAddTrace (IsOwnTrace self.entry area offer.now)
-            (IsOver self.entry area offer.now) path.now traces.old.items traces.new.items) }
+        ensures { OnOk result (Adds (GivesOwn self.entry area offer.now path.now)
+            traces.old.items traces.new.items) }
     {
         if !self.is_over(area, offer, path) {
             return Ok(());

@@ -5,7 +5,8 @@ ghost use Rattle.vertex_graph.specs.Graphs.{LinksOf};
 ghost use Rattle.area_trees.specs.Areas.{IsStanding};
 ghost use Rattle.intra.specs.Inputs.{HasTree};
 ghost use Rattle.explanation.specs.Layers.{AreAreas};
-ghost use Rattle.explanation.specs.Traces.{AreLinksIn, AreLinkSteps, AreSteps, AreTracesTo, IsOneMore, IsSourceAt, IsTraceTo, LeadsTo, MayAddTrace, advertiser_by, last_from, last_of, metric_by, vertex_by};
+ghost use Rattle.explanation.specs.Giving.{Adds};
+ghost use Rattle.explanation.specs.Traces.{AreLinksIn, AreLinkSteps, AreSteps, AreTracesBy, AreTracesTo, GivesTo, IsOneMore, IsSourceAt, advertiser_by, last_from, metric_by, vertex_by};
 
 use crate::layers::Layers;
 use crate::offer::{Offer, OfferKind, Source};
@@ -30,7 +31,7 @@ pub(crate) struct Target<'a> {
 }
 
 impl Layers<'_, '_> {
-    /// A trace for each of the paths whose next hop the target's vertex has.
+    /// A trace for each of the paths whose next hop the target's vertex has, in their order.
     pub(crate) fn traces_to(
         self,
         alloc: Global,
@@ -48,7 +49,7 @@ impl Layers<'_, '_> {
         Ok(traces)
     }
 
-    /// A trace for each of the paths that an offer gives over its vertex in the area.
+    /// A trace for each of the paths that an offer gives over its vertex in the area, in their order.
     pub(crate) fn traces_by(
         self,
         alloc: Global,
@@ -57,10 +58,8 @@ impl Layers<'_, '_> {
         paths: &[Path],
     ) -> Result<Vec<Trace>, Memory>
         requires { AreAreas self.areas.now }
-        ensures { IfOk result (λ traces. AreTracesTo self.entry.areas.now area
-            (vertex_by offer.now.kind offer.now.source.key)
-            (advertiser_by offer.now.kind offer.now.source.key) (last_of offer.now ∷ []) paths.now
-            traces.items) }
+        ensures { IfOk result (λ traces.
+            AreTracesBy self.entry.areas.now area offer.now paths.now traces.items) }
     {
         let vertex = offer.vertex();
         let on = [offer.last_step(Place::Vertex(vertex))];
@@ -82,12 +81,9 @@ impl Layers<'_, '_> {
         traces: &mut Vec<Trace>,
     ) -> Result<(), Memory>
         requires { AreAreas self.areas.now }
-        ensures { OnOk result (MayAddTrace
-            (IsTraceTo self.entry.areas.now target.entry.area target.entry.vertex
-            target.entry.advertiser target.entry.on.now)
-            (LeadsTo self.entry.areas.now target.entry.area target.entry.vertex
-            target.entry.advertiser)
-            path.now traces.old.items traces.new.items) }
+        ensures { OnOk result (Adds (GivesTo self.entry.areas.now target.entry.area
+            target.entry.vertex target.entry.advertiser target.entry.on.now path.now)
+            traces.old.items traces.new.items) }
     {
         if path.advertiser != target.advertiser {
             return Ok(());

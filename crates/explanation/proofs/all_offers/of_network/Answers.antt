@@ -1,6 +1,6 @@
 use Rattle.std.proofs.Common.{◌≡◌, ◌+◌, Vec, Global, take, sym, subst, ◌∙◌}
 use Rattle.explanation.specs.declared.offer.Offer.{Offer}
-use Rattle.explanation.specs.Networks.{offers_for}
+use Rattle.explanation.specs.Groups.{offers_for}
 use Rattle.explanation.proofs.OfNetwork.{all_of, more_of, same_of}
 use Rattle.explanation.proofs.all_offers.of_network.Goals as goal
 use Rattle.explanation.proofs.all_offers.of_network.Goals.{then-is_of+in_ok-push, else-is_of}

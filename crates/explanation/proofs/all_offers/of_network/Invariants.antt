@@ -1,5 +1,5 @@
 use Rattle.std.proofs.Common.{◌≡◌, take}
-use Rattle.explanation.specs.Networks.{offers_for}
+use Rattle.explanation.specs.Groups.{offers_for}
 use Rattle.explanation.proofs.all_offers.of_network.Given as goal
 
 -- those of the network among the offers up to here

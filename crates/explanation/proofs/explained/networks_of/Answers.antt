@@ -16,6 +16,6 @@ loop-offer-preserved c = λ o among.
       | inr same ↦ subst (λ (x : Offer). Contains (before ++ new.network ∷ []) x.network) (sym same) (Contains-push before new.network)
     ])
 
-pub returns-clause-all : goal.returns-clause-all
-returns-clause-all c = λ o among.
-    (c.ascending.ensures.same o.network).1 (c.loop-offer.invariant o (subst (λ (list : List Offer). Contains list o) (sym (take_all c.loop-offer.offer-index c.args.offers.now c.loop-offer-test.false)) among))
+pub returns : goal.returns
+returns c = λ o among.
+    (c.of.ensures o.network).1 (c.loop-offer.invariant o (subst (λ (list : List Offer). Contains list o) (sym (take_all c.loop-offer.offer-index c.args.offers.now c.loop-offer-test.false)) among))

@@ -1,10 +1,10 @@
 use Rattle.std.proofs.Common.{◌≡◌, ◌++◌, List, sym, subst, ◌∙◌}
-use Rattle.std.specs.Prelude.{option_copied}
+use Rattle.std.specs.Prelude.{Contains, option_copied}
 use Rattle.ospf_types.proofs.Elements.{contains_at}
 use Rattle.explanation.specs.declared.offer.Offer.{Offer}
 use Rattle.explanation.specs.Explained.{MakesMore, offers_of}
 use Rattle.explanation.specs.Judging.{IsRivalsOf}
-use Rattle.explanation.specs.Networks.{AreOfNetwork, offers_for}
+use Rattle.explanation.specs.Groups.{AreOfNetwork, offers_for}
 use Rattle.explanation.proofs.Candidates.{begin, begin_listed, more, more_listed, one_candidate, whole, whole_listed}
 use Rattle.explanation.proofs.OfNetwork.{just_those}
 use Rattle.explanation.proofs.layers.Layers.push_network.Goals as goal
@@ -50,3 +50,13 @@ returns c =
       subst (λ (os : List Offer). MakesMore w all os first after) listed (whole w all group i first after c.loop-offer-test.false c.loop-offer.invariant.made),
       subst (λ (os : List Offer). offers_of after ≡ offers_of first ++ os) listed (whole_listed w all group i first after c.loop-offer-test.false c.loop-offer.invariant.listed),
     )
+
+pub push_candidate-requires-clause-matched : goal.push_candidate-requires-clause-matched
+push_candidate-requires-clause-matched c =
+    let p = c.args.network in
+    let all = c.args.all.now in
+    let group = c.deref-offer-items.result.now in
+    let o = c.offer-item.result in
+    let among = contains_at group c.loop-offer.offer-index o c.loop-offer-test.true c.offer-item.is in
+    let listed : group ≡ offers_for p all = c.deref-offer-items.ensures.value ∙ c.in_ok-offers.ensures in
+    c.requires.matched o ((just_those p all o).0 (subst (λ (os : List Offer). Contains os o) listed among)).0

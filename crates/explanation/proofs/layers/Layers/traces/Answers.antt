@@ -1,7 +1,7 @@
-use Rattle.std.proofs.Common.{◌<◌, sym, subst, arith}
+use Rattle.std.proofs.Common.{◌<◌, ap, sym, subst, ◌∙◌, arith}
 use Rattle.ospf_types.specs.declared.key.Scope.{Scope}
 use Rattle.explanation.specs.declared.offer.OfferKind.{OfferKind}
-use Rattle.explanation.specs.Outside.{AreTracesAs}
+use Rattle.explanation.specs.Outside.{AreTracesAs, match_by}
 use Rattle.explanation.proofs.Candidates.{forwarded_as, outside_as, within_as}
 use Rattle.explanation.proofs.layers.Layers.traces.Goals as goal
 
@@ -33,3 +33,6 @@ returns-in_ok-traces-in-Area c =
     let traces = c.in_ok-traces-in-Area.traces.items in
     subst (λ (scope : Scope). AreTracesAs w o scope o.kind paths traces) (sym c.in-Area.is)
     (within_as w o paths c.in-Area.area traces o.kind (λ metric external e. c.in_default.not-AsExternal metric external e) c.in_ok-traces-in-Area.ensures)
+
+pub forward_traces-requires-clause-matched : goal.forward_traces-requires-clause-matched
+forward_traces-requires-clause-matched c = λ p found. c.requires.matched p (ap (match_by c.args.self) c.in-AsExternal.is ∙ found)

@@ -1,0 +1,66 @@
+//! Networks in their order.
+ghost use Rattle.std.specs.Prelude.{◌≡◌, Contains, IfNone, IfSome};
+ghost use Rattle.std.specs.List.Sorted.{IsStrictlySortedBy};
+ghost use Rattle.ospf_types.specs.Network.{network_cmp};
+ghost use Rattle.result_map.specs.Lists.{HasJust};
+ghost use Rattle.explanation.specs.Offers.{IsPlaceOf, is_one_of};
+
+use ospf_types::prefix::Prefix;
+use result_map::ascending;
+use std::marker::Model;
+
+/// Networks in the order of addresses and then of lengths, each once.
+pub(crate) struct Networks {
+    items: Vec<Prefix>,
+}
+
+// proof: one call drops it, in place of a drop of each part wherever one is held.
+impl Drop for Networks {
+    fn drop(self) {
+        let Networks { items: _items } = self;
+    }
+}
+
+impl Model for Networks {
+    ghost use Rattle.std.specs.Prelude.{List};
+    ghost use Rattle.std.specs.List.Sorted.{IsStrictlySortedBy};
+    ghost use Rattle.ospf_types.specs.Network.{Network, network_cmp};
+
+    ghost Value = { List Network };
+
+    ghost view = { λ n. n.items.items };
+
+    ghost invariant = { λ n. IsStrictlySortedBy network_cmp n.items.items };
+}
+
+impl Networks {
+    pub(crate) fn of(networks: Vec<Prefix>) -> Networks
+        ensures { HasJust (Contains networks.items) result }
+    {
+        Networks {
+            items: ascending(networks),
+        }
+    }
+
+    pub(crate) fn as_slice(&self) -> &[Prefix]
+        ensures value { result.now ≡ self.now }
+        ensures in_order { IsStrictlySortedBy network_cmp self.now }
+    {
+        self.items.as_slice()
+    }
+
+    /// Where the network stands among them.
+    pub(crate) fn place(&self, network: Prefix) -> Option<usize>
+        ensures some { IfSome result (IsPlaceOf self.now network) }
+        ensures none { IfNone result (Contains self.now network → ⊥) }
+    {
+        self.items.as_slice().binary_search(&network).ok()
+    }
+
+    /// Returns true if the network is one of them.
+    pub(crate) fn has(&self, network: Prefix) -> bool
+        ensures { result ≡ is_one_of self.now network }
+    {
+        self.place(network).is_some()
+    }
+}
