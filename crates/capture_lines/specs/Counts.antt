@@ -33,18 +33,21 @@ with_heard c (heard.Whole sender payload) = with_packet c
 abbrev pub is_installed : Recorded → Bool
 is_installed (recorded.Install scope lsa purges) = true
 is_installed recorded.Repeated = false
+is_installed (recorded.OtherArea area is_first) = false
 is_installed (recorded.Fault fault) = false
 is_installed (recorded.Cut fault) = false
 
 abbrev pub is_repeated : Recorded → Bool
 is_repeated (recorded.Install scope lsa purges) = false
 is_repeated recorded.Repeated = true
+is_repeated (recorded.OtherArea area is_first) = false
 is_repeated (recorded.Fault fault) = false
 is_repeated (recorded.Cut fault) = false
 
 abbrev pub is_fault : Recorded → Bool
 is_fault (recorded.Install scope lsa purges) = false
 is_fault recorded.Repeated = false
+is_fault (recorded.OtherArea area is_first) = false
 is_fault (recorded.Fault fault) = true
 is_fault (recorded.Cut fault) = true
 
@@ -72,7 +75,7 @@ abbrev pub with_seconds : Counts → ℕ → Counts
 with_seconds c seconds = record c { seconds = added c.seconds (recorded_of seconds) }
 
 abbrev pub with_taken : Counts → Taken → Counts
-with_taken c (taken.Packet kind router area seconds all) = with_seconds (with_recorded (with_kind c kind) all.items) seconds
+with_taken c (taken.Packet kind router area back seconds all) = with_seconds (with_recorded (with_kind c kind) all.items) seconds
 with_taken c (taken.Fault fault) = with_fault c
 
 -- ---- what is printed of them

@@ -35,6 +35,7 @@ install_events scope lsa false = installed scope lsa
 abbrev pub recorded_events : Recorded → List Event
 recorded_events (recorded.Install scope lsa purges) = install_events scope lsa purges
 recorded_events recorded.Repeated = []
+recorded_events (recorded.OtherArea area is_first) = []
 recorded_events (recorded.Fault fault) = []
 recorded_events (recorded.Cut fault) = []
 
@@ -44,7 +45,7 @@ second_events seconds = replicate seconds event.Second
 
 -- the seconds that are recorded, and then what comes of the LSAs, in their order
 abbrev pub taken_events : Taken → List Event
-taken_events (taken.Packet kind router area seconds all) = second_events (recorded_of seconds) ++ flat_map recorded_events all.items
+taken_events (taken.Packet kind router area back seconds all) = second_events (recorded_of seconds) ++ flat_map recorded_events all.items
 taken_events (taken.Fault fault) = []
 
 -- ---- what is printed of them

@@ -1,5 +1,6 @@
--- What is printed of the faults in a capture, and of seconds that are not recorded.
-use Rattle.std.specs.Prelude.{ℕ, ◌-◌, ◌/◌, ◌%◌, ◌++◌, ◌==◌, if◌then◌else◌, List, [], ◌∷◌, Option, Some, None, length, replicate, codes, decimal}
+-- What is printed of the faults in a capture, of time that goes back, of seconds that are not recorded, and of areas that a
+-- recording does not have.
+use Rattle.std.specs.Prelude.{ℕ, Bool, ◌-◌, ◌/◌, ◌%◌, ◌++◌, ◌==◌, if◌then◌else◌, List, [], Option, Some, None, length, replicate, codes, decimal}
 use Rattle.std.specs.List.{flat_map}
 use Rattle.ospf_types.specs.Text.{address_text}
 use Rattle.lsa_codec.specs.Text.{wire_fault_text}
@@ -14,23 +15,16 @@ use Rattle.capture_lines.specs.declared.fault.CaptureFault.{CaptureFault}
 use Rattle.capture_lines.specs.declared.fault.CaptureFault.TheVariants as fault
 use Rattle.capture_lines.specs.Seconds.{recorded_of}
 
--- ---- which faults
+-- ---- of which times
 
--- the fault at a place of a Link State Update
-abbrev pub recorded_fault : Recorded → List CaptureFault
-recorded_fault (recorded.Install scope lsa purges) = []
-recorded_fault recorded.Repeated = []
-recorded_fault (recorded.Fault f) = fault.Lsa f ∷ []
-recorded_fault (recorded.Cut f) = fault.Update f ∷ []
-
--- all faults in the payload of a datagram, in their order
-abbrev pub taken_faults : Taken → List CaptureFault
-taken_faults (taken.Packet kind router area seconds all) = flat_map recorded_fault all.items
-taken_faults (taken.Fault f) = fault.Packet f ∷ []
+-- by how many seconds the time of a packet goes back
+abbrev pub taken_back : Taken → ℕ
+taken_back (taken.Packet kind router area back seconds all) = back
+taken_back (taken.Fault f) = 0
 
 -- how many seconds pass before the LSAs of a packet
 abbrev pub taken_seconds : Taken → ℕ
-taken_seconds (taken.Packet kind router area seconds all) = seconds
+taken_seconds (taken.Packet kind router area back seconds all) = seconds
 taken_seconds (taken.Fault f) = 0
 
 -- ---- what is printed of them
@@ -67,9 +61,35 @@ note_line when sender f = codes "abr: " ++ when_text when ++ codes " " ++ sender
 abbrev pub datagram_note : (when : Option ℕ) → DatagramFault → List ℕ
 datagram_note when f = note_line when None (fault.Datagram f)
 
--- a line for each of the faults
-abbrev pub notes_text : (when sender : Option ℕ) → List CaptureFault → List ℕ
-notes_text when sender faults = flat_map (note_line when sender) faults
+-- the area of an LSA that is left out
+abbrev pub area_line : (when sender : Option ℕ) → (area : ℕ) → List ℕ
+area_line when sender area =
+    codes "abr: " ++ when_text when ++ codes " " ++ sender_text sender ++ codes ": area " ++ address_text area ++ codes " is not in the beginning: its LSAs are left out\n"
+
+-- a line for the first LSA of the area
+abbrev pub area_text : (when sender : Option ℕ) → (area : ℕ) → (is_first : Bool) → List ℕ
+area_text when sender area is_first = if is_first then area_line when sender area else []
+
+-- what is printed of a place of a Link State Update
+abbrev pub recorded_text : (when sender : Option ℕ) → Recorded → List ℕ
+recorded_text when sender (recorded.Install scope lsa purges) = []
+recorded_text when sender recorded.Repeated = []
+recorded_text when sender (recorded.OtherArea area is_first) = area_text when sender area is_first
+recorded_text when sender (recorded.Fault f) = note_line when sender (fault.Lsa f)
+recorded_text when sender (recorded.Cut f) = note_line when sender (fault.Update f)
+
+-- of all that is in the payload of a datagram, in its order
+abbrev pub payload_text : (when sender : Option ℕ) → Taken → List ℕ
+payload_text when sender (taken.Packet kind router area back seconds all) = flat_map (recorded_text when sender) all.items
+payload_text when sender (taken.Fault f) = note_line when sender (fault.Packet f)
+
+abbrev pub back_line : (when sender : Option ℕ) → (back : ℕ) → List ℕ
+back_line when sender back =
+    codes "abr: " ++ when_text when ++ codes " " ++ sender_text sender ++ codes ": the time is " ++ decimal back ++ codes " s before that of the last packet, and goes on from there\n"
+
+-- a line where time goes back
+abbrev pub back_text : (when sender : Option ℕ) → ℕ → List ℕ
+back_text when sender back = if back == 0 then [] else back_line when sender back
 
 abbrev pub seconds_line : (when sender : Option ℕ) → (seconds recorded : ℕ) → List ℕ
 seconds_line when sender seconds recorded =
@@ -79,6 +99,10 @@ seconds_line when sender seconds recorded =
 abbrev pub seconds_text : (when sender : Option ℕ) → ℕ → List ℕ
 seconds_text when sender seconds = if recorded_of seconds == seconds then [] else seconds_line when sender seconds (recorded_of seconds)
 
--- of the seconds before the LSAs of a packet, and then of its faults
+-- of the time of a packet
+abbrev pub time_notes : (when sender : Option ℕ) → (back seconds : ℕ) → List ℕ
+time_notes when sender back seconds = back_text when sender back ++ seconds_text when sender seconds
+
+-- of the time of a packet, and then of what is in it
 abbrev pub taken_text : (when sender : Option ℕ) → Taken → List ℕ
-taken_text when sender t = seconds_text when sender (taken_seconds t) ++ notes_text when sender (taken_faults t)
+taken_text when sender t = time_notes when sender (taken_back t) (taken_seconds t) ++ payload_text when sender t

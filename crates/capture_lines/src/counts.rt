@@ -15,7 +15,7 @@ pub struct Counts {
     pub updates: u64,
     /// LSAs that are installed.
     pub lsas: u64,
-    /// LSAs that are left out, as they were given before.
+    /// LSAs that are left out, as they are no newer than what was given of them.
     pub repeated: u64,
     /// Faults of datagrams, packets, updates and LSAs.
     pub faults: u64,

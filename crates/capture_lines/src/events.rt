@@ -64,6 +64,7 @@ fn put_recorded(recorded: Recorded, text: &mut String) -> Result<(), Memory>
     match recorded {
         Recorded::Install { scope, lsa, purges } => put_install(scope, lsa, purges, text),
         Recorded::Repeated => Ok(()),
+        Recorded::OtherArea { .. } => Ok(()),
         Recorded::Fault(_) => Ok(()),
         Recorded::Cut(_) => Ok(()),
     }

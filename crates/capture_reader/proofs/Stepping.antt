@@ -1,16 +1,17 @@
 -- What a step answers.
-use Rattle.std.proofs.Common.{inl, Bool, true, false, ◌∷◌, drop, ℕ, ◌≡◌, ◌<◌, ◌^◌, ◌++◌, length, append-nil, arith, IfOk, OnErr, List, [], Option, Result, Ok, Err, IsErrAnd, refl, sym, ap, subst, ◌∙◌}
+use Rattle.captures.specs.Runs.{Whole, ends_by}
+use Rattle.std.proofs.Common.{inl, inr, Bool, true, false, ◌∷◌, drop, ℕ, ◌≡◌, ◌<◌, ◌^◌, ◌++◌, length, append-nil, arith, IfOk, OnErr, List, [], Option, Result, Ok, Err, IsErrAnd, refl, sym, ap, subst, ◌∙◌}
 use Rattle.std.specs.Prelude.{MatchResult, ◌&&◌, ◌==◌}
 use Rattle.std.proofs.lemmas.Bool.{eqb-true}
 use Rattle.std.proofs.KnownBytes.{Keeps-refl}
 use Rattle.std.proofs.lemmas.Result.{err_from_is_err_and}
 use Rattle.capture_reader.specs.declared.fault.CaptureError.{CaptureError}
-use Rattle.capture_reader.specs.declared.fault.CaptureError.TheVariants.{Fault, Read, Memory}
+use Rattle.capture_reader.specs.declared.fault.CaptureError.TheVariants.{Fault}
 use Rattle.capture_reader.specs.declared.reader.Step.{Step}
 use Rattle.input_reading.specs.declared.fault.ReadFault.{ReadFault}
 use Rattle.input_reading.specs.declared.fault.ReadFault.TheVariants as fault
 use Rattle.capture_reader.specs.Faults.{error_of}
-use Rattle.capture_reader.specs.Positions.{Position, GoesOn, IsCutOff, IsFaulty, IsWhole, Stops, further, run_behind, shown_packet}
+use Rattle.capture_reader.specs.Positions.{Position, GoesOn, IsCutOff, IsFaulty, IsRun, IsUnread, IsWhole, Stops, further, run_behind, shown_packet}
 use Rattle.capture_reader.specs.Steps.{Fills, IsShort, Steps}
 use Rattle.std.specs.Io.KnownBytes.{Consumes, IsAtEnd, Keeps}
 use Rattle.std.proofs.lemmas.List.{nil_from_length}
@@ -22,16 +23,17 @@ use Rattle.captures.specs.Reading.{State, Answers, MayLackMemory, IsPart, IsPart
 use Rattle.capture_reader.proofs.Parts.{skipped, handed, at_fault, whole, cut, cut_ahead, packet_state, short_state}
 use Rattle.capture_reader.proofs.Going.{reads_more, reads_none}
 
-stops : (f : ReadFault) (p : Position) (left : Option (List ℕ)) → Stops (error_of f) p left
-stops fault.Read p left = tt
-stops fault.Memory p left = tt
+-- the input could not be read
+pub stops : (f : ReadFault) (p : Position) (left : Option (List ℕ)) → IsUnread p → Stops (error_of f) p left
+stops fault.Read p left unread = unread
+stops fault.Memory p left unread = tt
 
 -- a step that fails for want of memory or by the input
 pub failed : (old : Position) (before : Option (List ℕ)) (new : Position) (after : Option (List ℕ)) (bytes : List ℕ) (r : Result Step CaptureError) (f : ReadFault)
-    → IsErrAnd r (λ e. e ≡ error_of f) → GoesOn old before new after [] → Steps old before new after bytes r
-failed old before new after bytes r f err goes =
+    → IsErrAnd r (λ e. e ≡ error_of f) → GoesOn old before new after [] → Stops (error_of f) new after → Steps old before new after bytes r
+failed old before new after bytes r f err goes stopped =
     let found = err_from_is_err_and r err in
-    subst (Steps old before new after bytes) (sym (found.1 ∙ ap Err found.2)) (goes, stops f new after)
+    subst (Steps old before new after bytes) (sym (found.1 ∙ ap Err found.2)) (goes, stopped)
 
 abbrev pub at : State → ℕ → List ℕ → ℕ → Position
 at s ahead pending place = record { state = s; ahead = ahead; pending = pending; place = place }
@@ -51,7 +53,7 @@ filled s ahead old new place before after (Ok n) small bytes end kept = (
   ),
 )
 filled s ahead old new place before after (Err e) small bytes end kept =
-    reads_none s ahead old new place before after kept.1 kept.0 small
+    (reads_none s ahead old new place before after kept.1 kept.0 small, ap (λ l. at s ahead l place) kept.0)
 
 pub from_fills : (p q s : Position) (before after : Option (List ℕ)) (r : Result ℕ ReadFault) → p ≡ q → Fills p before s after r → Fills q before s after r
 from_fills p q s before after r same fills = subst (λ o. Fills o before s after r) same fills
@@ -65,6 +67,12 @@ ends_ahead q new after same some none ended =
       of_input = refl;
       place = refl;
     })
+
+-- the input can't be read further where less than a whole part is pending, or bytes are to be read past
+pub unread_ahead : (q new : Position) → new ≡ q → 0 < q.ahead → q.pending ≡ [] → IsUnread new
+unread_ahead q new same some none =
+    subst IsUnread (sym same)
+    (inr (λ limit enough. ap (λ l. run_behind q.ahead limit q.state l) none ∙ cut_ahead q.state q.ahead q.place some limit (subst (λ l. length (drop q.ahead l) < limit) none enough)))
 
 both_are : (a b : Bool) → (a && b) ≡ true → (a ≡ true) × (b ≡ true)
 both_are true b e = (refl, e)
@@ -84,6 +92,20 @@ module _ (s : State) (pending : List ℕ) (place n : ℕ) (after : Option (List 
       → IsCutOff (at s 0 pending place) after FaultKind.CutOff (further place (length pending))
   cut_by (Ok front) is part not_whole = record { run = cut s pending n front is part place not_whole; ended = ended; of_input = refl; place = refl }
   cut_by (Err fault) is part not_whole = absurd part
+
+module _ (s : State) (pending : List ℕ) (place n : ℕ) where
+  short_by : (f : _) (b : Bool) → front_of s pending ≡ f → MatchResult f (λ front. IsPart front pending (Part.More n)) (λ _. ⊥) → (has_begun s && (length pending == 0)) ≡ b → IsUnread (at s 0 pending place)
+  short_by (Ok front) true is part begun =
+      let both = both_are (has_begun s) (length pending == 0) begun in
+      let none = nil_from_length pending (eqb-true (length pending) 0 both.1) in
+      inl (subst (λ (bytes : List ℕ). IsRun (at s 0 pending place) bytes (ends_by Whole)) (sym none) (whole s pending n front is part place both.0 none))
+  short_by (Ok front) false is part not_whole = inr (cut s pending n front is part place not_whole)
+  short_by (Err fault) b is part begun = absurd part
+
+pub unread_short : (q new : Position) → IsShort q → new ≡ q → IsUnread new
+unread_short q new short same =
+    subst IsUnread (ap (λ a. at q.state a q.pending q.place) (sym short.near) ∙ sym same)
+    (short_by q.state q.pending q.place short.needed (front_of q.state q.pending) (has_begun q.state && (length q.pending == 0)) refl short.front refl)
 
 pub ends_whole : (q new : Position) (after : Option (List ℕ)) → IsShort q → new ≡ q → IsAtEnd after → (has_begun new.state && (length new.pending == 0)) ≡ true → IsWhole new after
 ends_whole q new after short same ended begun =

@@ -63,10 +63,14 @@ pub record IsFaulty (p : Position) (kind : FaultKind) (at : ℕ) : Type 0 where
   pub run : (more : List ℕ) → IsRun p (p.pending ++ more) (ends_by (Faulty kind))
   pub place : at ≡ p.place
 
+-- the bytes that were read have no whole part: with them alone the capture ends behind a part, or within one
+abbrev pub IsUnread : Position → Type 0
+IsUnread p = IsRun p p.pending (ends_by Whole) ⊎ IsRun p p.pending (ends_by CutOff)
+
 -- why there is no packet
 abbrev pub Stops : CaptureError → Position → Option (List ℕ) → Type 0
 Stops (Fault kind place) p left = IsFaulty p kind place ⊎ IsCutOff p left kind place
-Stops Read p left = Unit {0}
+Stops Read p left = IsUnread p
 Stops Memory p left = Unit {0}
 
 -- a packet that is handed out, and its bytes

@@ -30,9 +30,9 @@ pub record Passes (old new : Position) : Type 0 where
   pub goes : (left : Option (List ℕ)) → GoesOn old left new left []
   pub all : 0 < new.ahead → new.pending ≡ []
 
--- bytes are read of the input, none only if it has ended
+-- bytes are read of the input, none only if it has ended, or it could not be read
 abbrev pub Fills : (old : Position) (before : Option (List ℕ)) (new : Position) (after : Option (List ℕ)) → Result ℕ ReadFault → Type 0
 Fills old before new after result =
     MatchResult result
     (λ n. GoesOn old before new after [] × (n ≡ 0 → (new ≡ old) × IsAtEnd after))
-    (λ _. GoesOn old before new after [])
+    (λ _. GoesOn old before new after [] × (new ≡ old))

@@ -80,7 +80,7 @@ impl PacketReader {
     }
 
     /// Reads the next packet, and its bytes into `bytes`, in place of what is there. Answers `None` at the
-    /// end of the capture.
+    /// end of the capture. Where the input can't be read, all packets of what was read of it before came.
     ///
     /// The input is read as far as the packet needs, in large pieces. An interrupted read is tried again.
     /// No byte is lost by an error: if the input could not be read, or memory ran out, a further call goes
@@ -101,7 +101,8 @@ impl PacketReader {
                 Step::End => return Ok(None),
             }
         }
-        Err(CaptureError::Read)
+        // proof: no input has so many parts.
+        Err(CaptureError::Memory)
     }
 
     /// Whether bytes were read of the input that are not read past yet. If not, the next call of `next`

@@ -5,9 +5,10 @@ use Rattle.std.specs.Io.KnownBytes.{Appends}
 use Rattle.config_faults.specs.Configs.{config_fault_of}
 use Rattle.config_faults.specs.declared.fault.ConfigFault.{ConfigFault}
 use Rattle.captured_config.specs.Configs.{config_of as config_by}
+use Rattle.captured_config.specs.Facts.{facts_of}
 use Rattle.captured_config.specs.Fronts.{captured_recording}
 use Rattle.capture_lines.specs.Counts.{counts_line}
-use Rattle.captured_lsas.specs.declared.options.Options.{Options}
+use Rattle.capture_recording.specs.Rules.{Rules}
 use Rattle.recording.specs.Recordings.{IsText}
 use Rattle.replay.specs.Writing.{AppendsPart}
 use Rattle.replay.proofs.Written.{appends_none, appends_more}
@@ -19,11 +20,11 @@ use Rattle.capture_recording.specs.declared.gathered.Gathered.{Gathered}
 use Rattle.capture_recording.specs.declared.going.Ended.{Ended}
 use Rattle.capture_recording.specs.declared.going.Kept.{Kept}
 use Rattle.capture_recording.specs.Ending.{fault_lacking, result_of, unless_silent}
-use Rattle.capture_recording.specs.Finishing.{IsBegun, IsBehind, IsLacking, IsWhollyWritten, router_of, unknown_if, unknown_in}
+use Rattle.capture_recording.specs.Finishing.{IsBegun, IsBehind, IsLacking, IsWhollyWritten, router_of, unknown_if}
 use Rattle.capture_recording.specs.Folds.{areas_of, captured_of, counts_of}
 use Rattle.capture_recording.specs.Gathering.{AreGathered, config_of}
 use Rattle.capture_recording.specs.Going.{GoesThrough}
-use Rattle.capture_recording.specs.Outputs.{FaultOutcome, IsFront, Outcome, IsRecordedUpTo, counts_text, unknown_of}
+use Rattle.capture_recording.specs.Outputs.{FaultOutcome, IsFront, RuledOutcome, IsRecordedUpTo, counts_text, unknown_of}
 use Rattle.capture_recording.specs.Said.{AppendsUpTo, HasSaid, WritesPart}
 use Rattle.capture_recording.specs.Steps.{Step}
 use Rattle.capture_recording.specs.Texts.{notes_of}
@@ -36,32 +37,32 @@ unknown_is : (beginning : Beginning) (steps : List Step) → unknown_if (config_
 unknown_is (Given bytes) steps = refl
 unknown_is (Router router) steps = refl
 
-module _ (options : Options) (router : Option ℕ) (steps : List Step) (g : Gathered) (are : AreGathered options router steps g) where
+module _ (rules : Rules) (router : Option ℕ) (steps : List Step) (g : Gathered) (are : AreGathered rules router steps g) where
   counts_are : counts_line g.counts (length g.areas) ≡ counts_text steps
   counts_are = ap (λ c. counts_line c (length g.areas)) are.counts ∙ ap (λ a. counts_line (counts_of steps) (length a)) are.areas
 
-  unknown_are : unknown_in g ≡ unknown_if (config_of router steps) (areas_of steps)
-  unknown_are = ap (λ c. unknown_if c g.areas) are.config ∙ ap (unknown_if (config_of router steps)) are.areas
+  unknown_are : unknown_if (config_of router steps) g.areas ≡ unknown_if (config_of router steps) (areas_of steps)
+  unknown_are = ap (unknown_if (config_of router steps)) are.areas
 
-ends_are : (options : Options) (beginning : Beginning) (steps : List Step) (g : Gathered) → AreGathered options (router_of beginning) steps g
-    → unknown_in g ++ counts_line g.counts (length g.areas) ≡ unknown_of beginning steps ++ counts_text steps
-ends_are options beginning steps g are =
-    ap (λ l. l ++ counts_line g.counts (length g.areas)) (unknown_are options (router_of beginning) steps g are ∙ unknown_is beginning steps)
-    ∙ ap (λ l. unknown_of beginning steps ++ l) (counts_are options (router_of beginning) steps g are)
+ends_are : (rules : Rules) (beginning : Beginning) (steps : List Step) (g : Gathered) → AreGathered rules (router_of beginning) steps g
+    → unknown_if (config_of (router_of beginning) steps) g.areas ++ counts_line g.counts (length g.areas) ≡ unknown_of beginning steps ++ counts_text steps
+ends_are rules beginning steps g are =
+    ap (λ l. l ++ counts_line g.counts (length g.areas)) (unknown_are rules (router_of beginning) steps g are ∙ unknown_is beginning steps)
+    ∙ ap (λ l. unknown_of beginning steps ++ l) (counts_are rules (router_of beginning) steps g are)
 
 -- ---- a front was written
 
-module _ (options : Options) (beginning : Beginning) (before after old now told_before told : Option (List ℕ)) (ended : Ended) (is : IsBegun options beginning before after old now told_before told ended) where
+module _ (rules : Rules) (beginning : Beginning) (before after old now told_before told : Option (List ℕ)) (ended : Ended) (is : IsBegun rules beginning before after old now told_before told ended) where
   -- the lines that are left could not be written
   pub lines_unwritten : (new : Option (List ℕ)) (fault : CapturingFault) → (fault ≡ Write) ⊎ (fault ≡ Closed) → AppendsPart now new (string_bytes ended.session.lines)
-      → FaultOutcome options beginning before after old new told_before told fault
+      → FaultOutcome rules beginning before after old new told_before told fault
   lines_unwritten new fault kind part =
       let all = subst (AppendsPart old new) (append_assoc is.front is.written (string_bytes ended.session.lines)) (part_behind old now new (is.front ++ is.written) (string_bytes ended.session.lines) is.begun part) in
-      outcome_part options beginning before after old new told_before told fault kind
-      (of_taken options (router_of beginning) before told_before is.through.to after told ended.session is.written is.through.recorded _
+      outcome_part rules beginning before after old new told_before told fault kind
+      (of_taken rules (router_of beginning) before told_before is.through.to after told ended.session is.written is.through.recorded _
       (record { front = is.front; is = is.is; written = all }, is.through.recorded.said.begun))
 
-  pub lines_written : (new : Option (List ℕ)) → Appends now new (string_bytes ended.session.lines) → IsWhollyWritten options beginning before after old new told_before told ended
+  pub lines_written : (new : Option (List ℕ)) → Appends now new (string_bytes ended.session.lines) → IsWhollyWritten rules beginning before after old new told_before told ended
   lines_written new written = record {
     written = is.written;
     through = is.through;
@@ -74,40 +75,40 @@ module _ (options : Options) (beginning : Beginning) (before after old now told_
 
 -- ---- all was written
 
-module _ (options : Options) (beginning : Beginning) (before after old new told_before told : Option (List ℕ)) (ended : Ended) (is : IsWhollyWritten options beginning before after old new told_before told ended) where
+module _ (rules : Rules) (beginning : Beginning) (before after old new told_before told : Option (List ℕ)) (ended : Ended) (is : IsWhollyWritten rules beginning before after old new told_before told ended) where
   -- memory ran out
-  pub end_unsaid : IsRecordedUpTo options beginning before old new told_before told
+  pub end_unsaid : IsRecordedUpTo rules beginning before old new told_before told
   end_unsaid = (
     after,
-    of_taken options (router_of beginning) before told_before is.through.to after told ended.session is.written is.through.recorded _
+    of_taken rules (router_of beginning) before told_before is.through.to after told ended.session is.written is.through.recorded _
         (inr (record { front = is.all.front; is = is.all.is; written = up_to_all old new _ is.all.written }), is.through.recorded.said.begun),
   )
 
   pub end_said : (now : Option (List ℕ)) (is_silent : Bool) (text : List ℕ)
-      → HasSaid told_before now is_silent (notes_of is.through.recorded.steps ++ text) → text ≡ unknown_in ended.session.gathered ++ counts_line ended.session.gathered.counts (length ended.session.gathered.areas)
-      → (answer all : Result (Unit {0}) CapturingFault) → answer ≡ unless_silent is_silent all → all ≡ result_of ended.ending → Outcome options beginning before after old new told_before now answer
+      → HasSaid told_before now is_silent (notes_of is.through.recorded.steps ++ text) → text ≡ unknown_if (config_of (router_of beginning) is.through.recorded.steps) ended.session.gathered.areas ++ counts_line ended.session.gathered.counts (length ended.session.gathered.areas)
+      → (answer all : Result (Unit {0}) CapturingFault) → answer ≡ unless_silent is_silent all → all ≡ result_of ended.ending → RuledOutcome rules beginning before after old new told_before now answer
   end_said now is_silent text said same answer all answers all_is =
       let steps = is.through.recorded.steps in
-      let notes = subst (λ (l : List ℕ). HasSaid told_before now is_silent (notes_of steps ++ l)) (same ∙ ends_are options beginning steps ended.session.gathered is.through.recorded.gathered) said in
-      subst (Outcome options beginning before after old new told_before now) (sym (answers ∙ ap (unless_silent is_silent) all_is))
-      (outcome_recorded options beginning before after old new told_before now ended.ending is_silent
-      (of_taken options (router_of beginning) before told_before is.through.to after told ended.session is.written is.through.recorded _
+      let notes = subst (λ (l : List ℕ). HasSaid told_before now is_silent (notes_of steps ++ l)) (same ∙ ends_are rules beginning steps ended.session.gathered is.through.recorded.gathered) said in
+      subst (RuledOutcome rules beginning before after old new told_before now) (sym (answers ∙ ap (unless_silent is_silent) all_is))
+      (outcome_recorded rules beginning before after old new told_before now ended.ending is_silent
+      (of_taken rules (router_of beginning) before told_before is.through.to after told ended.session is.written is.through.recorded _
       (is.through.ending, is.all, notes)))
 
 -- ---- the front is not written yet
 
-pub front_unwritten : (options : Options) (beginning : Beginning) (before after told_before told old new : Option (List ℕ)) (kept : Kept) (front : List ℕ) → IsBehind options beginning before after told_before told kept front
-    → (fault : CapturingFault) → (fault ≡ Write) ⊎ (fault ≡ Closed) → AppendsPart old new front → FaultOutcome options beginning before after old new told_before told fault
-front_unwritten options beginning before after told_before told old new kept front is fault kind part =
-    outcome_part options beginning before after old new told_before told fault kind
-    (of_taken options (router_of beginning) before told_before is.through.to after told kept.ended.session kept.packed is.through.recorded _
+pub front_unwritten : (rules : Rules) (beginning : Beginning) (before after told_before told old new : Option (List ℕ)) (kept : Kept) (front : List ℕ) → IsBehind rules beginning before after told_before told kept front
+    → (fault : CapturingFault) → (fault ≡ Write) ⊎ (fault ≡ Closed) → AppendsPart old new front → FaultOutcome rules beginning before after old new told_before told fault
+front_unwritten rules beginning before after told_before told old new kept front is fault kind part =
+    outcome_part rules beginning before after old new told_before told fault kind
+    (of_taken rules (router_of beginning) before told_before is.through.to after told kept.ended.session kept.packed is.through.recorded _
     (record { front = front; is = is.is; written = part_more old new front (kept.packed ++ string_bytes kept.ended.session.lines) part }, is.through.recorded.said.begun))
 
 -- ---- the front was written, and the lines are not yet
 
-module _ (options : Options) (beginning : Beginning) (before after told_before told old mid : Option (List ℕ)) (kept : Kept) (front : List ℕ)
-    (is : IsBehind options beginning before after told_before told kept front) (begun : Appends old mid front) where
-  pub packed_begun : (now : Option (List ℕ)) → Appends mid now kept.packed → IsBegun options beginning before after old now told_before told kept.ended
+module _ (rules : Rules) (beginning : Beginning) (before after told_before told old mid : Option (List ℕ)) (kept : Kept) (front : List ℕ)
+    (is : IsBehind rules beginning before after told_before told kept front) (begun : Appends old mid front) where
+  pub packed_begun : (now : Option (List ℕ)) → Appends mid now kept.packed → IsBegun rules beginning before after old now told_before told kept.ended
   packed_begun now written = record {
     written = kept.packed;
     through = is.through;
@@ -117,10 +118,10 @@ module _ (options : Options) (beginning : Beginning) (before after told_before t
   }
 
   -- some of them were written
-  packed_part : (new : Option (List ℕ)) (fault : CapturingFault) → (fault ≡ Write) ⊎ (fault ≡ Closed) → AppendsPart mid new kept.packed → FaultOutcome options beginning before after old new told_before told fault
+  packed_part : (new : Option (List ℕ)) (fault : CapturingFault) → (fault ≡ Write) ⊎ (fault ≡ Closed) → AppendsPart mid new kept.packed → FaultOutcome rules beginning before after old new told_before told fault
   packed_part new fault kind part =
-      outcome_part options beginning before after old new told_before told fault kind
-      (of_taken options (router_of beginning) before told_before is.through.to after told kept.ended.session kept.packed is.through.recorded _ (
+      outcome_part rules beginning before after old new told_before told fault kind
+      (of_taken rules (router_of beginning) before told_before is.through.to after told kept.ended.session kept.packed is.through.recorded _ (
         record {
           front = front;
           is = is.is;
@@ -129,10 +130,10 @@ module _ (options : Options) (beginning : Beginning) (before after told_before t
         is.through.recorded.said.begun,
       ))
 
-  packed_up_to : (new : Option (List ℕ)) → AppendsUpTo mid new kept.packed → IsRecordedUpTo options beginning before old new told_before told
+  packed_up_to : (new : Option (List ℕ)) → AppendsUpTo mid new kept.packed → IsRecordedUpTo rules beginning before old new told_before told
   packed_up_to new part = (
     after,
-    of_taken options (router_of beginning) before told_before is.through.to after told kept.ended.session kept.packed is.through.recorded _ (
+    of_taken rules (router_of beginning) before told_before is.through.to after told kept.ended.session kept.packed is.through.recorded _ (
       inr (record {
         front = front;
         is = is.is;
@@ -142,7 +143,7 @@ module _ (options : Options) (beginning : Beginning) (before after told_before t
     ),
   )
 
-  pub packed_unwritten : (new : Option (List ℕ)) (fault : CapturingFault) → WritesPart mid new kept.packed fault → FaultOutcome options beginning before after old new told_before told fault
+  pub packed_unwritten : (new : Option (List ℕ)) (fault : CapturingFault) → WritesPart mid new kept.packed fault → FaultOutcome rules beginning before after old new told_before told fault
   packed_unwritten new (Capture kind place) part = absurd part
   packed_unwritten new Read part = absurd part
   packed_unwritten new (Line fault) part = absurd part
@@ -153,39 +154,43 @@ module _ (options : Options) (beginning : Beginning) (before after told_before t
   packed_unwritten new Memory part = packed_up_to new part
 
 -- memory ran out before anything was written
-pub nothing_written : (options : Options) (router : Option ℕ) (beginning : Beginning) (before after told_before told old : Option (List ℕ)) (ended : Ended) (packed : List ℕ) → GoesThrough options router before told_before after told ended packed
-    → IsRecordedUpTo options beginning before old old told_before told
-nothing_written options router beginning before after told_before told old ended packed through =
-    (after, of_taken options router before told_before through.to after told ended.session packed through.recorded _ (inl (appends_none old), through.recorded.said.begun))
+pub nothing_written : (rules : Rules) (router : Option ℕ) (beginning : Beginning) (before after told_before told old : Option (List ℕ)) (ended : Ended) (packed : List ℕ) → GoesThrough rules router before told_before after told ended packed
+    → IsRecordedUpTo rules beginning before old old told_before told
+nothing_written rules router beginning before after told_before told old ended packed through =
+    (after, of_taken rules router before told_before through.to after told ended.session packed through.recorded _ (inl (appends_none old), through.recorded.said.begun))
 
-pub lacking_said : (options : Options) (router : ℕ) (before after told_before told now old : Option (List ℕ)) (ended : Ended) (packed : List ℕ) (fault : ConfigFault) (is : IsLacking options router before after told_before told ended packed fault)
+-- nor a packet was read
+pub none_recorded : (rules : Rules) (beginning : Beginning) (before told old : Option (List ℕ)) → IsRecordedUpTo rules beginning before old old told told
+none_recorded rules beginning before told old = (before, of_none rules before _ (inl (appends_none old), up_to_all told told [] (appends_none told)))
+
+pub lacking_said : (rules : Rules) (router : ℕ) (before after told_before told now old : Option (List ℕ)) (ended : Ended) (packed : List ℕ) (fault : ConfigFault) (is : IsLacking rules router before after told_before told ended packed fault)
     (is_silent : Bool) (text : List ℕ) → HasSaid told_before now is_silent (notes_of is.through.recorded.steps ++ text)
     → text ≡ counts_line ended.session.gathered.counts (length ended.session.gathered.areas)
-    → (answer : Result (Unit {0}) CapturingFault) (found : CapturingFault) → answer ≡ unless_silent is_silent (Err found) → found ≡ fault_lacking ended.ending fault → Outcome options (Router router) before after old old told_before now answer
-lacking_said options router before after told_before told now old ended packed fault is is_silent text said same answer found answers found_is =
+    → (answer : Result (Unit {0}) CapturingFault) (found : CapturingFault) → answer ≡ unless_silent is_silent (Err found) → found ≡ fault_lacking ended.ending fault → RuledOutcome rules (Router router) before after old old told_before now answer
+lacking_said rules router before after told_before told now old ended packed fault is is_silent text said same answer found answers found_is =
     let steps = is.through.recorded.steps in
-    let notes = subst (λ (l : List ℕ). HasSaid told_before now is_silent (notes_of steps ++ l)) (same ∙ counts_are options (Some router) steps ended.session.gathered is.through.recorded.gathered) said in
-    subst (Outcome options (Router router) before after old old told_before now) (sym (answers ∙ ap (λ f. unless_silent is_silent (Err f)) found_is))
-    (outcome_lacking options (Router router) before after old old told_before now ended.ending fault is_silent
-    (of_taken options (Some router) before told_before is.through.to after told ended.session packed is.through.recorded _
+    let notes = subst (λ (l : List ℕ). HasSaid told_before now is_silent (notes_of steps ++ l)) (same ∙ counts_are rules (Some router) steps ended.session.gathered is.through.recorded.gathered) said in
+    subst (RuledOutcome rules (Router router) before after old old told_before now) (sym (answers ∙ ap (λ f. unless_silent is_silent (Err f)) found_is))
+    (outcome_lacking rules (Router router) before after old old told_before now ended.ending fault is_silent
+    (of_taken rules (Some router) before told_before is.through.to after told ended.session packed is.through.recorded _
     (is.through.ending, is.has, appends_none old, notes)))
 
 -- ---- what is known of the router
 
-module _ (options : Options) (router : ℕ) (before after told_before told : Option (List ℕ)) (kept : Kept) (through : GoesThrough options (Some router) before told_before after told kept.ended kept.packed) where
+module _ (rules : Rules) (router : ℕ) (before after told_before told : Option (List ℕ)) (kept : Kept) (through : GoesThrough rules (Some router) before told_before after told kept.ended kept.packed) where
   its_areas : kept.ended.session.gathered.areas ≡ areas_of through.recorded.steps
   its_areas = through.recorded.gathered.areas
 
-  pub is_known : kept.ended.session.gathered.config ≡ Some (captured_of router through.recorded.steps)
+  pub is_known : kept.ended.session.gathered.config ≡ Some (facts_of (captured_of router through.recorded.steps))
   is_known = through.recorded.gathered.config
 
-  pub is_behind : (front : List ℕ) → IsText front (captured_recording (captured_of router through.recorded.steps) kept.ended.session.gathered.areas) → IsBehind options (Router router) before after told_before told kept front
+  pub is_behind : (front : List ℕ) → IsText front (captured_recording (captured_of router through.recorded.steps) kept.ended.session.gathered.areas) → IsBehind rules (Router router) before after told_before told kept front
   is_behind front text = record {
     through = through;
     is = subst (λ (areas : List ℕ). IsText front (captured_recording (captured_of router through.recorded.steps) areas)) its_areas text;
   }
 
-  pub is_lacking : (fault : ConfigFault) → config_fault_of (config_by (captured_of router through.recorded.steps) kept.ended.session.gathered.areas) ≡ Some fault → IsLacking options router before after told_before told kept.ended kept.packed fault
+  pub is_lacking : (fault : ConfigFault) → config_fault_of (config_by (captured_of router through.recorded.steps) kept.ended.session.gathered.areas) ≡ Some fault → IsLacking rules router before after told_before told kept.ended kept.packed fault
   is_lacking fault has = record {
     through = through;
     has = subst (λ (areas : List ℕ). config_fault_of (config_by (captured_of router through.recorded.steps) areas) ≡ Some fault) its_areas has;
@@ -193,15 +198,15 @@ module _ (options : Options) (router : ℕ) (before after told_before told : Opt
 
 -- ---- a front that is given
 
-module _ (options : Options) (beginning : Beginning) (front : List ℕ) (is : (steps : List Step) → IsFront beginning steps front) where
+module _ (rules : Rules) (beginning : Beginning) (front : List ℕ) (is : (steps : List Step) → IsFront beginning steps front) where
   -- the front could not be written
-  pub given_unwritten : (before old new told : Option (List ℕ)) (fault : CapturingFault) → (fault ≡ Write) ⊎ (fault ≡ Closed) → AppendsPart old new front → FaultOutcome options beginning before before old new told told fault
+  pub given_unwritten : (before old new told : Option (List ℕ)) (fault : CapturingFault) → (fault ≡ Write) ⊎ (fault ≡ Closed) → AppendsPart old new front → FaultOutcome rules beginning before before old new told told fault
   given_unwritten before old new told fault kind part =
-      outcome_part options beginning before before old new told told fault kind
-      (of_none options before _ (record { front = front; is = is []; written = part_more old new front [] part }, up_to_all told told [] (appends_none told)))
+      outcome_part rules beginning before before old new told told fault kind
+      (of_none rules before _ (record { front = front; is = is []; written = part_more old new front [] part }, up_to_all told told [] (appends_none told)))
 
   pub given_begun : (before after old mid now told_before told : Option (List ℕ)) (ended : Ended) (written : List ℕ) → Appends old mid front → Appends mid now written
-      → GoesThrough options (router_of beginning) before told_before after told ended written → IsBegun options beginning before after old now told_before told ended
+      → GoesThrough rules (router_of beginning) before told_before after told ended written → IsBegun rules beginning before after old now told_before told ended
   given_begun before after old mid now told_before told ended written first more through = record {
     written = written;
     through = through;

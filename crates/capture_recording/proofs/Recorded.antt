@@ -6,7 +6,7 @@ use Rattle.std.proofs.lemmas.List.{map-append}
 use Rattle.captures.specs.Reading.{unread}
 use Rattle.capture_reader.specs.Positions.{Position, GoesOn}
 use Rattle.capture_reader.proofs.Going.{both_ways, reads_none}
-use Rattle.captured_lsas.specs.declared.options.Options.{Options}
+use Rattle.capture_recording.specs.Rules.{Rules}
 use Rattle.capture_lines.proofs.Gained.{appended_more}
 use Rattle.capture_recording.proofs.Gaining.{appended_none}
 use Rattle.capture_lines.specs.Events.{AreAppended}
@@ -30,12 +30,12 @@ stays left = reads_none unread 0 [] [] 0 left left (keeps_all left) refl (lit< t
 
 -- ---- no packet came
 
-pub recorded_first : (options : Options) (router : Option ℕ) (before told : Option (List ℕ)) (at : Position) (session : Session) → IsFirstSession options router session → at ≡ first_position
-    → IsRecordedTo options router before told at before told session []
-recorded_first options router before told at session first begins = record {
+pub recorded_first : (rules : Rules) (router : Option ℕ) (before told : Option (List ℕ)) (at : Position) (session : Session) → IsFirstSession rules router session → at ≡ first_position
+    → IsRecordedTo rules router before told at before told session []
+recorded_first rules router before told at session first begins = record {
   steps = [];
   goes = subst (λ p. GoesOn first_position before p before []) (sym begins) (stays before);
-  gathered = gathered_first options router session.gathered first.gathered;
+  gathered = gathered_first rules router session.gathered first.gathered;
   lines = subst (AreLines []) (sym first.lines) (appended_none []);
   none = first.notes;
   said = said_nothing told session.notes.is_silent first.speaks;
@@ -54,23 +54,23 @@ lines_more written old new steps step are more =
 packets_more : (steps : List Step) (step : Step) → packets_of (steps ++ step ∷ []) ≡ packets_of steps ++ step.packet ∷ []
 packets_more steps step = map-append (λ s. s.packet) steps (step ∷ [])
 
-module _ (options : Options) (router : Option ℕ) (before told_before : Option (List ℕ)) (at to : Position) (left after told_at told : Option (List ℕ)) (old new : Session) (written : List ℕ)
-    (is : IsRecordedTo options router before told_before at left told_at old written) where
-  pub recorded_more : TakesNext at left to after old new told_at told → IsRecordedTo options router before told_before to after told new written
+module _ (rules : Rules) (router : Option ℕ) (before told_before : Option (List ℕ)) (at to : Position) (left after told_at told : Option (List ℕ)) (old new : Session) (written : List ℕ)
+    (is : IsRecordedTo rules router before told_before at left told_at old written) where
+  pub recorded_more : TakesNext at left to after old new told_at told → IsRecordedTo rules router before told_before to after told new written
   recorded_more takes = record {
     steps = is.steps ++ takes.step ∷ [];
     goes = subst (GoesOn first_position before to after) (sym (packets_more is.steps takes.step)) (both_ways first_position at to before left after (packets_of is.steps) (takes.step.packet ∷ []) is.goes takes.goes);
-    gathered = gathered_more options router is.steps takes.step old.gathered new.gathered is.gathered takes.gathers;
+    gathered = gathered_more rules router is.steps takes.step old.gathered new.gathered is.gathered takes.gathers;
     lines = lines_more written (string_bytes old.lines) (string_bytes new.lines) is.steps takes.step is.lines takes.lines;
     none = takes.none;
     said = subst (HasSaid told_before told new.notes.is_silent) (sym (flat_map_more step_notes is.steps takes.step)) (takes.said is.none told_before (notes_of is.steps) is.said);
   }
 
   -- no more comes
-  recorded_ended : (ending : Ending) → EndsNow at left to after old new told_at told ending → IsRecordedTo options router before told_before to after told new written
+  recorded_ended : (ending : Ending) → EndsNow at left to after old new told_at told ending → IsRecordedTo rules router before told_before to after told new written
   recorded_ended ending ends =
-      subst (λ (s : Session). IsRecordedTo options router before told_before to after told s written) (sym ends.session)
-      (subst (λ (t : Option (List ℕ)). IsRecordedTo options router before told_before to after t old written) (sym ends.unsaid) (record {
+      subst (λ (s : Session). IsRecordedTo rules router before told_before to after told s written) (sym ends.session)
+      (subst (λ (t : Option (List ℕ)). IsRecordedTo rules router before told_before to after t old written) (sym ends.unsaid) (record {
         steps = is.steps;
         goes = subst (GoesOn first_position before to after) (append-nil (packets_of is.steps)) (both_ways first_position at to before left after (packets_of is.steps) [] is.goes ends.goes);
         gathered = is.gathered;
@@ -79,14 +79,14 @@ module _ (options : Options) (router : Option ℕ) (before told_before : Option 
         said = is.said;
       }))
 
-  pub gone_through : (ending : Ending) → EndsNow at left to after old new told_at told ending → GoesThrough options router before told_before after told (record { session = new; ending = ending }) written
+  pub gone_through : (ending : Ending) → EndsNow at left to after old new told_at told ending → GoesThrough rules router before told_before after told (record { session = new; ending = ending }) written
   gone_through ending ends = record { to = to; recorded = recorded_ended ending ends; ending = ends.ended }
 
 -- lines are written
-pub recorded_written : (options : Options) (router : Option ℕ) (before told_before : Option (List ℕ)) (at : Position) (left told : Option (List ℕ)) (session : Session) (written front : List ℕ) (kept : String _)
-    → IsRecordedTo options router before told_before at left told session written → string_bytes session.lines ≡ front ++ string_bytes kept
-    → IsRecordedTo options router before told_before at left told (record session { lines = kept }) (written ++ front)
-recorded_written options router before told_before at left told session written front kept is parts = record {
+pub recorded_written : (rules : Rules) (router : Option ℕ) (before told_before : Option (List ℕ)) (at : Position) (left told : Option (List ℕ)) (session : Session) (written front : List ℕ) (kept : String _)
+    → IsRecordedTo rules router before told_before at left told session written → string_bytes session.lines ≡ front ++ string_bytes kept
+    → IsRecordedTo rules router before told_before at left told (record session { lines = kept }) (written ++ front)
+recorded_written rules router before told_before at left told session written front kept is parts = record {
   steps = is.steps;
   goes = is.goes;
   gathered = is.gathered;

@@ -4,7 +4,8 @@ use Rattle.std.specs.Prelude.{option_map}
 use Rattle.std.specs.List.{flat_map}
 use Rattle.std.proofs.lemmas.List.Concat.{flat_map-append}
 use Rattle.std.proofs.lemmas.List.Sums.{fold-append}
-use Rattle.captured_lsas.specs.declared.options.Options.{Options}
+use Rattle.captured_config.specs.Facts.{facts_of}
+use Rattle.capture_recording.specs.Rules.{Rules}
 use Rattle.capture_recording.specs.declared.gathered.Gathered.{Gathered}
 use Rattle.capture_recording.specs.Steps.{Step, Past, IsStep, AreStepsTo}
 use Rattle.capture_recording.specs.Folds.{none_counted, with_step_counted, with_step_area, with_step_lsas}
@@ -15,21 +16,21 @@ unfolding AreStepsTo
 steps_more old between new [] step are is = (new, subst (λ p. IsStep p step new) are is, refl)
 steps_more old between new (s ∷ steps) step are is = (are.0, are.1, steps_more are.0 between new steps step are.2 is)
 
-pub gathered_first : (options : Options) (router : Option ℕ) (g : Gathered) → g ≡ first_gathered options router → AreGathered options router [] g
+pub gathered_first : (rules : Rules) (router : Option ℕ) (g : Gathered) → g ≡ first_gathered rules router → AreGathered rules router [] g
 unfolding AreStepsTo
-gathered_first options router g is = subst (AreGathered options router []) (sym is) (record { are = refl; counts = refl; areas = refl; config = refl })
+gathered_first rules router g is = subst (AreGathered rules router []) (sym is) (record { are = refl; counts = refl; areas = refl; config = refl })
 
 config_more : (router : Option ℕ) (steps : List Step) (step : Step) → option_map (λ c. with_step_lsas c step) (config_of router steps) ≡ config_of router (steps ++ step ∷ [])
 config_more None steps step = refl
 config_more (Some r) steps step = ap Some (sym (fold-append with_step_lsas (record { router = r; lsas = [] }) steps (step ∷ [])))
 
-pub gathered_more : (options : Options) (router : Option ℕ) (steps : List Step) (step : Step) (old new : Gathered) → AreGathered options router steps old → Gathers old step new
-    → AreGathered options router (steps ++ step ∷ []) new
-gathered_more options router steps step old new are more = record {
+pub gathered_more : (rules : Rules) (router : Option ℕ) (steps : List Step) (step : Step) (old new : Gathered) → AreGathered rules router steps old → Gathers old step new
+    → AreGathered rules router (steps ++ step ∷ []) new
+gathered_more rules router steps step old new are more = record {
   are = steps_more _ _ _ steps step are.are more.is;
   counts = more.counts ∙ ap (λ c. with_step_counted c step) are.counts ∙ sym (fold-append with_step_counted none_counted steps (step ∷ []));
   areas = more.areas ∙ ap (λ a. with_step_area a step) are.areas ∙ sym (fold-append with_step_area [] steps (step ∷ []));
-  config = more.config ∙ ap (option_map (λ c. with_step_lsas c step)) are.config ∙ config_more router steps step;
+  config = more.config (config_of router steps) are.config ∙ ap (option_map facts_of) (config_more router steps step);
 }
 
 -- what the steps come to, one behind the other

@@ -3,6 +3,7 @@ use Rattle.std.proofs.Common.{◌≡◌, ◌∙◌, ◌++◌, List, [], ℕ, Opt
 use Rattle.std.specs.Prelude.{◌⊎◌, option_map, String, string_bytes}
 use Rattle.datagrams.specs.declared.fault.DatagramFault.{DatagramFault}
 use Rattle.captures.specs.Runs.{Shown}
+use Rattle.captured_config.specs.Facts.{facts_of}
 use Rattle.captured_lsas.specs.declared.heard.Heard.{Heard}
 use Rattle.captured_lsas.specs.declared.heard.Heard.TheVariants.{Other, Fault, Part, Whole}
 use Rattle.captured_lsas.specs.declared.heard.Payload.{Payload}
@@ -16,7 +17,7 @@ use Rattle.capture_recording.specs.declared.gathered.Gathered.{Gathered}
 use Rattle.capture_recording.specs.declared.session.Session.{Session}
 use Rattle.capture_recording.specs.Steps.{IsTakenOf}
 use Rattle.capture_recording.specs.Texts.{heard_notes}
-use Rattle.capture_recording.specs.Folds.{with_taken_area, with_taken_lsas}
+use Rattle.capture_recording.specs.Folds.{with_taken_area}
 use Rattle.capture_recording.specs.Gathering.{HearsOnly, TakesPacket, TakesPayload}
 
 same_option : {A : Type 0} (o : Option A) → option_map (λ (x : A). x) o ≡ o
@@ -35,7 +36,7 @@ module _ (old : Session) (g : Gathered) (packet : Shown) (heard : Heard) (hears 
       is = record { hears = hears; takes = none };
       counts = counted;
       areas = others.areas;
-      config = others.config ∙ sym (same_option old.gathered.config);
+      config = λ known are. others.config ∙ are ∙ ap (option_map facts_of) (sym (same_option known));
     };
     lines = appended_none (string_bytes old.lines);
     notes = notes;
@@ -74,7 +75,7 @@ module _ (old : Session) (g : Gathered) (packet : Shown) (heard : Heard) (hears 
       };
       counts = t.counts ∙ ap (λ c. with_taken c t.taken) counted;
       areas = t.areas ∙ ap (λ a. with_taken_area a t.taken) others.areas;
-      config = t.config ∙ ap (option_map (λ c. with_taken_lsas c t.taken)) others.config;
+      config = λ known are. t.config known (others.config ∙ are);
     };
     lines = t.lines;
     notes = t.notes ∙ ap (λ h. string_bytes old.notes.text ++ heard_notes packet.time h (Some t.taken)) (sym is);

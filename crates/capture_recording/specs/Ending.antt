@@ -16,7 +16,10 @@ first_position = record { state = unread; ahead = 0; pending = []; place = 0 }
 abbrev pub IsEnding : Ending → Position → Option (List ℕ) → Type 0
 IsEnding Whole at left = IsWhole at left
 IsEnding (Fault kind place) at left = Stops (error.Fault kind place) at left
-IsEnding Unread at left = Unit {0}
+IsEnding Unread at left = Stops error.Read at left
+
+abbrev pub IsSomeEnding : Position → Option (List ℕ) → Type 0
+IsSomeEnding at left = (ending : Ending) × IsEnding ending at left
 
 abbrev pub result_of : Ending → Result (Unit {0}) CapturingFault
 result_of Whole = Ok tt

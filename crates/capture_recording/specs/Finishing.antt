@@ -6,12 +6,11 @@ use Rattle.captured_config.specs.declared.fault.FrontFault.{FrontFault}
 use Rattle.captured_config.specs.declared.fault.FrontFault.TheVariants as front_fault
 use Rattle.captured_config.specs.Lsas.{Captured}
 use Rattle.captured_config.specs.Unknown.{unknown_text}
-use Rattle.captured_lsas.specs.declared.options.Options.{Options}
+use Rattle.capture_recording.specs.Rules.{Rules}
 use Rattle.config_faults.specs.Configs.{config_fault_of}
 use Rattle.config_faults.specs.declared.fault.ConfigFault.{ConfigFault}
 use Rattle.capture_recording.specs.declared.capturing.Beginning.{Beginning}
 use Rattle.capture_recording.specs.declared.capturing.Beginning.TheVariants.{Given, Router}
-use Rattle.capture_recording.specs.declared.gathered.Gathered.{Gathered}
 use Rattle.capture_recording.specs.declared.going.Ended.{Ended}
 use Rattle.capture_recording.specs.declared.going.Kept.{Kept}
 use Rattle.capture_recording.specs.Going.{GoesThrough}
@@ -23,27 +22,27 @@ router_of (Given bytes) = None
 router_of (Router router) = Some router
 
 -- a capture was gone through, and its front and some of the lines were written
-pub record IsBegun (options : Options) (beginning : Beginning) (before after old now told_before told : Option (List ℕ)) (ended : Ended) : Type 0 where
+pub record IsBegun (rules : Rules) (beginning : Beginning) (before after old now told_before told : Option (List ℕ)) (ended : Ended) : Type 0 where
   pub written : List ℕ
-  pub through : GoesThrough options (router_of beginning) before told_before after told ended written
+  pub through : GoesThrough rules (router_of beginning) before told_before after told ended written
   pub front : List ℕ
   pub is : IsFront beginning through.recorded.steps front
   pub begun : Appends old now (front ++ written)
 
 -- a capture was gone through, and this is to stand before its lines
-pub record IsBehind (options : Options) (beginning : Beginning) (before after told_before told : Option (List ℕ)) (kept : Kept) (front : List ℕ) : Type 0 where
-  pub through : GoesThrough options (router_of beginning) before told_before after told kept.ended kept.packed
+pub record IsBehind (rules : Rules) (beginning : Beginning) (before after told_before told : Option (List ℕ)) (kept : Kept) (front : List ℕ) : Type 0 where
+  pub through : GoesThrough rules (router_of beginning) before told_before after told kept.ended kept.packed
   pub is : IsFront beginning through.recorded.steps front
 
 -- a capture was gone through, and what it tells of the router has this fault
-pub record IsLacking (options : Options) (router : ℕ) (before after told_before told : Option (List ℕ)) (ended : Ended) (packed : List ℕ) (fault : ConfigFault) : Type 0 where
-  pub through : GoesThrough options (Some router) before told_before after told ended packed
+pub record IsLacking (rules : Rules) (router : ℕ) (before after told_before told : Option (List ℕ)) (ended : Ended) (packed : List ℕ) (fault : ConfigFault) : Type 0 where
+  pub through : GoesThrough rules (Some router) before told_before after told ended packed
   pub has : HasConfigFault (Router router) through.recorded.steps fault
 
 -- all of it was written
-pub record IsWhollyWritten (options : Options) (beginning : Beginning) (before after old new told_before told : Option (List ℕ)) (ended : Ended) : Type 0 where
+pub record IsWhollyWritten (rules : Rules) (beginning : Beginning) (before after old new told_before told : Option (List ℕ)) (ended : Ended) : Type 0 where
   pub written : List ℕ
-  pub through : GoesThrough options (router_of beginning) before told_before after told ended written
+  pub through : GoesThrough rules (router_of beginning) before told_before after told ended written
   pub all : IsWritten beginning old new through.recorded.steps (written ++ string_bytes ended.session.lines)
 
 -- ---- what is known of the router
@@ -57,6 +56,3 @@ IsNoFront known areas front_fault.Memory = Unit {0}
 abbrev pub unknown_if : Option Captured → (areas : List ℕ) → List ℕ
 unknown_if None areas = []
 unknown_if (Some known) areas = unknown_text known areas
-
-abbrev pub unknown_in : Gathered → List ℕ
-unknown_in g = unknown_if g.config g.areas

@@ -30,7 +30,7 @@ counts_of steps = fold with_step_counted none_counted steps
 
 -- the area of a packet without a fault
 abbrev pub with_taken_area : List ℕ → Taken → List ℕ
-with_taken_area areas (taken.Packet kind router area seconds all) = with_area areas area
+with_taken_area areas (taken.Packet kind router area back seconds all) = with_area areas area
 with_taken_area areas (taken.Fault fault) = areas
 
 abbrev pub with_some_area : List ℕ → Option Taken → List ℕ
@@ -50,11 +50,12 @@ areas_of steps = fold with_step_area [] steps
 abbrev pub with_installed : (area : ℕ) → Captured → Recorded → Captured
 with_installed area c (recorded.Install scope lsa purges) = with_lsa c area lsa
 with_installed area c recorded.Repeated = c
+with_installed area c (recorded.OtherArea of is_first) = c
 with_installed area c (recorded.Fault fault) = c
 with_installed area c (recorded.Cut fault) = c
 
 abbrev pub with_taken_lsas : Captured → Taken → Captured
-with_taken_lsas c (taken.Packet kind router area seconds all) = fold (with_installed area) c all.items
+with_taken_lsas c (taken.Packet kind router area back seconds all) = fold (with_installed area) c all.items
 with_taken_lsas c (taken.Fault fault) = c
 
 abbrev pub with_some_lsas : Captured → Option Taken → Captured

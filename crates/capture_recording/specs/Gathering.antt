@@ -1,8 +1,9 @@
 -- What one packet changes of what is kept.
 use Rattle.std.specs.Prelude.{ℕ, ◌≡◌, ◌++◌, false, List, [], Option, Some, option_map, string_bytes}
 use Rattle.captures.specs.Runs.{Shown}
+use Rattle.captured_config.specs.Facts.{Facts, facts_of}
 use Rattle.captured_config.specs.Lsas.{Captured}
-use Rattle.captured_lsas.specs.declared.options.Options.{Options}
+use Rattle.capture_recording.specs.Rules.{Rules}
 use Rattle.captured_lsas.specs.declared.taken.Taken.{Taken}
 use Rattle.captured_lsas.specs.Packets.{IsTaken, with_packet}
 use Rattle.captured_lsas.specs.Progress.{start}
@@ -21,11 +22,15 @@ use Rattle.capture_recording.specs.Folds.{none_counted, with_step_counted, with_
 abbrev pub config_of : Option ℕ → List Step → Option Captured
 config_of router steps = option_map (λ r. captured_of r steps) router
 
-abbrev pub first_gathered : Options → (router : Option ℕ) → Gathered
-first_gathered options router = record { listener = []; recorder = start options; counts = none_counted; areas = []; config = config_of router [] }
+-- the facts that are kept of it
+abbrev pub AreFactsOf : Option Captured → Option Facts → Type 0
+AreFactsOf known facts = facts ≡ option_map facts_of known
 
-pub record IsFirstSession (options : Options) (router : Option ℕ) (session : Session) : Type 0 where
-  pub gathered : session.gathered ≡ first_gathered options router
+abbrev pub first_gathered : Rules → (router : Option ℕ) → Gathered
+first_gathered rules router = record { listener = []; recorder = start rules.options rules.areas; counts = none_counted; areas = []; config = option_map facts_of (config_of router []) }
+
+pub record IsFirstSession (rules : Rules) (router : Option ℕ) (session : Session) : Type 0 where
+  pub gathered : session.gathered ≡ first_gathered rules router
   pub lines : string_bytes session.lines ≡ []
   pub notes : string_bytes session.notes.text ≡ []
   pub speaks : session.notes.is_silent ≡ false
@@ -55,7 +60,7 @@ pub record TakesPayload (old new : Session) (time : Option ℕ) (sender : ℕ) (
   pub listener : new.gathered.listener ≡ old.gathered.listener
   pub counts : new.gathered.counts ≡ with_taken old.gathered.counts taken
   pub areas : new.gathered.areas ≡ with_taken_area old.gathered.areas taken
-  pub config : new.gathered.config ≡ option_map (λ c. with_taken_lsas c taken) old.gathered.config
+  pub config : (known : Option Captured) → AreFactsOf known old.gathered.config → AreFactsOf (option_map (λ c. with_taken_lsas c taken) known) new.gathered.config
   pub lines : GainsEvents old.lines new.lines (taken_events taken)
   pub notes : string_bytes new.notes.text ≡ string_bytes old.notes.text ++ taken_text time (Some sender) taken
   pub silent : new.notes.is_silent ≡ old.notes.is_silent
@@ -65,7 +70,7 @@ pub record Gathers (old : Gathered) (step : Step) (new : Gathered) : Type 0 wher
   pub is : IsStep (past_of old) step (past_of new)
   pub counts : new.counts ≡ with_step_counted old.counts step
   pub areas : new.areas ≡ with_step_area old.areas step
-  pub config : new.config ≡ option_map (λ c. with_step_lsas c step) old.config
+  pub config : (known : Option Captured) → AreFactsOf known old.config → AreFactsOf (option_map (λ c. with_step_lsas c step) known) new.config
 
 -- a packet is taken
 pub record TakesPacket (old new : Session) (packet : Shown) : Type 0 where
@@ -79,8 +84,8 @@ pub record TakesPacket (old new : Session) (packet : Shown) : Type 0 where
 -- ---- the first packets
 
 -- what they come to is kept
-pub record AreGathered (options : Options) (router : Option ℕ) (steps : List Step) (g : Gathered) : Type 0 where
-  pub are : AreStepsTo (begun options) steps (past_of g)
+pub record AreGathered (rules : Rules) (router : Option ℕ) (steps : List Step) (g : Gathered) : Type 0 where
+  pub are : AreStepsTo (begun rules) steps (past_of g)
   pub counts : g.counts ≡ counts_of steps
   pub areas : g.areas ≡ areas_of steps
-  pub config : g.config ≡ config_of router steps
+  pub config : AreFactsOf (config_of router steps) g.config

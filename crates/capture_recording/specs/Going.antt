@@ -1,7 +1,7 @@
 -- How far a capture is recorded.
 use Rattle.std.specs.Prelude.{ℕ, ◌≡◌, ◌++◌, List, [], ◌∷◌, Option, None, Some, string_bytes}
 use Rattle.capture_reader.specs.Positions.{Position, GoesOn}
-use Rattle.captured_lsas.specs.declared.options.Options.{Options}
+use Rattle.capture_recording.specs.Rules.{Rules}
 use Rattle.capture_lines.specs.Events.{GainsEvents}
 use Rattle.capture_recording.specs.declared.ending.Ending.{Ending}
 use Rattle.capture_recording.specs.declared.going.Ended.{Ended}
@@ -11,6 +11,10 @@ use Rattle.capture_recording.specs.Gathering.{AreGathered, Gathers}
 use Rattle.capture_recording.specs.Said.{HasSaid}
 use Rattle.capture_recording.specs.Steps.{Step, packets_of}
 use Rattle.capture_recording.specs.Texts.{AreLines, notes_of, step_events, step_notes}
+
+-- Where the beginning is given, no line is held back while no byte of the next packet is at hand: a read of the input may wait.
+abbrev pub IsDue : Position → Session → Type 0
+IsDue at session = session.gathered.config ≡ None → at.pending ≡ [] → string_bytes session.lines ≡ []
 
 -- the next packet is read and taken
 pub record TakesNext (from : Position) (before : Option (List ℕ)) (to : Position) (after : Option (List ℕ)) (old new : Session) (told_before told : Option (List ℕ)) : Type 0 where
@@ -35,16 +39,16 @@ HandsNext from before to after old new told_before told None = TakesNext from be
 HandsNext from before to after old new told_before told (Some ending) = EndsNow from before to after old new told_before told ending
 
 -- The first packets of an input were taken. Some of their lines were written, the others are kept.
-pub record IsRecordedTo (options : Options) (router : Option ℕ) (before told_before : Option (List ℕ)) (to : Position) (after told : Option (List ℕ)) (session : Session) (written : List ℕ) : Type 0 where
+pub record IsRecordedTo (rules : Rules) (router : Option ℕ) (before told_before : Option (List ℕ)) (to : Position) (after told : Option (List ℕ)) (session : Session) (written : List ℕ) : Type 0 where
   pub steps : List Step
   pub goes : GoesOn first_position before to after (packets_of steps)
-  pub gathered : AreGathered options router steps session.gathered
+  pub gathered : AreGathered rules router steps session.gathered
   pub lines : AreLines steps (written ++ string_bytes session.lines)
   pub none : string_bytes session.notes.text ≡ []
   pub said : HasSaid told_before told session.notes.is_silent (notes_of steps)
 
 -- no more come
-pub record GoesThrough (options : Options) (router : Option ℕ) (before told_before after told : Option (List ℕ)) (ended : Ended) (written : List ℕ) : Type 0 where
+pub record GoesThrough (rules : Rules) (router : Option ℕ) (before told_before after told : Option (List ℕ)) (ended : Ended) (written : List ℕ) : Type 0 where
   pub to : Position
-  pub recorded : IsRecordedTo options router before told_before to after told ended.session written
+  pub recorded : IsRecordedTo rules router before told_before to after told ended.session written
   pub ending : IsEnding ended.ending to after

@@ -1,3 +1,4 @@
+pub mod Rules
 pub mod Steps
 pub mod Texts
 pub mod Folds

@@ -1,5 +1,5 @@
 -- What is written and said of a capture.
-use Rattle.std.specs.Prelude.{ℕ, ◌≡◌, ◌++◌, ◌⊎◌, List, [], length, Option, Some, Result, MatchResult}
+use Rattle.std.specs.Prelude.{ℕ, ◌≡◌, ◌++◌, ◌⊎◌, List, [], length, map, Option, None, Some, Result, MatchResult}
 use Rattle.std.specs.Io.KnownBytes.{Appends}
 use Rattle.capture_reader.specs.Positions.{Position, IsWhole, Stops}
 use Rattle.capture_reader.specs.declared.fault.CaptureError.TheVariants as error
@@ -8,6 +8,7 @@ use Rattle.captured_config.specs.Fronts.{captured_recording}
 use Rattle.captured_config.specs.Unknown.{unknown_text}
 use Rattle.config_faults.specs.Configs.{config_fault_of}
 use Rattle.captured_lsas.specs.declared.options.Options.{Options}
+use Rattle.capture_recording.specs.Rules.{Rules}
 use Rattle.capture_lines.specs.Counts.{counts_line}
 use Rattle.config_faults.specs.declared.fault.ConfigFault.{ConfigFault}
 use Rattle.recording.specs.Faults.{IsFaultOf}
@@ -18,6 +19,7 @@ use Rattle.capture_recording.specs.declared.capturing.Beginning.{Beginning}
 use Rattle.capture_recording.specs.declared.capturing.Beginning.TheVariants.{Given, Router}
 use Rattle.capture_recording.specs.declared.fault.CapturingFault.{CapturingFault}
 use Rattle.capture_recording.specs.declared.fault.CapturingFault.TheVariants.{Capture, Read, Line, Config, Unsaid, Write, Closed, Memory}
+use Rattle.capture_recording.specs.Ending.{IsSomeEnding}
 use Rattle.capture_recording.specs.FirstPackets.{FirstPackets}
 use Rattle.capture_recording.specs.Folds.{counts_of, areas_of, captured_of}
 use Rattle.capture_recording.specs.Said.{AppendsUpTo}
@@ -34,6 +36,19 @@ IsRecordingText bytes = (recording : RecordingValue) × IsText bytes recording
 abbrev pub IsFront : Beginning → List Step → List ℕ → Type 0
 IsFront (Given bytes) steps front = (front ≡ bytes.now) × IsRecordingText bytes.now
 IsFront (Router router) steps front = IsText front (captured_recording (captured_of router steps) (areas_of steps))
+
+-- the Area IDs of a recording's configuration
+abbrev pub areas_in : RecordingValue → List ℕ
+areas_in recording = map (λ area. area.id) recording.base.config.areas
+
+-- bytes that are the text of no other recording
+abbrev pub IsOnly : List ℕ → RecordingValue → Type 0
+IsOnly bytes recording = (other : RecordingValue) → IsText bytes other → recording ≡ other
+
+-- behind a beginning that is given, only LSAs of its areas are recorded
+abbrev pub IsLimit : Beginning → (areas : Option (List ℕ)) → Type 0
+IsLimit (Given bytes) areas = (recording : RecordingValue) → IsText bytes.now recording → areas ≡ Some (areas_in recording)
+IsLimit (Router router) areas = areas ≡ None
 
 -- the beginning and the lines were written
 pub record IsWritten (beginning : Beginning) (old new : Option (List ℕ)) (steps : List Step) (lines : List ℕ) : Type 0 where
@@ -70,8 +85,8 @@ all_notes beginning steps = notes_of steps ++ (unknown_of beginning steps ++ cou
 -- ---- the outcome
 
 -- all that came is recorded; E holds of where it ended, and S of what there was to say
-abbrev pub IsRecorded : Options → Beginning → (before after old new : Option (List ℕ)) → (E : Position → Type 0) → (S : List ℕ → Type 0) → Type 0
-IsRecorded options beginning before after old new E S = FirstPackets options before after (λ at steps lines.
+abbrev pub IsRecorded : Rules → Beginning → (before after old new : Option (List ℕ)) → (E : Position → Type 0) → (S : List ℕ → Type 0) → Type 0
+IsRecorded rules beginning before after old new E S = FirstPackets rules before after (λ at steps lines.
     E at × IsWritten beginning old new steps lines × S (all_notes beginning steps))
 
 -- the packets tell of no configuration of the router but one with this fault
@@ -80,15 +95,15 @@ HasConfigFault (Given bytes) steps fault = ⊥
 HasConfigFault (Router router) steps fault = config_fault_of (config_of (captured_of router steps) (areas_of steps)) ≡ Some fault
 
 -- nothing is recorded, for this fault of the configuration
-abbrev pub Lacks : Options → Beginning → (before after old new : Option (List ℕ)) → (E : Position → Type 0) → (S : List ℕ → Type 0) → ConfigFault → Type 0
-Lacks options beginning before after old new E S fault = FirstPackets options before after (λ at steps lines.
+abbrev pub Lacks : Rules → Beginning → (before after old new : Option (List ℕ)) → (E : Position → Type 0) → (S : List ℕ → Type 0) → ConfigFault → Type 0
+Lacks rules beginning before after old new E S fault = FirstPackets rules before after (λ at steps lines.
     E at × HasConfigFault beginning steps fault × Appends old new [] × S (notes_of steps ++ counts_text steps))
 
 -- all that came is recorded, unless the configuration is at fault
-abbrev pub IsRecordedOrLacks : Options → Beginning → (before after old new : Option (List ℕ)) → (E : Position → Type 0) → (S : List ℕ → Type 0) → Type 0
-IsRecordedOrLacks options beginning before after old new E S =
-    IsRecorded options beginning before after old new E S
-    ⊎ ((fault : ConfigFault) × Lacks options beginning before after old new E S fault)
+abbrev pub IsRecordedOrLacks : Rules → Beginning → (before after old new : Option (List ℕ)) → (E : Position → Type 0) → (S : List ℕ → Type 0) → Type 0
+IsRecordedOrLacks rules beginning before after old new E S =
+    IsRecorded rules beginning before after old new E S
+    ⊎ ((fault : ConfigFault) × Lacks rules beginning before after old new E S fault)
 
 -- the given beginning has this fault
 abbrev pub IsGivenFault : Beginning → LineFault → Type 0
@@ -96,32 +111,50 @@ IsGivenFault (Given bytes) fault = IsFaultOf bytes.now fault
 IsGivenFault (Router router) fault = ⊥
 
 -- the writing failed: a part was written, and not all
-abbrev pub IsRecordedPart : Options → Beginning → (before after old new told_before told : Option (List ℕ)) → Type 0
-IsRecordedPart options beginning before after old new told_before told = FirstPackets options before after (λ at steps lines.
+abbrev pub IsRecordedPart : Rules → Beginning → (before after old new told_before told : Option (List ℕ)) → Type 0
+IsRecordedPart rules beginning before after old new told_before told = FirstPackets rules before after (λ at steps lines.
     IsWrittenPart beginning old new steps lines × AppendsUpTo told_before told (notes_of steps))
 
 -- memory ran out behind some of the packets
-abbrev pub IsRecordedUpTo : Options → Beginning → (before old new told_before told : Option (List ℕ)) → Type 0
-IsRecordedUpTo options beginning before old new told_before told = (left : Option (List ℕ)) × FirstPackets options before left (λ at steps lines.
+abbrev pub IsRecordedUpTo : Rules → Beginning → (before old new told_before told : Option (List ℕ)) → Type 0
+IsRecordedUpTo rules beginning before old new told_before told = (left : Option (List ℕ)) × FirstPackets rules before left (λ at steps lines.
     (Appends old new [] ⊎ IsWrittenUpTo beginning old new steps lines) × AppendsUpTo told_before told (notes_of steps))
 
 -- what is answered, if not that all is recorded and said
-abbrev pub FaultOutcome : Options → Beginning → (before after old new told_before told : Option (List ℕ)) → CapturingFault → Type 0
-FaultOutcome options beginning before after old new told_before told (Capture kind place) =
-    IsRecordedOrLacks options beginning before after old new (λ at. Stops (error.Fault kind place) at after) (Appends told_before told)
-FaultOutcome options beginning before after old new told_before told Read =
-    IsRecordedOrLacks options beginning before after old new (λ _. Unit {0}) (Appends told_before told)
-FaultOutcome options beginning before after old new told_before told (Line fault) = IsGivenFault beginning fault × (after ≡ before) × (new ≡ old) × (told ≡ told_before)
-FaultOutcome options beginning before after old new told_before told (Config fault) =
-    Lacks options beginning before after old new (λ at. IsWhole at after) (Appends told_before told) fault
-FaultOutcome options beginning before after old new told_before told Unsaid =
-    IsRecordedOrLacks options beginning before after old new (λ _. Unit {0}) (AppendsPart told_before told)
-FaultOutcome options beginning before after old new told_before told Write = IsRecordedPart options beginning before after old new told_before told
-FaultOutcome options beginning before after old new told_before told Closed = IsRecordedPart options beginning before after old new told_before told
-FaultOutcome options beginning before after old new told_before told Memory = IsRecordedUpTo options beginning before old new told_before told
+abbrev pub FaultOutcome : Rules → Beginning → (before after old new told_before told : Option (List ℕ)) → CapturingFault → Type 0
+FaultOutcome rules beginning before after old new told_before told (Capture kind place) =
+    IsRecordedOrLacks rules beginning before after old new (λ at. Stops (error.Fault kind place) at after) (Appends told_before told)
+FaultOutcome rules beginning before after old new told_before told Read =
+    IsRecordedOrLacks rules beginning before after old new (λ at. Stops error.Read at after) (Appends told_before told)
+FaultOutcome rules beginning before after old new told_before told (Line fault) = IsGivenFault beginning fault × (after ≡ before) × (new ≡ old) × (told ≡ told_before)
+FaultOutcome rules beginning before after old new told_before told (Config fault) =
+    Lacks rules beginning before after old new (λ at. IsWhole at after) (Appends told_before told) fault
+FaultOutcome rules beginning before after old new told_before told Unsaid =
+    IsRecordedOrLacks rules beginning before after old new (λ at. IsSomeEnding at after) (AppendsPart told_before told)
+FaultOutcome rules beginning before after old new told_before told Write = IsRecordedPart rules beginning before after old new told_before told
+FaultOutcome rules beginning before after old new told_before told Closed = IsRecordedPart rules beginning before after old new told_before told
+FaultOutcome rules beginning before after old new told_before told Memory = IsRecordedUpTo rules beginning before old new told_before told
 
--- what each answer means
+-- what each answer means, by these rules
+abbrev pub RuledOutcome : Rules → Beginning → (before after old new told_before told : Option (List ℕ)) → Result (Unit {0}) CapturingFault → Type 0
+RuledOutcome rules beginning before after old new told_before told result =
+    MatchResult result (λ _. IsRecorded rules beginning before after old new (λ at. IsWhole at after) (Appends told_before told))
+    (FaultOutcome rules beginning before after old new told_before told)
+
+-- the beginning that was given has a fault
+abbrev pub IsLine : CapturingFault → Type 0
+IsLine (Capture kind place) = ⊥
+IsLine Read = ⊥
+IsLine (Line fault) = Unit {0}
+IsLine (Config fault) = ⊥
+IsLine Unsaid = ⊥
+IsLine Write = ⊥
+IsLine Closed = ⊥
+IsLine Memory = ⊥
+
+-- what each answer means; the rules do not count where the beginning has a fault
 abbrev pub Outcome : Options → Beginning → (before after old new told_before told : Option (List ℕ)) → Result (Unit {0}) CapturingFault → Type 0
 Outcome options beginning before after old new told_before told result =
-    MatchResult result (λ _. IsRecorded options beginning before after old new (λ at. IsWhole at after) (Appends told_before told))
-    (FaultOutcome options beginning before after old new told_before told)
+    (areas : Option (List ℕ))
+    × (IsLimit beginning areas ⊎ MatchResult result (λ _. ⊥) IsLine)
+    × RuledOutcome (record { options = options; areas = areas }) beginning before after old new told_before told result

@@ -1,7 +1,9 @@
--- Text that is kept in pieces.
-use Rattle.std.specs.Prelude.{ℕ, ◌≡◌, ◌≤◌, ◌+◌, ◌++◌, List, take, drop, length}
+-- Text that is kept in parts.
+use Rattle.std.specs.Prelude.{ℕ, zero, suc, ◌≡◌, ◌≤◌, ◌+◌, ◌++◌, List, [], take, drop, length, codes}
 use Rattle.std.specs.List.{All, flat_map}
 use Rattle.hex.specs.Hex.{encode_lower}
+use Rattle.capture_recording.specs.declared.piece.Part.{Part}
+use Rattle.capture_recording.specs.declared.piece.Part.TheVariants.{Text, Seconds}
 use Rattle.capture_recording.specs.declared.piece.Piece.{Piece}
 
 abbrev pub part : List ℕ → (start count : ℕ) → List ℕ
@@ -11,16 +13,32 @@ part bytes start count = take count (drop start bytes)
 abbrev pub piece_text : List ℕ → Piece → List ℕ
 piece_text bytes p = part bytes p.plain_start p.plain ++ encode_lower (part bytes p.digits_start p.pairs)
 
-abbrev pub text_of : List ℕ → List Piece → List ℕ
-text_of bytes pieces = flat_map (piece_text bytes) pieces
+-- the line of a second
+abbrev pub second_line : List ℕ
+second_line = codes "second\n"
+
+abbrev pub second_lines : ℕ → List ℕ
+second_lines zero = []
+second_lines (suc n) = second_line ++ second_lines n
+
+abbrev pub part_text : List ℕ → Part → List ℕ
+part_text bytes (Text piece) = piece_text bytes piece
+part_text bytes (Seconds count) = second_lines count
+
+abbrev pub text_of : List ℕ → List Part → List ℕ
+text_of bytes parts = flat_map (part_text bytes) parts
 
 -- its bytes are there
 pub record IsWithin (bytes : List ℕ) (p : Piece) : Type 0 where
   pub plain : p.plain_start + p.plain ≤ length bytes
   pub digits : p.digits_start + p.pairs ≤ length bytes
 
-abbrev pub AreWithin : List ℕ → List Piece → Type 0
-AreWithin bytes pieces = All (IsWithin bytes) pieces
+abbrev pub IsPartWithin : List ℕ → Part → Type 0
+IsPartWithin bytes (Text piece) = IsWithin bytes piece
+IsPartWithin bytes (Seconds count) = Unit {0}
+
+abbrev pub AreWithin : List ℕ → List Part → Type 0
+AreWithin bytes parts = All (IsPartWithin bytes) parts
 
 -- bytes were appended
 pub record Gains (old new : List ℕ) : Type 0 where

@@ -4,7 +4,7 @@ use Rattle.captures.specs.Runs.{Shown}
 use Rattle.datagrams.specs.Kept.{Kept}
 use Rattle.captured_lsas.specs.declared.heard.Heard.{Heard}
 use Rattle.captured_lsas.specs.declared.heard.Heard.TheVariants.{Other, Fault, Part, Whole}
-use Rattle.captured_lsas.specs.declared.options.Options.{Options}
+use Rattle.capture_recording.specs.Rules.{Rules}
 use Rattle.captured_lsas.specs.declared.taken.Taken.{Taken}
 use Rattle.captured_lsas.specs.Hearing.{IsHeard}
 use Rattle.captured_lsas.specs.Packets.{IsTaken, with_packet}
@@ -48,9 +48,9 @@ AreStepsTo old [] new = new ≡ old
 AreStepsTo old (step ∷ steps) new = (next : Past) × IsStep old step next × AreStepsTo next steps new
 
 -- nothing was heard
-abbrev pub begun : Options → Past
-begun options = record { parts = []; progress = start options }
+abbrev pub begun : Rules → Past
+begun rules = record { parts = []; progress = start rules.options rules.areas }
 
 -- the first packets of a capture come to this
-abbrev pub AreSteps : Options → List Step → Type 0
-AreSteps options steps = (past : Past) × AreStepsTo (begun options) steps past
+abbrev pub AreSteps : Rules → List Step → Type 0
+AreSteps rules steps = (past : Past) × AreStepsTo (begun rules) steps past

@@ -1,14 +1,16 @@
 //! A capture, recorded.
-ghost use Rattle.std.specs.Prelude.{IfNone, IfSome};
-ghost use Rattle.recording.specs.Faults.{IsFaultOf};
+ghost use Rattle.std.specs.Prelude.{◌≡◌, IfOk};
+ghost use Rattle.recording.specs.Recordings.{IsText};
 ghost use Rattle.capture_recording.specs.declared.capturing.Beginning.TheVariants.{Given, Router};
-ghost use Rattle.capture_recording.specs.Outputs.{IsRecordingText, Outcome};
+ghost use Rattle.capture_recording.specs.Outputs.{areas_in, IsOnly, IsRecordingText, Outcome, RuledOutcome};
 
 use crate::fault::CapturingFault;
-use crate::going::{Start, gather, stream};
+use crate::going::{gather, stream};
+use crate::start::Start;
 use crate::writing::write_out;
 use captured_lsas::Options;
-use recording::{LineFault, parse};
+use ospf_types::memory::Memory;
+use recording::{Recording, parse};
 use std::alloc::Global;
 use std::hash::RandomState;
 use std::io;
@@ -31,7 +33,7 @@ pub enum Beginning<'a> {
 
 /// Reads a capture, a pcap or a pcapng, and writes the recording of its OSPF LSAs.
 ///
-/// Behind a beginning that is given, the lines of a packet are written as soon as it is taken; in large pieces where
+/// Behind a beginning that is given, LSAs of areas that it does not have are left out, and the lines of a packet are written as soon as it is taken; in large pieces where
 /// more packets are at hand. A beginning that the capture tells is written at its end, and all lines behind it. What is
 /// at fault, what the capture does not tell of the router, and at last how much was found, is said to `faults`. Where
 /// that cannot be written, no more is said, and the capture is still recorded; the answer is `Unsaid`, whether or not
@@ -50,8 +52,11 @@ pub fn record_capture<R: io::Read, W: io::Write, F: io::Write>(
         (R.remaining input.old) (R.remaining input.new) (W.contents out.old) (W.contents out.new)
         (F.contents faults.old) (F.contents faults.new) result }
 {
-    let options = capturing.options;
-    let start = Start { hashing, options };
+    let start = Start {
+        hashing,
+        options: capturing.options,
+        areas: None,
+    };
     match capturing.beginning {
         Beginning::Given(bytes) => record_given(alloc, start, bytes, input, out, faults),
         Beginning::Router(router) => record_router(alloc, start, router, input, out, faults),
@@ -71,21 +76,39 @@ fn record_given<R: io::Read, W: io::Write, F: io::Write>(
         (R.remaining input.old) (R.remaining input.new) (W.contents out.old) (W.contents out.new)
         (F.contents faults.old) (F.contents faults.new) result }
 {
-    match fault_in(alloc, front) {
-        Some(fault) => Err(CapturingFault::Line(fault)),
-        None => record_behind(alloc, start, front, input, out, faults),
+    match parse(alloc, front) {
+        Ok(recording) => record_known(alloc, start, front, &recording, input, out, faults),
+        Err(fault) => Err(CapturingFault::Line(fault)),
     }
 }
 
-// Why the bytes are no recording.
-fn fault_in(alloc: Global, bytes: &[u8]) -> Option<LineFault>
-    ensures some { IfSome result (IsFaultOf bytes.now) }
-    ensures none { IfNone result (IsRecordingText bytes.now) }
+// Records a capture behind these bytes, which are this recording.
+fn record_known<R: io::Read, W: io::Write, F: io::Write>(
+    alloc: Global,
+    start: Start,
+    front: &[u8],
+    recording: &Recording,
+    input: &mut R,
+    out: &mut W,
+    faults: &mut F,
+) -> Result<(), CapturingFault>
+    ensures { IsText front.now recording.now → IsOnly front.now recording.now
+        → Outcome start.options (Given front.entry)
+        (R.remaining input.old) (R.remaining input.new) (W.contents out.old) (W.contents out.new)
+        (F.contents faults.old) (F.contents faults.new) result }
 {
-    match parse(alloc, bytes) {
-        Ok(_) => None,
-        Err(fault) => Some(fault),
+    match ids_of(alloc, recording) {
+        Ok(ids) => record_behind(alloc, start.with_areas(ids), front, input, out, faults),
+        Err(_) => Err(CapturingFault::Memory),
     }
+}
+
+// The Area IDs of the recording's configuration.
+fn ids_of(alloc: Global, recording: &Recording) -> Result<Vec<u32>, Memory>
+    ensures { IfOk result (λ ids. ids.items ≡ areas_in recording.now) }
+{
+    let areas = recording.config().areas.as_slice();
+    Ok(areas.iter().map(|area| area.id).collect(alloc)?)
 }
 
 // Records a capture behind these bytes, which are a recording.
@@ -97,7 +120,7 @@ fn record_behind<R: io::Read, W: io::Write, F: io::Write>(
     out: &mut W,
     faults: &mut F,
 ) -> Result<(), CapturingFault>
-    ensures { IsRecordingText front.now → Outcome start.options (Given front.entry)
+    ensures { IsRecordingText front.now → RuledOutcome start (Given front.entry)
         (R.remaining input.old) (R.remaining input.new) (W.contents out.old) (W.contents out.new)
         (F.contents faults.old) (F.contents faults.new) result }
 {
@@ -120,7 +143,7 @@ fn record_router<R: io::Read, W: io::Write, F: io::Write>(
     out: &mut W,
     faults: &mut F,
 ) -> Result<(), CapturingFault>
-    ensures { Outcome start.options (Router router)
+    ensures { RuledOutcome start (Router router)
         (R.remaining input.old) (R.remaining input.new) (W.contents out.old) (W.contents out.new)
         (F.contents faults.old) (F.contents faults.new) result }
 {

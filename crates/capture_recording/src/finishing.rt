@@ -1,16 +1,18 @@
 //! What is written and said once a capture was gone through.
 ghost use Rattle.std.specs.Prelude.{◌≡◌, ◌++◌, ℕ, List, Option, Some, OnOk, IfOk, IfErr, length, string_bytes};
 ghost use Rattle.std.specs.Io.KnownBytes.{Appends};
+ghost use Rattle.captured_config.specs.Facts.{facts_of};
 ghost use Rattle.captured_config.specs.Fronts.{captured_recording};
 ghost use Rattle.captured_config.specs.Lsas.{Captured};
-ghost use Rattle.captured_lsas.specs.declared.options.Options.{Options as OptionsValue};
+ghost use Rattle.capture_recording.specs.Rules.{Rules};
 ghost use Rattle.capture_lines.specs.Counts.{counts_line};
 ghost use Rattle.recording.specs.Recordings.{IsText};
 ghost use Rattle.capture_recording.specs.declared.capturing.Beginning.{Beginning};
 ghost use Rattle.capture_recording.specs.declared.capturing.Beginning.TheVariants.{Router};
 ghost use Rattle.capture_recording.specs.Going.{GoesThrough};
-ghost use Rattle.capture_recording.specs.Finishing.{IsBegun, IsBehind, IsLacking, IsNoFront, IsWhollyWritten, unknown_in};
-ghost use Rattle.capture_recording.specs.Outputs.{Outcome};
+ghost use Rattle.capture_recording.specs.Finishing.{IsBegun, IsBehind, IsLacking, IsNoFront, IsWhollyWritten, unknown_if};
+ghost use Rattle.capture_recording.specs.Gathering.{AreFactsOf};
+ghost use Rattle.capture_recording.specs.Outputs.{RuledOutcome};
 
 use crate::fault::CapturingFault;
 use crate::gathered::Gathered;
@@ -31,10 +33,10 @@ impl Kept {
         out: &mut W,
         faults: &mut F,
     ) -> Result<(), CapturingFault>
-        ensures { (options : OptionsValue) (router : ℕ) (before after told : Option (List ℕ))
-            → GoesThrough options (Some router) before told after (F.contents faults.old)
+        ensures { (rules : Rules) (router : ℕ) (before after told : Option (List ℕ))
+            → GoesThrough rules (Some router) before told after (F.contents faults.old)
             self.ended self.packed
-            → Outcome options (Router router) before after
+            → RuledOutcome rules (Router router) before after
             (W.contents out.old) (W.contents out.new) told (F.contents faults.new) result }
     {
         match front_of(alloc, &self.ended.session.gathered) {
@@ -51,10 +53,10 @@ impl Kept {
         out: &mut W,
         faults: &mut F,
     ) -> Result<(), CapturingFault>
-        ensures { (options : OptionsValue) (beginning : Beginning)
+        ensures { (rules : Rules) (beginning : Beginning)
             (before after told : Option (List ℕ))
-            → IsBehind options beginning before after told (F.contents faults.old) self front.now
-            → Outcome options beginning before after
+            → IsBehind rules beginning before after told (F.contents faults.old) self front.now
+            → RuledOutcome rules beginning before after
             (W.contents out.old) (W.contents out.new) told (F.contents faults.new) result }
     {
         match write_out(front.as_bytes(), out) {
@@ -69,11 +71,11 @@ impl Kept {
         out: &mut W,
         faults: &mut F,
     ) -> Result<(), CapturingFault>
-        ensures { (options : OptionsValue) (beginning : Beginning)
+        ensures { (rules : Rules) (beginning : Beginning)
             (before after first told : Option (List ℕ)) (front : List ℕ)
-            → IsBehind options beginning before after told (F.contents faults.old) self front
+            → IsBehind rules beginning before after told (F.contents faults.old) self front
             → Appends first (W.contents out.old) front
-            → Outcome options beginning before after first (W.contents out.new)
+            → RuledOutcome rules beginning before after first (W.contents out.new)
             told (F.contents faults.new) result }
     {
         match self.packed.write_to(out) {
@@ -90,11 +92,11 @@ impl Ended {
         out: &mut W,
         faults: &mut F,
     ) -> Result<(), CapturingFault>
-        ensures { (options : OptionsValue) (beginning : Beginning)
+        ensures { (rules : Rules) (beginning : Beginning)
             (before after first told : Option (List ℕ))
-            → IsBegun options beginning before after first (W.contents out.old)
+            → IsBegun rules beginning before after first (W.contents out.old)
             told (F.contents faults.old) self
-            → Outcome options beginning before after first (W.contents out.new)
+            → RuledOutcome rules beginning before after first (W.contents out.new)
             told (F.contents faults.new) result }
     {
         match write_out(self.session.lines.as_bytes(), out) {
@@ -105,11 +107,11 @@ impl Ended {
 
     // Says what the capture does not tell of the router, and how much was found.
     fn say_end<F: io::Write>(mut self, faults: &mut F) -> Result<(), CapturingFault>
-        ensures { (options : OptionsValue) (beginning : Beginning)
+        ensures { (rules : Rules) (beginning : Beginning)
             (before after first new told : Option (List ℕ))
-            → IsWhollyWritten options beginning before after first new
+            → IsWhollyWritten rules beginning before after first new
             told (F.contents faults.old) self
-            → Outcome options beginning before after first new
+            → RuledOutcome rules beginning before after first new
             told (F.contents faults.new) result }
     {
         match put_end(&self.session.gathered, &mut self.session.notes.text) {
@@ -128,10 +130,10 @@ impl Ended {
         fault: ConfigFault,
         faults: &mut F,
     ) -> Result<(), CapturingFault>
-        ensures { (options : OptionsValue) (router : ℕ)
+        ensures { (rules : Rules) (router : ℕ)
             (before after old told : Option (List ℕ)) (packed : List ℕ)
-            → IsLacking options router before after told (F.contents faults.old) self packed fault
-            → Outcome options (Router router) before after old old
+            → IsLacking rules router before after told (F.contents faults.old) self packed fault
+            → RuledOutcome rules (Router router) before after old old
             told (F.contents faults.new) result }
     {
         match put_counted(&self.session.gathered, &mut self.session.notes.text) {
@@ -147,9 +149,10 @@ impl Ended {
 
 // What a recording begins with, by what is known of the router.
 fn front_of(alloc: Global, gathered: &Gathered) -> Result<String, FrontFault>
-    ensures ok { (known : Captured) → gathered.now.config ≡ Some known → IfOk result (λ front.
+    ensures ok { (known : Captured) → gathered.now.config ≡ Some (facts_of known)
+        → IfOk result (λ front.
         IsText (string_bytes front) (captured_recording known gathered.now.areas)) }
-    ensures fault { (known : Captured) → gathered.now.config ≡ Some known
+    ensures fault { (known : Captured) → gathered.now.config ≡ Some (facts_of known)
         → IfErr result (IsNoFront known gathered.now.areas) }
 {
     let mut front = String::new(alloc);
@@ -164,8 +167,9 @@ fn front_of(alloc: Global, gathered: &Gathered) -> Result<String, FrontFault>
 
 // Appends what is said at the end.
 fn put_end(gathered: &Gathered, text: &mut String) -> Result<(), Memory>
-    ensures { OnOk result (string_bytes text.new ≡ string_bytes text.old
-        ++ (unknown_in gathered.now
+    ensures { (known : Option Captured) → AreFactsOf known gathered.now.config
+        → OnOk result (string_bytes text.new ≡ string_bytes text.old
+        ++ (unknown_if known gathered.now.areas
         ++ counts_line gathered.now.counts (length gathered.now.areas))) }
 {
     put_unknown_of(gathered, text)?;
@@ -174,8 +178,9 @@ fn put_end(gathered: &Gathered, text: &mut String) -> Result<(), Memory>
 
 // Appends what the capture does not tell of the router, if the recording begins with that.
 fn put_unknown_of(gathered: &Gathered, text: &mut String) -> Result<(), Memory>
-    ensures { OnOk result (string_bytes text.new ≡ string_bytes text.old ++ unknown_in
-        gathered.now) }
+    ensures { (known : Option Captured) → AreFactsOf known gathered.now.config
+        → OnOk result (string_bytes text.new ≡ string_bytes text.old
+        ++ unknown_if known gathered.now.areas) }
 {
     match &gathered.config {
         Some(config) => config.put_unknown(&gathered.areas, text),

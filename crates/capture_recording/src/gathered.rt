@@ -1,18 +1,20 @@
 //! What is kept of the packets of a capture.
-ghost use Rattle.std.specs.Prelude.{◌≡◌, ℕ, OnOk, IfOk, option_map};
+ghost use Rattle.std.specs.Prelude.{◌≡◌, ℕ, OnOk, IfOk, Option, option_map};
 ghost use Rattle.std.specs.List.{fold};
+ghost use Rattle.captured_config.specs.Facts.{AreFacts};
+ghost use Rattle.captured_config.specs.Lsas.{Captured};
 ghost use Rattle.captured_lsas.specs.Hearing.{IsHeard};
 ghost use Rattle.capture_lines.specs.Counts.{with_heard};
 ghost use Rattle.capture_recording.specs.Folds.{with_installed, with_taken_area, with_taken_lsas};
-ghost use Rattle.capture_recording.specs.Gathering.{HearsOnly, NotesOnly, first_gathered};
+ghost use Rattle.capture_recording.specs.Gathering.{AreFactsOf, HearsOnly, NotesOnly, first_gathered};
 
+use crate::start::Start;
 use capture_lines::Counts;
 use captured_config::{CapturedConfig, SeenAreas};
-use captured_lsas::{Heard, Listener, Options, Recorded, Recorder, Taken};
+use captured_lsas::{Heard, Listener, Recorded, Recorder, Taken};
 use captures::Packet;
 use ospf_types::memory::Memory;
 use std::alloc::Global;
-use std::hash::RandomState;
 
 /// What is kept of the packets so far.
 #[derive(Drop)]
@@ -27,17 +29,17 @@ pub(crate) struct Gathered {
 
 impl Gathered {
     /// No packet came.
-    pub(crate) fn new(
-        alloc: Global,
-        hashing: RandomState,
-        options: Options,
-        router: Option<u32>,
-    ) -> Gathered
-        ensures { result ≡ first_gathered options router }
+    pub(crate) fn new(alloc: Global, start: Start, router: Option<u32>) -> Gathered
+        ensures { result ≡ first_gathered start router }
     {
+        let Start {
+            hashing,
+            options,
+            areas,
+        } = start;
         Gathered {
             listener: Listener::new(alloc),
-            recorder: Recorder::new(alloc, hashing, options),
+            recorder: Recorder::new(alloc, hashing, options, areas),
             counts: Counts::default(),
             areas: SeenAreas::new(alloc, hashing),
             config: router.map(|router| CapturedConfig::new(alloc, router)),
@@ -64,8 +66,9 @@ impl Gathered {
     /// Notes the area of a packet without a fault, and its LSAs.
     pub(crate) fn note(&mut self, alloc: Global, taken: &Taken) -> Result<(), Memory>
         ensures areas { OnOk result (self.new.areas ≡ with_taken_area self.old.areas taken.now) }
-        ensures config { OnOk result
-            (self.new.config ≡ option_map (λ c. with_taken_lsas c taken.now) self.old.config) }
+        ensures config { OnOk result ((known : Option Captured)
+            → AreFactsOf known self.old.config
+            → AreFactsOf (option_map (λ c. with_taken_lsas c taken.now) known) self.new.config) }
         ensures others { NotesOnly self.old self.new }
     {
         match taken {
@@ -85,8 +88,9 @@ fn note_lsas(
     area: u32,
     recorded: &[Recorded],
 ) -> Result<(), Memory>
-    ensures { OnOk result
-        (config.new ≡ option_map (λ c. fold (with_installed area) c recorded.now) config.old) }
+    ensures { OnOk result ((known : Option Captured) → AreFactsOf known config.old
+        → AreFactsOf (option_map (λ c. fold (with_installed area) c recorded.now) known)
+        config.new) }
 {
     match config {
         Some(config) => note_each(config, alloc, area, recorded),
@@ -100,7 +104,8 @@ fn note_each(
     area: u32,
     recorded: &[Recorded],
 ) -> Result<(), Memory>
-    ensures { OnOk result (config.new ≡ fold (with_installed area) config.old recorded.now) }
+    ensures { OnOk result ((c : Captured) → AreFacts c config.old
+        → AreFacts (fold (with_installed area) c recorded.now) config.new) }
 {
     for one in recorded {
         note_one(config, alloc, area, one)?;
@@ -114,11 +119,13 @@ fn note_one(
     area: u32,
     recorded: &Recorded,
 ) -> Result<(), Memory>
-    ensures { OnOk result (config.new ≡ with_installed area config.old recorded.now) }
+    ensures { OnOk result ((c : Captured) → AreFacts c config.old
+        → AreFacts (with_installed area c recorded.now) config.new) }
 {
     match recorded {
         Recorded::Install { lsa, .. } => config.note(alloc, area, lsa),
         Recorded::Repeated => Ok(()),
+        Recorded::OtherArea { .. } => Ok(()),
         Recorded::Fault(_) => Ok(()),
         Recorded::Cut(_) => Ok(()),
     }

@@ -9,20 +9,11 @@ use crate::fault::CapturingFault;
 use crate::packed_text::PackedText;
 use crate::session::Session;
 use crate::source::Source;
+use crate::start::Start;
 use crate::writing::{pack_many, write_due};
-use captured_lsas::Options;
 use ospf_types::memory::Memory;
 use std::alloc::Global;
-use std::hash::RandomState;
 use std::io;
-
-/// What a recording starts with.
-#[derive(Clone, Copy)]
-pub(crate) struct Start {
-    /// The key of its maps.
-    pub(crate) hashing: RandomState,
-    pub(crate) options: Options,
-}
 
 /// A capture that was gone through.
 #[derive(Drop)]
@@ -46,13 +37,13 @@ pub(crate) fn gather<R: io::Read, F: io::Write>(
     input: &mut R,
     faults: &mut F,
 ) -> Result<Kept, Memory>
-    ensures ok { IfOk result (λ kept. GoesThrough start.options (Some router)
+    ensures ok { IfOk result (λ kept. GoesThrough start (Some router)
         (R.remaining input.old) (F.contents faults.old)
         (R.remaining input.new) (F.contents faults.new) kept.ended kept.packed) }
-    ensures err { OnErr result (IsGatheredUpTo start.options (R.remaining input.old)
+    ensures err { OnErr result (IsGatheredUpTo start (R.remaining input.old)
         (F.contents faults.old) (F.contents faults.new)) }
 {
-    let mut session = Session::new(alloc, start.hashing, start.options, Some(router));
+    let mut session = Session::new(alloc, start, Some(router));
     let mut source = Source::new(alloc)?;
     let mut packed = PackedText::new(alloc);
     for _ in 0..u64::MAX {
@@ -64,9 +55,8 @@ pub(crate) fn gather<R: io::Read, F: io::Write>(
             }
         }
     }
-    let ending = Ending::Unread;
-    let ended = Ended { session, ending };
-    Ok(Kept { ended, packed })
+    // proof: no input has so many packets.
+    Err(Memory)
 }
 
 /// Goes through a capture, and writes the lines of its packets: behind each packet, and in large pieces where the
@@ -80,13 +70,13 @@ pub(crate) fn stream<R: io::Read, W: io::Write, F: io::Write>(
 ) -> Result<Ended, CapturingFault>
     ensures ok { IfOk result (λ ended. (written : List ℕ)
         × Appends (W.contents out.old) (W.contents out.new) written
-        × GoesThrough start.options None (R.remaining input.old) (F.contents faults.old)
+        × GoesThrough start None (R.remaining input.old) (F.contents faults.old)
         (R.remaining input.new) (F.contents faults.new) ended written) }
-    ensures err { IfErr result (StreamsPart start.options
+    ensures err { IfErr result (StreamsPart start
         (R.remaining input.old) (R.remaining input.new) (W.contents out.old) (W.contents out.new)
         (F.contents faults.old) (F.contents faults.new)) }
 {
-    let mut session = Session::new(alloc, start.hashing, start.options, None);
+    let mut session = Session::new(alloc, start, None);
     let mut source = Source::new(alloc)?;
     for _ in 0..u64::MAX {
         match source.hand_next(alloc, input, &mut session, faults)? {
@@ -94,6 +84,6 @@ pub(crate) fn stream<R: io::Read, W: io::Write, F: io::Write>(
             Some(ending) => return Ok(Ended { session, ending }),
         }
     }
-    let ending = Ending::Unread;
-    Ok(Ended { session, ending })
+    // proof: no input has so many packets.
+    Err(CapturingFault::Memory)
 }

@@ -14,6 +14,7 @@ mod pieces;
 mod runs;
 mod session;
 mod source;
+mod start;
 mod unpacking;
 mod writing;
 

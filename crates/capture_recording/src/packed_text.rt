@@ -1,21 +1,23 @@
 //! Text in less memory.
 
-ghost use Rattle.std.specs.Prelude.{◌≡◌, ◌≤◌, ◌%◌, ◌++◌, [], length, OnOk, OnErr};
+ghost use Rattle.std.specs.Prelude.{◌≡◌, ◌≤◌, ◌<◌, ◌%◌, ◌++◌, [], length, take, ℕ, List, IfOk, IfSome, OnOk, OnErr};
 ghost use Rattle.capture_recording.specs.Digits.{AreDigits};
+ghost use Rattle.capture_recording.specs.Packed.{second_lines, AreWithin, IsWithin};
 
-use crate::piece::Piece;
+use crate::piece::{Part, Piece};
 use crate::pieces::append_piece;
-use crate::runs::run_of;
+use crate::runs::{run_of, seconds_in};
 use std::alloc::{AllocError, Global};
 use std::marker::Model;
 
-/// Text in which many lines begin alike and have many digits of hexadecimal numbers. It is kept in pieces: of each, some
-/// characters, which are kept once where the piece before begins with them too, and then digits by two in a byte.
+/// Text in which many lines begin alike and have many digits of hexadecimal numbers, and others only tell of a second. It is
+/// kept in parts: of each, some characters, which are kept once where the part before begins with them too, and then digits
+/// by two in a byte; or how many seconds there are.
 #[derive(Drop)]
 pub(crate) struct PackedText {
     pub(crate) alloc: Global,
     pub(crate) bytes: Vec<u8>,
-    pub(crate) pieces: Vec<Piece>,
+    pub(crate) parts: Vec<Part>,
 }
 
 /// Contracts see the text.
@@ -25,9 +27,9 @@ impl Model for PackedText {
 
     ghost Value = { List ℕ };
 
-    ghost view = { λ p. text_of p.bytes.items p.pieces.items };
+    ghost view = { λ p. text_of p.bytes.items p.parts.items };
 
-    ghost invariant = { λ p. AreWithin p.bytes.items p.pieces.items };
+    ghost invariant = { λ p. AreWithin p.bytes.items p.parts.items };
 }
 
 impl PackedText {
@@ -38,7 +40,7 @@ impl PackedText {
         PackedText {
             alloc,
             bytes: Vec::new(alloc),
-            pieces: Vec::new(alloc),
+            parts: Vec::new(alloc),
         }
     }
 
@@ -48,12 +50,47 @@ impl PackedText {
     {
         let mut rest = text;
         while !rest.is_empty() {
-            let run = run_of(rest);
-            let length = run.plain + run.digits;
-            self.push_piece(&rest[..run.plain], &rest[run.plain..length])?;
+            let length = self.push_front(rest)?;
             rest = &rest[length..];
         }
         Ok(())
+    }
+
+    // Appends a front of the text, and returns how long it is.
+    fn push_front(&mut self, text: &[u8]) -> Result<usize, AllocError>
+        requires { 0 < length text.now }
+        ensures some { IfOk result (λ size. 0 < size) }
+        ensures within { IfOk result (λ size. size ≤ length text.now) }
+        ensures pushed { IfOk result (λ size. self.new ≡ self.old ++ take size text.now) }
+    {
+        let seconds = seconds_in(text);
+        if seconds > 0 {
+            self.push_seconds(seconds)?;
+            return Ok(7 * seconds as usize);
+        }
+        self.push_run(text)
+    }
+
+    // Appends so many lines of seconds. If memory runs out, nothing changes.
+    fn push_seconds(&mut self, seconds: u16) -> Result<(), AllocError>
+        ensures pushed { OnOk result (self.new ≡ self.old ++ second_lines seconds) }
+        ensures unchanged { OnErr result (self.new ≡ self.old) }
+    {
+        self.parts.push(Part::Seconds(seconds))?;
+        Ok(())
+    }
+
+    // Appends the characters and the digits that the text begins with, and returns how many.
+    fn push_run(&mut self, text: &[u8]) -> Result<usize, AllocError>
+        requires { 0 < length text.now }
+        ensures some { IfOk result (λ size. 0 < size) }
+        ensures within { IfOk result (λ size. size ≤ length text.now) }
+        ensures pushed { IfOk result (λ size. self.new ≡ self.old ++ take size text.now) }
+    {
+        let run = run_of(text);
+        let size = run.plain + run.digits;
+        self.push_piece(&text[..run.plain], &text[run.plain..size])?;
+        Ok(size)
     }
 
     // Appends characters, and then digits. If memory runs out, nothing changes.
@@ -66,8 +103,9 @@ impl PackedText {
         ensures unchanged { OnErr result (self.new ≡ self.old) }
     {
         let start = self.bytes.len();
-        match append_piece(&mut self.bytes, self.pieces.last().copied(), plain, digits) {
-            Ok(piece) => match self.pieces.push(piece) {
+        let last = last_piece(self.parts.as_slice());
+        match append_piece(&mut self.bytes, last, plain, digits) {
+            Ok(piece) => match self.parts.push(Part::Text(piece)) {
                 Ok(()) => Ok(()),
                 Err(_) => {
                     self.bytes.truncate(start);
@@ -79,5 +117,15 @@ impl PackedText {
                 Err(error)
             }
         }
+    }
+}
+
+// The last part, if it is characters and digits.
+fn last_piece(parts: &[Part]) -> Option<Piece>
+    ensures { (bytes : List ℕ) → AreWithin bytes parts.now → IfSome result (IsWithin bytes) }
+{
+    match parts.last() {
+        Some(Part::Text(piece)) => Some(*piece),
+        _ => None,
     }
 }

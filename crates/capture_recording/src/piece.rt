@@ -1,4 +1,13 @@
-/// Where the characters and the digits of a piece stand.
+/// A part of a packed text.
+#[derive(Clone, Copy)]
+pub(crate) enum Part {
+    /// Characters, and then digits.
+    Text(Piece),
+    /// So many lines that each tell of a second.
+    Seconds(u16),
+}
+
+/// Where the characters and the digits of a part stand.
 #[derive(Clone, Copy)]
 pub(crate) struct Piece {
     pub(crate) plain_start: u32,

@@ -1,13 +1,17 @@
 //! How a text goes on: characters, and digits of hexadecimal numbers.
 
-ghost use Rattle.std.specs.Prelude.{◌≡◌, ◌≤◌, ◌<◌, ◌+◌, ◌%◌, drop, length, take};
+ghost use Rattle.std.specs.Prelude.{◌≡◌, ◌≤◌, ◌<◌, ◌+◌, ◌*◌, ◌%◌, drop, length, take, true};
 ghost use Rattle.capture_recording.specs.Digits.{is_digit as is_digit_test, AreDigits};
+ghost use Rattle.capture_recording.specs.Packed.{second_line, second_lines};
 
 /// So many digits in a row are kept by two in a byte.
 const FEWEST_DIGITS: usize = 16;
 
 /// No more characters, and no more pairs of digits, stand in one piece.
 const MOST: usize = 65_535;
+
+/// No more seconds stand in one part: some 64 KiB of text.
+const MOST_SECONDS: usize = 9_000;
 
 /// What a text begins with: characters, and then digits.
 #[derive(Clone, Copy)]
@@ -39,14 +43,35 @@ pub(crate) fn run_of(text: &[u8]) -> Run
     Run { plain, digits }
 }
 
-// How many characters stand before many digits in a row.
+/// How many lines of seconds stand in front.
+pub(crate) fn seconds_in(text: &[u8]) -> u16
+    ensures within { 7 * result ≤ length text.now }
+    ensures lines { take (7 * result) text.now ≡ second_lines result }
+{
+    let most = (text.len() / 7).min(MOST_SECONDS);
+    for count in 0..most {
+        if !is_second(&text[7 * count..]) {
+            return count as u16;
+        }
+    }
+    most as u16
+}
+
+// Returns true if the line of a second stands in front.
+fn is_second(text: &[u8]) -> bool
+    ensures { result ≡ true → take 7 text.now ≡ second_line }
+{
+    text.starts_with(b"second\n")
+}
+
+// How many characters stand before many digits in a row, or before the line of a second.
 fn plain_in(text: &[u8]) -> usize
     ensures within { result ≤ length text.now }
     ensures few { result ≤ 65535 }
 {
     let most = text.len().min(MOST);
     for place in 0..most {
-        if digits_in(&text[place..]) >= FEWEST_DIGITS {
+        if digits_in(&text[place..]) >= FEWEST_DIGITS || is_second(&text[place..]) {
             return place;
         }
     }

@@ -5,12 +5,12 @@ ghost use Rattle.capture_recording.specs.Gathering.{TakesPacket, TakesPayload, I
 
 use crate::gathered::Gathered;
 use crate::notes::Notes;
+use crate::start::Start;
 use capture_lines::{put_fault_note, put_notes, put_taken};
-use captured_lsas::{Heard, Options};
+use captured_lsas::Heard;
 use captures::Packet;
 use ospf_types::memory::Memory;
 use std::alloc::Global;
-use std::hash::RandomState;
 
 /// What came of the packets so far.
 #[derive(Drop)]
@@ -23,16 +23,11 @@ pub(crate) struct Session {
 
 impl Session {
     /// No packet came.
-    pub(crate) fn new(
-        alloc: Global,
-        hashing: RandomState,
-        options: Options,
-        router: Option<u32>,
-    ) -> Session
-        ensures { IsFirstSession options router result }
+    pub(crate) fn new(alloc: Global, start: Start, router: Option<u32>) -> Session
+        ensures { IsFirstSession start router result }
     {
         Session {
-            gathered: Gathered::new(alloc, hashing, options, router),
+            gathered: Gathered::new(alloc, start, router),
             lines: String::new(alloc),
             notes: Notes::new(alloc),
         }

@@ -1,7 +1,7 @@
 //! Where the packets come from.
 ghost use Rattle.std.specs.Prelude.{◌≡◌, IfOk, OnErr};
 ghost use Rattle.capture_recording.specs.Ending.{first_position};
-ghost use Rattle.capture_recording.specs.Going.{HandsNext};
+ghost use Rattle.capture_recording.specs.Going.{HandsNext, IsDue};
 
 use crate::ending::Ending;
 use crate::session::Session;
@@ -39,6 +39,8 @@ impl Source {
         session: &mut Session,
         faults: &mut F,
     ) -> Result<Option<Ending>, Memory>
+        // No line is held back where the input has to be read for the next packet.
+        requires due { IsDue self.old.reader session.old }
         ensures ok { IfOk result (HandsNext self.old.reader (R.remaining input.old)
             self.new.reader (R.remaining input.new)
             session.old session.new (F.contents faults.old) (F.contents faults.new)) }

@@ -1,12 +1,12 @@
 //! Packed text, written.
 ghost use Rattle.std.specs.Prelude.{◌≡◌, ◌++◌, OnOk, IfErr};
 ghost use Rattle.std.specs.Io.KnownBytes.{Appends};
-ghost use Rattle.capture_recording.specs.Packed.{piece_text, text_of, IsWithin, AreWithin};
+ghost use Rattle.capture_recording.specs.Packed.{part_text, piece_text, second_lines, text_of, IsPartWithin, IsWithin, AreWithin};
 ghost use Rattle.capture_recording.specs.Said.{WritesPart};
 
 use crate::fault::CapturingFault;
 use crate::packed_text::PackedText;
-use crate::piece::Piece;
+use crate::piece::{Part, Piece};
 use crate::writing::{write_many, write_out};
 use ospf_types::memory::Memory;
 use std::alloc::Global;
@@ -18,31 +18,31 @@ impl PackedText {
         ensures ok { OnOk result (Appends (W.contents out.old) (W.contents out.new) self.now) }
         ensures err { IfErr result (WritesPart (W.contents out.old) (W.contents out.new) self.now) }
     {
-        write_pieces(
+        write_parts(
             self.alloc,
             self.bytes.as_slice(),
-            self.pieces.as_slice(),
+            self.parts.as_slice(),
             out,
         )
     }
 }
 
-// Writes the texts of the pieces.
-fn write_pieces<W: io::Write>(
+// Writes the texts of the parts.
+fn write_parts<W: io::Write>(
     alloc: Global,
     bytes: &[u8],
-    pieces: &[Piece],
+    parts: &[Part],
     out: &mut W,
 ) -> Result<(), CapturingFault>
-    requires { AreWithin bytes.now pieces.now }
+    requires { AreWithin bytes.now parts.now }
     ensures ok { OnOk result (Appends (W.contents out.old) (W.contents out.new)
-        (text_of bytes.now pieces.now)) }
+        (text_of bytes.now parts.now)) }
     ensures err { IfErr result (WritesPart (W.contents out.old) (W.contents out.new)
-        (text_of bytes.now pieces.now)) }
+        (text_of bytes.now parts.now)) }
 {
     let mut text = Vec::new(alloc);
-    for place in 0..pieces.len() {
-        match put_piece(alloc, bytes, &pieces[place], &mut text) {
+    for place in 0..parts.len() {
+        match put_part(alloc, bytes, &parts[place], &mut text) {
             Ok(()) => {}
             Err(_) => return Err(CapturingFault::Memory),
         }
@@ -52,6 +52,27 @@ fn write_pieces<W: io::Write>(
         }
     }
     write_out(text.as_slice(), out)
+}
+
+// Appends the text of the part.
+fn put_part(alloc: Global, bytes: &[u8], part: &Part, text: &mut Vec<u8>) -> Result<(), Memory>
+    requires { IsPartWithin bytes.now part.now }
+    ensures { OnOk result (text.new.items ≡ text.old.items ++ part_text bytes.now part.now) }
+{
+    match part {
+        Part::Text(piece) => put_piece(alloc, bytes, piece, text),
+        Part::Seconds(count) => put_seconds(*count, text),
+    }
+}
+
+// Appends so many lines of seconds.
+fn put_seconds(count: u16, text: &mut Vec<u8>) -> Result<(), Memory>
+    ensures { OnOk result (text.new.items ≡ text.old.items ++ second_lines count) }
+{
+    for _ in 0..count {
+        text.extend_from_slice(b"second\n")?;
+    }
+    Ok(())
 }
 
 // Appends the text of the piece.

@@ -1,5 +1,5 @@
 //! The recording, as it is written.
-ghost use Rattle.std.specs.Prelude.{◌≡◌, ◌⊎◌, OnOk, OnErr, IfErr, string_bytes};
+ghost use Rattle.std.specs.Prelude.{◌≡◌, ◌⊎◌, [], false, OnOk, OnErr, IfErr, string_bytes};
 ghost use Rattle.std.specs.Io.KnownBytes.{Appends};
 ghost use Rattle.replay.specs.Writing.{AppendsPart};
 ghost use Rattle.capture_recording.specs.Said.{Packs, WritesSome};
@@ -36,6 +36,8 @@ pub(crate) fn write_due<W: io::Write>(
 ) -> Result<(), CapturingFault>
     ensures ok { OnOk result (WritesSome (W.contents out.old) (W.contents out.new)
         (string_bytes lines.old) (string_bytes lines.new)) }
+    // No line is held back while no packet is at hand.
+    ensures due { OnOk result (is_at_hand ≡ false → string_bytes lines.new ≡ []) }
     ensures err { OnErr result (AppendsPart (W.contents out.old) (W.contents out.new)
         (string_bytes lines.old)) }
     ensures fault { IfErr result (λ e. (e ≡ capturing_fault.Write)

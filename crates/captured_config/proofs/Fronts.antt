@@ -1,5 +1,5 @@
 -- The beginning of a recording, as a recording.
-use Rattle.std.proofs.Common.{◌≡◌, ◌∙◌, ℕ, false, List, [], ◌∷◌, All, None, map, refl, sym, ap, subst}
+use Rattle.std.proofs.Common.{◌≡◌, ◌∙◌, ℕ, false, List, [], ◌∷◌, All, None, Result, Ok, Err, OnOk, map, refl, sym, ap, subst}
 use Rattle.std.specs.List.Sorted.{IsStrictlySortedBy}
 use Rattle.std.specs.Ordering.{nat_cmp}
 use Rattle.std.proofs.lemmas.List.Elements.{All-nil, All-cons}
@@ -13,7 +13,7 @@ use Rattle.event_state.specs.BaseFaults.{unfit_of, has_overfull_area}
 use Rattle.event_state.specs.Steps.{standard_limits}
 use Rattle.recording.specs.declared.version.Version.TheVariants.{One}
 use Rattle.recording.specs.Forms.{IsForm}
-use Rattle.recording.specs.Recordings.{IsText, IsBaseOrdered, AreByNetworks, HasKind, HasWholeLsa, IsLineIn, IsWhole, form_of, forms_of, front_forms, text_of}
+use Rattle.recording.specs.Recordings.{RecordingValue, IsText, IsBaseOrdered, AreByNetworks, HasKind, HasWholeLsa, IsLineIn, IsWhole, form_of, forms_of, front_forms, text_of}
 use Rattle.recording.proofs.BaseSound.{ordered_sound}
 use Rattle.recording.proofs.Pieces.{Appended, appended_more}
 use Rattle.captured_config.specs.Areas.{ascending}
@@ -21,8 +21,11 @@ use Rattle.captured_config.specs.Lsas.{Captured}
 use Rattle.captured_config.specs.declared.found.Found.{Found}
 use Rattle.captured_config.specs.Interfaces.{interfaces_in}
 use Rattle.captured_config.specs.Configs.{area_of, config_of, config_with}
-use Rattle.captured_config.specs.Fronts.{captured_recording, interface_event, interface_forms, recording_with}
+use Rattle.captured_config.specs.Facts.{AreFacts, Facts, facts_in, facts_of}
+use Rattle.captured_config.specs.Finding.{config_by, interfaces_by}
+use Rattle.captured_config.specs.Fronts.{HasText, captured_recording, interface_event, interface_forms, recording_by, recording_with}
 use Rattle.captured_config.proofs.Ascending.{ascending_sorted}
+use Rattle.captured_config.proofs.KeptFacts.{same_config, same_interfaces}
 
 -- ---- the text
 
@@ -95,12 +98,24 @@ is_text c ids interfaces sorted sound forms =
       };
     }
 
-pub front_text : (c : Captured) (areas ids again : List ℕ) (config : Config) (found : Found) (listed : List (ℕ × Interface)) → ids ≡ ascending areas → again ≡ ascending areas → config ≡ config_with c ids → config_fault_of (config_with c ids) ≡ None
-    → found ≡ interfaces_in c.router c.lsas again → listed ≡ found.interfaces → All IsForm (forms_of (recording_with config listed))
-    → IsText (text_of (captured_recording c areas)) (captured_recording c areas)
-front_text c areas ids again config found listed in_order once_more is sound all same forms =
-    let lists : listed ≡ (interfaces_in c.router c.lsas (ascending areas)).interfaces = same ∙ ap (λ (f : Found). f.interfaces) all ∙ ap (λ (ks : List ℕ). (interfaces_in c.router c.lsas ks).interfaces) once_more in
-    let configs : config ≡ config_of c areas = is ∙ ap (config_with c) in_order in
-    let legal : All IsForm (forms_of (recording_with (config_of c areas) listed)) = subst (λ (k : Config). All IsForm (forms_of (recording_with k listed))) configs forms in
-    let whole : All IsForm (forms_of (captured_recording c areas)) = subst (λ (xs : List (ℕ × Interface)). All IsForm (forms_of (recording_with (config_of c areas) xs))) lists legal in
-    is_text c (ascending areas) (interfaces_in c.router c.lsas (ascending areas)).interfaces (ascending_sorted areas) (subst (λ (ks : List ℕ). config_fault_of (config_with c ks) ≡ None) in_order sound) whole
+-- ---- what the facts tell is what the LSAs tell
+
+module _ (c : Captured) (areas ids : List ℕ) (facts : Facts) (are : AreFacts c facts) (in_order : ids ≡ ascending areas) where
+  pub same_by : config_by facts ids ≡ config_of c areas
+  same_by = ap (λ (f : Facts). config_by f ids) are ∙ ap (config_by (facts_of c)) in_order ∙ same_config c (ascending areas)
+
+  pub is_captured : recording_by facts ids ≡ captured_recording c areas
+  is_captured =
+      let found : interfaces_by facts.lists ids ≡ interfaces_in c.router c.lsas (ascending areas) =
+      ap (λ (f : Facts). interfaces_by f.lists ids) are ∙ ap (interfaces_by (facts_in c.router c.lsas)) in_order ∙ same_interfaces c.router c.lsas (ascending areas) in
+      ap (λ (k : Config). recording_with k (interfaces_by facts.lists ids).interfaces) same_by ∙ ap (λ (f : Found). recording_with (config_of c areas) f.interfaces) found
+
+  pub front_text : config_fault_of (config_by facts ids) ≡ None → All IsForm (forms_of (recording_by facts ids)) → HasText (captured_recording c areas)
+  front_text sound forms =
+      is_text c (ascending areas) (interfaces_in c.router c.lsas (ascending areas)).interfaces (ascending_sorted areas)
+      (subst (λ (k : Config). config_fault_of k ≡ None) same_by sound)
+      (subst (λ (r : RecordingValue). All IsForm (forms_of r)) is_captured forms)
+
+pub both_ok : {T E P Q R : Type 0} (r : Result T E) → (P → Q → R) → OnOk r P → OnOk r Q → OnOk r R
+both_ok (Ok x) f p q = f p q
+both_ok (Err e) f p q = tt

@@ -1,3 +1,6 @@
 mod Ascending
 mod Written
+mod Joining
+mod Neighbours
+mod KeptFacts
 mod Fronts

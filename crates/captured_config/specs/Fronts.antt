@@ -13,6 +13,8 @@ use Rattle.captured_config.specs.Areas.{ascending}
 use Rattle.captured_config.specs.Lsas.{Captured}
 use Rattle.captured_config.specs.Interfaces.{interfaces_in}
 use Rattle.captured_config.specs.Configs.{config_of}
+use Rattle.captured_config.specs.Facts.{Facts}
+use Rattle.captured_config.specs.Finding.{config_by, interfaces_by}
 
 -- an interface comes
 abbrev pub interface_event : ℕ × Interface → Line
@@ -32,3 +34,7 @@ recording_with config interfaces = recording_of One (bare config) (map interface
 -- the configuration with the areas that were seen, and the router's interfaces in them
 abbrev pub captured_recording : Captured → (areas : List ℕ) → RecordingValue
 captured_recording c areas = recording_with (config_of c areas) (interfaces_in c.router c.lsas (ascending areas)).interfaces
+
+-- by the facts that are kept
+abbrev pub recording_by : Facts → (ids : List ℕ) → RecordingValue
+recording_by f ids = recording_with (config_by f ids) (interfaces_by f.lists ids).interfaces

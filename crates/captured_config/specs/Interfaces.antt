@@ -5,9 +5,8 @@ use Rattle.ospf_types.specs.declared.config.Interface.{Interface}
 use Rattle.ospf_types.specs.declared.lsa.Link.{Link}
 use Rattle.ospf_types.specs.declared.lsa.LinkKind.{LinkKind}
 use Rattle.ospf_types.specs.declared.lsa.LinkKind.TheVariants as kind
-use Rattle.captured_config.specs.declared.area_lsa.AreaLsa.{AreaLsa}
 use Rattle.captured_config.specs.declared.found.Found.{Found}
-use Rattle.captured_config.specs.Lsas.{links_in}
+use Rattle.captured_config.specs.Lsas.{AreaLsa, links_in}
 
 -- ---- links
 
@@ -78,15 +77,15 @@ abbrev pub is_new : (area : ℕ) → Found → Link → Bool
 is_new area f l = is_attached l.kind && not (has_address area l.detail f)
 
 -- the interface for an address of the router, with its neighbour on a point-to-point link
-abbrev pub interface_of : (area router : ℕ) → List AreaLsa → (own : List Link) → Link → Interface
-interface_of area router lsas own l = interface_at area l.detail (peer_of area router lsas own l)
+abbrev pub interface_of : (area : ℕ) → (peer : Link → ℕ) → Link → Interface
+interface_of area peer l = interface_at area l.detail (peer l)
 
-abbrev pub with_link : (area router : ℕ) → List AreaLsa → (own : List Link) → Found → Link → Found
-with_link area router lsas own f l = if is_new area f l then with_interface f (interface_of area router lsas own l) else f
+abbrev pub with_link : (area : ℕ) → (peer : Link → ℕ) → Found → Link → Found
+with_link area peer f l = if is_new area f l then with_interface f (interface_of area peer l) else f
 
 -- one for each address
-abbrev pub with_links : (area router : ℕ) → List AreaLsa → (own : List Link) → Found → Found
-with_links area router lsas own f = fold (with_link area router lsas own) f own
+abbrev pub with_links : (area : ℕ) → (peer : Link → ℕ) → (own : List Link) → Found → Found
+with_links area peer own f = fold (with_link area peer) f own
 
 -- the address of an interface of the area, or its neighbour's, lies in the network of the stub link
 abbrev pub is_on : (area : ℕ) → Link → Interface → Bool
@@ -108,11 +107,15 @@ abbrev pub with_stub_links : (area : ℕ) → (own : List Link) → Found → Fo
 with_stub_links area own f = fold (with_stub_link area) f own
 
 -- those with an address of the router, and behind them those of stub links
-abbrev pub with_own : (area router : ℕ) → List AreaLsa → (own : List Link) → Found → Found
-with_own area router lsas own f = with_stub_links area own (with_links area router lsas own f)
+abbrev pub with_own : (area : ℕ) → (peer : Link → ℕ) → (own : List Link) → Found → Found
+with_own area peer own f = with_stub_links area own (with_links area peer own f)
+
+-- those of an area, by the links of the router in it
+abbrev pub with_area_links : (area router : ℕ) → List AreaLsa → (own : List Link) → Found → Found
+with_area_links area router lsas own f = with_own area (peer_of area router lsas own) own f
 
 abbrev pub with_interfaces_of : (router : ℕ) → List AreaLsa → Found → (area : ℕ) → Found
-with_interfaces_of router lsas f area = with_own area router lsas (links_in area router lsas) f
+with_interfaces_of router lsas f area = with_area_links area router lsas (links_in area router lsas) f
 
 -- those of these areas, one behind the other
 abbrev pub interfaces_in : (router : ℕ) → List AreaLsa → (ids : List ℕ) → Found

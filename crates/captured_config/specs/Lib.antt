@@ -2,6 +2,9 @@ pub mod Areas
 pub mod Lsas
 pub mod StubAreas
 pub mod Interfaces
+pub mod Facts
+pub mod Finding
+pub mod Hosts
 pub mod Configs
 pub mod Faults
 pub mod Unknown

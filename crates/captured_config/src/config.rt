@@ -1,20 +1,21 @@
 //! What is known of a router.
 ghost use Rattle.std.specs.Prelude.{◌≡◌, [], None, IfOk, IfErr, OnOk, OnErr};
 ghost use Rattle.config_faults.specs.Configs.{config_fault_of};
-ghost use Rattle.captured_config.specs.Lsas.{with_lsa};
-ghost use Rattle.captured_config.specs.Configs.{area_of, config_with, has_wrong_count as has_wrong_count_test};
+ghost use Rattle.captured_config.specs.Lsas.{Captured, with_lsa};
+ghost use Rattle.captured_config.specs.Facts.{AreFacts, facts_of};
+ghost use Rattle.captured_config.specs.Finding.{area_by, config_by, interfaces_by};
+ghost use Rattle.captured_config.specs.Configs.{has_wrong_count as has_wrong_count_test};
 ghost use Rattle.captured_config.specs.Faults.{IsFaultIn};
-ghost use Rattle.captured_config.specs.Interfaces.{interfaces_in};
 
-use crate::area_lsa::{AreaLsa, is_counted};
-use crate::area_lsas::AreaLsas;
+use crate::area_facts::AreaFacts;
+use crate::facts::FactLists;
 use crate::fault::FrontFault;
 use crate::finding::find_interfaces;
 use crate::found::Found;
+use crate::telling::is_counted;
 use config_faults::{ConfigFault, MOST_AREAS, fault_in};
 use lsa_codec::Checked;
 use ospf_types::config::{AreaConfig, Areas, Config, Ranges};
-use ospf_types::listed::Listed;
 use ospf_types::memory::Memory;
 use std::alloc::Global;
 use std::marker::Model;
@@ -24,48 +25,47 @@ use std::marker::Model;
 pub struct CapturedConfig {
     /// The Router ID.
     router: u32,
-    lsas: Listed<AreaLsa>,
+    lists: FactLists,
 }
 
-/// Contracts see the Router ID, and the LSAs that count, each with its area, in the order in which they came.
+/// Contracts see the Router ID and the facts that are kept of the LSAs that count: `AreFacts`.
 impl Model for CapturedConfig {
-    ghost use Rattle.captured_config.specs.Lsas.{Captured};
+    ghost use Rattle.captured_config.specs.Facts.{Facts};
 
-    ghost Value = { Captured };
+    ghost Value = { Facts };
 
-    ghost view = { λ c. record { router = c.router; lsas = c.lsas } };
+    ghost view = { λ c. record { router = c.router; lists = c.lists } };
 }
 
 impl CapturedConfig {
     /// Nothing is known of the router.
     pub fn new(alloc: Global, router: u32) -> CapturedConfig
-        ensures { result ≡ record { router = router; lsas = [] } }
+        ensures { result ≡ facts_of (record { router = router; lsas = [] }) }
     {
         CapturedConfig {
             router,
-            lsas: Listed::new(alloc),
+            lists: FactLists::new(alloc),
         }
     }
 
-    /// Notes an LSA that is installed in the area, if it counts: a router-LSA, or a summary-LSA of the router for a
-    /// network.
+    /// Notes what an LSA that is installed in the area tells, if it counts: a router-LSA, or a summary-LSA of the router
+    /// for a network.
     pub fn note(&mut self, alloc: Global, area: u32, lsa: &Checked) -> Result<(), Memory>
-        ensures ok { OnOk result (self.new ≡ with_lsa self.old area lsa.now) }
+        ensures ok { OnOk result ((c : Captured)
+            → AreFacts c self.old → AreFacts (with_lsa c area lsa.now) self.new) }
         ensures err { OnErr result (self.new ≡ self.old) }
     {
         if !is_counted(self.router, lsa) {
             return Ok(());
         }
-        let lsa = lsa.copy(alloc)?;
-        self.lsas.push(AreaLsa { area, lsa })?;
-        Ok(())
+        self.lists.note(alloc, self.router, area, lsa)
     }
 
     /// The configuration with these areas, if it has no fault.
     pub(crate) fn config(&self, alloc: Global, ids: &[u32]) -> Result<Config, FrontFault>
-        ensures config { IfOk result (λ config. config ≡ config_with self.now ids.now) }
-        ensures sound { OnOk result (config_fault_of (config_with self.now ids.now) ≡ None) }
-        ensures fault { IfErr result (IsFaultIn (config_with self.now ids.now)) }
+        ensures config { IfOk result (λ config. config ≡ config_by self.now ids.now) }
+        ensures sound { OnOk result (config_fault_of (config_by self.now ids.now) ≡ None) }
+        ensures fault { IfErr result (IsFaultIn (config_by self.now ids.now)) }
     {
         // (a capture may name so many areas that each is better not looked at)
         if has_wrong_count(ids) {
@@ -79,7 +79,7 @@ impl CapturedConfig {
     }
 
     fn config_with(&self, alloc: Global, ids: &[u32]) -> Result<Config, Memory>
-        ensures { IfOk result (λ config. config ≡ config_with self.now ids.now) }
+        ensures { IfOk result (λ config. config ≡ config_by self.now ids.now) }
     {
         let mut areas = Areas::new(alloc);
         for id in ids {
@@ -93,7 +93,7 @@ impl CapturedConfig {
     }
 
     fn area(&self, alloc: Global, id: u32) -> AreaConfig
-        ensures { result ≡ area_of self.now id }
+        ensures { result ≡ area_by self.now.lists.told id }
     {
         AreaConfig {
             id,
@@ -104,23 +104,27 @@ impl CapturedConfig {
 
     /// The interfaces in these areas.
     pub(crate) fn interfaces(&self, alloc: Global, ids: &[u32]) -> Result<Found, Memory>
-        ensures { IfOk result
-            (λ found. found ≡ interfaces_in self.now.router self.now.lsas ids.now) }
+        ensures { IfOk result (λ found. found ≡ interfaces_by self.now.lists ids.now) }
     {
-        find_interfaces(alloc, self.router, self.lsas.as_slice(), ids)
+        find_interfaces(alloc, &self.lists, ids)
     }
 
-    /// The LSAs, as they tell of an area.
-    pub(crate) fn in_area(&self, area: u32) -> AreaLsas<'_>
-        ensures router { result.router ≡ self.now.router }
+    /// The facts, as they tell of an area.
+    pub(crate) fn in_area(&self, area: u32) -> AreaFacts<'_>
         ensures area { result.area ≡ area }
-        ensures lsas { result.lsas.now ≡ self.now.lsas }
+        ensures told { result.told.now ≡ self.now.lists.told }
     {
-        AreaLsas {
-            router: self.router,
+        AreaFacts {
             area,
-            lsas: self.lsas.as_slice(),
+            told: self.lists.told(),
         }
+    }
+
+    /// The Router ID.
+    pub(crate) fn router(&self) -> u32
+        ensures { result ≡ self.now.router }
+    {
+        self.router
     }
 }
 

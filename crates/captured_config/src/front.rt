@@ -1,10 +1,14 @@
 //! The beginning of a recording.
-ghost use Rattle.std.specs.Prelude.{All, IfErr, OnOk};
+ghost use Rattle.std.specs.Prelude.{◌≡◌, All, IfErr, None, OnOk};
+ghost use Rattle.config_faults.specs.Configs.{config_fault_of};
 ghost use Rattle.recording.specs.Forms.{IsForm};
 ghost use Rattle.recording.specs.Recordings.{GainsLine, GainsLines, form_of, forms_of};
 ghost use Rattle.captured_config.specs.Configs.{config_of};
+ghost use Rattle.captured_config.specs.Facts.{AreFacts};
+ghost use Rattle.captured_config.specs.Finding.{config_by};
+ghost use Rattle.captured_config.specs.Lsas.{Captured};
 ghost use Rattle.captured_config.specs.Faults.{IsRefused};
-ghost use Rattle.captured_config.specs.Fronts.{HasText, captured_recording, interface_event, interface_forms, recording_with};
+ghost use Rattle.captured_config.specs.Fronts.{HasText, captured_recording, interface_event, interface_forms, recording_by, recording_with};
 
 use crate::areas::SeenAreas;
 use crate::config::CapturedConfig;
@@ -25,17 +29,28 @@ impl CapturedConfig {
         areas: &SeenAreas,
         text: &mut String,
     ) -> Result<(), FrontFault>
-        ensures text { OnOk result
-            (GainsLines text.old text.new (forms_of (captured_recording self.now areas.now))) }
+        ensures text { (c : Captured) → AreFacts c self.now → OnOk result
+            (GainsLines text.old text.new (forms_of (captured_recording c areas.now))) }
         // What is appended is the text of this recording, so that it is read as it.
-        ensures recording { OnOk result
-            (HasText (captured_recording self.now areas.now)) }
-        ensures fault { IfErr result
-            (IsRefused (config_of self.now areas.now) text.old text.new) }
+        ensures recording { (c : Captured) → AreFacts c self.now → OnOk result
+            (HasText (captured_recording c areas.now)) }
+        ensures fault { (c : Captured) → AreFacts c self.now → IfErr result
+            (IsRefused (config_of c areas.now) text.old text.new) }
     {
         let ids = areas.ascending(alloc)?;
-        let config = self.config(alloc, &ids)?;
-        let found = self.interfaces(alloc, &ids)?;
+        self.put_front_of(alloc, &ids, text)
+    }
+
+    fn put_front_of(&self, alloc: Global, ids: &[u32], text: &mut String) -> Result<(), FrontFault>
+        ensures text { OnOk result
+            (GainsLines text.old text.new (forms_of (recording_by self.now ids.now))) }
+        ensures forms { OnOk result (All IsForm (forms_of (recording_by self.now ids.now))) }
+        ensures sound { OnOk result (config_fault_of (config_by self.now ids.now) ≡ None) }
+        ensures fault { IfErr result
+            (IsRefused (config_by self.now ids.now) text.old text.new) }
+    {
+        let config = self.config(alloc, ids)?;
+        let found = self.interfaces(alloc, ids)?;
         put_lines(alloc, config, found.interfaces.as_slice(), text)?;
         Ok(())
     }

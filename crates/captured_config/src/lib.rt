@@ -2,15 +2,19 @@
 //! its interfaces. There is no input or output here: a caller reads the capture, and prints what is appended to a text.
 #![tactic(auto)]
 
-mod area_lsa;
-mod area_lsas;
+mod area_facts;
+mod area_links;
 mod areas;
 mod config;
+mod fact;
+mod facts;
 mod fault;
 mod finding;
 mod found;
 mod front;
+mod hosts;
 mod links;
+mod telling;
 mod unknown;
 
 pub use areas::SeenAreas;

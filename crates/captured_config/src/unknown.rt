@@ -1,7 +1,9 @@
 //! What a capture does not tell of a configuration.
 ghost use Rattle.std.specs.Prelude.{◌≡◌, ◌++◌, OnOk, string_bytes};
 ghost use Rattle.std.specs.List.{flat_map};
-ghost use Rattle.captured_config.specs.Unknown.{area_lines, line_if, no_interface_line, router_lines, unknown_cost_line, unknown_text};
+ghost use Rattle.captured_config.specs.Facts.{AreFacts};
+ghost use Rattle.captured_config.specs.Lsas.{Captured};
+ghost use Rattle.captured_config.specs.Unknown.{area_lines_by, line_if, no_interface_line, router_lines, unknown_by, unknown_cost_line, unknown_text};
 
 use crate::areas::SeenAreas;
 use crate::config::CapturedConfig;
@@ -14,19 +16,25 @@ impl CapturedConfig {
     /// stub areas without a default cost, address ranges, and interfaces that a recording has no number for. If memory
     /// runs out, the text may have a part of the lines.
     pub fn put_unknown(&self, areas: &SeenAreas, text: &mut String) -> Result<(), Memory>
-        ensures { OnOk result (string_bytes text.new ≡ string_bytes text.old
-            ++ unknown_text self.now areas.now) }
+        ensures { (c : Captured) → AreFacts c self.now → OnOk result
+            (string_bytes text.new ≡ string_bytes text.old ++ unknown_text c areas.now) }
     {
-        let alloc = *text.allocator();
-        let ids = areas.ascending(alloc)?;
-        let found = self.interfaces(alloc, &ids)?;
-        self.put_areas(&ids, text)?;
-        put_router(&ids, &found, text)
+        let ids = areas.ascending(*text.allocator())?;
+        self.put_unknown_of(&ids, text)
+    }
+
+    fn put_unknown_of(&self, ids: &[u32], text: &mut String) -> Result<(), Memory>
+        ensures { OnOk result (string_bytes text.new ≡ string_bytes text.old
+            ++ unknown_by self.now ids.now) }
+    {
+        let found = self.interfaces(*text.allocator(), ids)?;
+        self.put_areas(ids, text)?;
+        put_router(ids, &found, text)
     }
 
     fn put_areas(&self, ids: &[u32], text: &mut String) -> Result<(), Memory>
         ensures { OnOk result (string_bytes text.new ≡ string_bytes text.old
-            ++ flat_map (area_lines self.now) ids.now) }
+            ++ flat_map (area_lines_by self.now) ids.now) }
     {
         for id in ids {
             self.put_area(*id, text)?;
@@ -36,11 +44,11 @@ impl CapturedConfig {
 
     fn put_area(&self, area: u32, text: &mut String) -> Result<(), Memory>
         ensures { OnOk result (string_bytes text.new ≡ string_bytes text.old
-            ++ area_lines self.now area) }
+            ++ area_lines_by self.now area) }
     {
-        let lsas = self.in_area(area);
-        put_no_interface_if(!lsas.has_router_lsa(), lsas.router, area, text)?;
-        put_unknown_cost_if(lsas.is_cost_unknown(), area, text)
+        let facts = self.in_area(area);
+        put_no_interface_if(!facts.has_router_lsa(), self.router(), area, text)?;
+        put_unknown_cost_if(facts.is_cost_unknown(), area, text)
     }
 }
 

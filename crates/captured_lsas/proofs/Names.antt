@@ -7,7 +7,7 @@ use Rattle.ospf_types.specs.declared.key.Scope.{Scope}
 use Rattle.ospf_types.specs.declared.key.Scope.TheVariants.{Area, As}
 use Rattle.captured_lsas.specs.contracts.name.LsaNamePartialEq.TheImpl as derived_equality
 use Rattle.captured_lsas.specs.declared.name.LsaName.{LsaName}
-use Rattle.captured_lsas.specs.Given.{same_scope, same_key, same_name}
+use Rattle.captured_lsas.specs.Newest.{same_scope, same_key, same_name}
 
 abbrev pub alike : LsaName → LsaName → Bool
 alike = (derived_equality.eq-value).it

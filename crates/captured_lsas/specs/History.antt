@@ -1,13 +1,16 @@
 -- What was recorded of all packets, said of the packets themselves.
-use Rattle.std.specs.Prelude.{ℕ, ◌≡◌, ◌↔◌, false, true, if◌then◌else◌, List, [], ◌∷◌, ◌++◌, Option, Ok, Err, is_none}
-use Rattle.std.specs.List.{All, Contains, flat_map}
+use Rattle.std.specs.Prelude.{ℕ, ◌≡◌, ◌<◌, ◌+◌, ◌*◌, ◌^◌, ◌↔◌, false, true, if◌then◌else◌, List, [], ◌∷◌, ◌++◌, Option, Some, None, Ok, Err, map, is_none}
+use Rattle.std.specs.List.{All, Contains, filter, flat_map}
+use Rattle.ospf_types.specs.declared.lsa.Header.{Header}
 use Rattle.lsa_codec.specs.Faults.{fault_of}
 use Rattle.packets.specs.Packets.{packet_fault_of, area_field}
 use Rattle.packets.specs.Updates.{Piece}
+use Rattle.captured_lsas.specs.declared.name.LsaName.{LsaName}
 use Rattle.captured_lsas.specs.declared.options.Options.{Options}
-use Rattle.captured_lsas.specs.Given.{Given, WasGiven}
-use Rattle.captured_lsas.specs.Progress.{Progress}
-use Rattle.captured_lsas.specs.Recording.{given_in}
+use Rattle.captured_lsas.specs.Newest.{Instance, same_name, is_installed, newest_in, newest_of}
+use Rattle.captured_lsas.specs.Progress.{Progress, start}
+use Rattle.captured_lsas.specs.Seconds.{passed, seconds_due}
+use Rattle.captured_lsas.specs.Recording.{has_lsa, instance_in}
 use Rattle.captured_lsas.specs.Packets.{pieces_of_packet, with_packet}
 
 -- the payload of a datagram, and the time at which it was captured
@@ -22,40 +25,77 @@ after_all p (one ∷ more) = after_all (with_packet p one.time one.payload) more
 
 -- ---- the LSAs that packets bring
 
--- one, if the bytes are without a fault
-abbrev pub lsa_of_bytes : ℕ → List ℕ → List Given
-lsa_of_bytes area bytes = if is_none (fault_of bytes) then given_in area bytes ∷ [] else []
+-- one, if the bytes are without a fault, and the recording has its database
+abbrev pub lsa_of_bytes : Option (List ℕ) → ℕ → List ℕ → List Instance
+lsa_of_bytes areas area bytes = if is_none (fault_of bytes) then (if has_lsa areas area bytes then instance_in area bytes ∷ [] else []) else []
 
-abbrev pub lsa_of_piece : ℕ → Piece → List Given
-lsa_of_piece area (Ok bytes) = lsa_of_bytes area bytes
-lsa_of_piece area (Err fault) = []
+abbrev pub lsa_of_piece : Option (List ℕ) → ℕ → Piece → List Instance
+lsa_of_piece areas area (Ok bytes) = lsa_of_bytes areas area bytes
+lsa_of_piece areas area (Err fault) = []
 
-abbrev pub lsas_of_pieces : ℕ → List Piece → List Given
-lsas_of_pieces area pieces = flat_map (lsa_of_piece area) pieces
+abbrev pub lsas_of_pieces : Option (List ℕ) → ℕ → List Piece → List Instance
+lsas_of_pieces areas area pieces = flat_map (lsa_of_piece areas area) pieces
 
 -- a packet at fault brings none
-abbrev pub lsas_of_payload : List ℕ → List Given
-lsas_of_payload payload =
-    if is_none (packet_fault_of payload) then lsas_of_pieces (area_field payload) (pieces_of_packet payload) else []
+abbrev pub lsas_of_payload : Option (List ℕ) → List ℕ → List Instance
+lsas_of_payload areas payload =
+    if is_none (packet_fault_of payload) then lsas_of_pieces areas (area_field payload) (pieces_of_packet payload) else []
 
 -- of all packets, in their order
-abbrev pub lsas_of : List Captured → List Given
-lsas_of packets = flat_map (λ packet. lsas_of_payload packet.payload) packets
+abbrev pub lsas_of : Option (List ℕ) → List Captured → List Instance
+lsas_of areas packets = flat_map (λ packet. lsas_of_payload areas packet.payload) packets
 
--- the LSA is one of these, and behind it the same one does not come to MaxAge, or below it
-pub record StillCounts (lsas : List Given) (lsa : Given) : Type 0 where
-  pub earlier : List Given
-  pub later : List Given
-  pub whole : lsas ≡ earlier ++ lsa ∷ later
-  pub stays : All (λ g. g.name ≡ lsa.name → g.is_max_age ≡ lsa.is_max_age) later
+-- of these, the instances of one LSA
+abbrev pub headers_of : LsaName → List Instance → List Header
+headers_of name lsas = map (λ one. one.header) (filter (λ one. same_name name one.name) lsas)
 
--- After the packets: unless all are kept, an LSA counts as given just if one of them brought it, and what they
--- brought of it since then was all at MaxAge, as it is, or all below. A second may be given just if there was an LSA.
-pub record IsHistory (options : Options) (packets : List Captured) (p : Progress) : Type 0 where
+-- the instance is one of these, was installed, and those behind it were not
+pub record IsNewestOf (headers : List Header) (newest : Header) : Type 0 where
+  pub earlier : List Header
+  pub later : List Header
+  pub whole : headers ≡ earlier ++ newest ∷ later
+  pub discarded : All (λ h. is_installed h newest ≡ false) later
+
+-- the newest one, if there is any
+abbrev pub IsNewest : List Header → Option Header → Type 0
+IsNewest headers None = headers ≡ []
+IsNewest headers (Some newest) = IsNewestOf headers newest
+
+-- ---- the time that passes
+
+abbrev pub some_time : Option ℕ → List ℕ
+some_time None = []
+some_time (Some time) = time ∷ []
+
+-- the times of the packets without a fault, of those that have one
+abbrev pub times_of : List Captured → List ℕ
+times_of packets = flat_map (λ packet. if is_none (packet_fault_of packet.payload) then some_time packet.time else []) packets
+
+-- from one time to the next, and so on: where it goes back, none passes
+abbrev pub passed_behind : (last : Option ℕ) → List ℕ → ℕ
+passed_behind last [] = 0
+passed_behind last (time ∷ times) = passed last (Some time) + passed_behind (Some time) times
+
+-- how many seconds are given before these packets
+abbrev pub seconds_at : Progress → Captured → ℕ
+seconds_at p packet = if is_none (packet_fault_of packet.payload) then seconds_due p packet.time else 0
+
+unfoldable pub seconds_given : Progress → List Captured → ℕ
+seconds_given p [] = 0
+seconds_given p (one ∷ more) = seconds_at p one + seconds_given (with_packet p one.time one.payload) more
+
+-- After the packets: unless all are kept, the newest instance of an LSA is what its own instances, one after the other, come to;
+-- none behind it is newer. All nanoseconds that passed from packet to packet are in the seconds that were given, but those that
+-- wait. A second may be given just if there was an LSA.
+pub record IsHistory (options : Options) (areas : Option (List ℕ)) (packets : List Captured) (p : Progress) : Type 0 where
   pub options_stay : p.options ≡ options
-  pub given : options.keeps_all ≡ false → (lsa : Given) → WasGiven p.given lsa ↔ StillCounts (lsas_of packets) lsa
-  pub begun : (p.has_begun ≡ true) ↔ ((lsa : Given) × Contains (lsas_of packets) lsa)
+  pub areas_stay : p.areas ≡ areas
+  pub newest : options.keeps_all ≡ false → (name : LsaName) → newest_of name p.newest ≡ newest_in (headers_of name (lsas_of areas packets))
+  pub behind : (name : LsaName) → IsNewest (headers_of name (lsas_of areas packets)) (newest_in (headers_of name (lsas_of areas packets)))
+  -- what passed was given as seconds, or waits for that; no more than 64 bits hold
+  pub time : passed_behind None (times_of packets) < 2 ^ 64 → 1000000000 * seconds_given (start options areas) packets + p.waiting ≡ passed_behind None (times_of packets)
+  pub begun : (p.has_begun ≡ true) ↔ ((lsa : Instance) × Contains (lsas_of areas packets) lsa)
 
 -- whichever the packets are
-abbrev pub HasHistory : Options → Progress → Type 0
-HasHistory options p = (packets : List Captured) → IsHistory options packets (after_all p packets)
+abbrev pub HasHistory : Options → (areas : Option (List ℕ)) → Progress → Type 0
+HasHistory options areas p = (packets : List Captured) → IsHistory options areas packets (after_all p packets)

@@ -1,6 +1,6 @@
 pub mod Payloads
 pub mod Hearing
-pub mod Given
+pub mod Newest
 pub mod Reading
 pub mod Progress
 pub mod Seconds
@@ -8,7 +8,3 @@ pub mod Recording
 pub mod Updates
 pub mod Packets
 pub mod History
-pub mod Chains
-pub mod LsaLog
-pub mod GivenLog
-pub mod Kept

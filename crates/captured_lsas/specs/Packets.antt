@@ -9,7 +9,7 @@ use Rattle.captured_lsas.specs.declared.recorded.Recorded.{Recorded}
 use Rattle.captured_lsas.specs.declared.taken.Taken.{Taken}
 use Rattle.captured_lsas.specs.declared.taken.Taken.TheVariants.{Packet, Fault}
 use Rattle.captured_lsas.specs.Progress.{Progress}
-use Rattle.captured_lsas.specs.Seconds.{seconds_due, with_time}
+use Rattle.captured_lsas.specs.Seconds.{seconds_back, seconds_due, with_time}
 use Rattle.captured_lsas.specs.Updates.{pieces_for, with_pieces, StopsIn, AreRecorded}
 
 abbrev pub pieces_of_kind : Option PacketKind → List ℕ → List Piece
@@ -36,20 +36,21 @@ abbrev pub StopsWithin : (old new : Progress) → Option ℕ → List ℕ → Ty
 StopsWithin old new time bytes = StopsIn (with_time old time) new (area_field bytes) (pieces_of_packet bytes)
 
 -- a packet without a fault, and what is recorded of it
-pub record IsPacket (p : Progress) (time : Option ℕ) (bytes : List ℕ) (kind : PacketKind) (router area seconds : ℕ) (recorded : List Recorded) : Type 0 where
+pub record IsPacket (p : Progress) (time : Option ℕ) (bytes : List ℕ) (kind : PacketKind) (router area back seconds : ℕ) (recorded : List Recorded) : Type 0 where
   pub without_fault : packet_fault_of bytes ≡ None
   pub of_kind : kind_of_number (kind_field bytes) ≡ Some kind
   pub of_router : router ≡ router_field bytes
   pub of_area : area ≡ area_field bytes
+  pub goes_back : back ≡ seconds_back p time
   pub waited : seconds ≡ seconds_due p time
   pub each : AreRecorded (with_time p time) (area_field bytes) (pieces_of_packet bytes) recorded
 
 abbrev pub IsTaken : Progress → Option ℕ → List ℕ → Taken → Type 0
 IsTaken p time bytes (Fault fault) = packet_fault_of bytes ≡ Some fault
-IsTaken p time bytes (Packet kind router area seconds recorded) = IsPacket p time bytes kind router area seconds recorded.items
+IsTaken p time bytes (Packet kind router area back seconds recorded) = IsPacket p time bytes kind router area back seconds recorded.items
 
 -- what is taken of a packet that was read
 abbrev pub IsOfPacket : Progress → Option ℕ → PacketValue → Taken → Type 0
 IsOfPacket p time packet (Fault fault) = ⊥
-IsOfPacket p time packet (Packet kind router area seconds recorded) =
-    (kind ≡ packet.kind) × (router ≡ packet.router) × (area ≡ packet.area) × (seconds ≡ seconds_due p time) × AreRecorded (with_time p time) packet.area (pieces_for packet.kind packet.body.now) recorded.items
+IsOfPacket p time packet (Packet kind router area back seconds recorded) =
+    (kind ≡ packet.kind) × (router ≡ packet.router) × (area ≡ packet.area) × (back ≡ seconds_back p time) × (seconds ≡ seconds_due p time) × AreRecorded (with_time p time) packet.area (pieces_for packet.kind packet.body.now) recorded.items

@@ -1,14 +1,17 @@
 -- What the LSAs of the packets come to.
-use Rattle.std.specs.Prelude.{ℕ, ◌≡◌, ◌==◌, ◌&&◌, not, Bool, true, false, if◌then◌else◌, List, Some, is_none}
+use Rattle.std.specs.Prelude.{ℕ, ◌≡◌, ◌==◌, ◌&&◌, not, Bool, true, false, if◌then◌else◌, List, Option, Some, None, is_none}
+use Rattle.std.specs.List.{list_any}
+use Rattle.indexmap.specs.IndexSet.{insert_key}
 use Rattle.ospf_types.specs.declared.key.Key.{Key}
 use Rattle.ospf_types.specs.declared.key.Scope.{Scope}
 use Rattle.ospf_types.specs.declared.key.Scope.TheVariants.{Area, As}
 use Rattle.ospf_types.specs.Lsa.{Lsa}
+use Rattle.lsa_codec.specs.Decoding.{header_of}
 use Rattle.lsa_codec.specs.Faults.{fault_of, kind_field, id_field, router_field}
 use Rattle.captured_lsas.specs.declared.name.LsaName.{LsaName}
 use Rattle.captured_lsas.specs.declared.recorded.Recorded.{Recorded}
-use Rattle.captured_lsas.specs.declared.recorded.Recorded.TheVariants.{Install, Repeated, Fault, Cut}
-use Rattle.captured_lsas.specs.Given.{Given, Lives, given_of, has_given, with_given, is_max_age, WasGiven}
+use Rattle.captured_lsas.specs.declared.recorded.Recorded.TheVariants.{Install, Repeated, OtherArea, Fault, Cut}
+use Rattle.captured_lsas.specs.Newest.{Instance, Newest, is_max_age, is_old, with_instance, IsOld}
 use Rattle.captured_lsas.specs.Progress.{Progress}
 use Rattle.captured_lsas.specs.Reading.{IsRead}
 
@@ -23,26 +26,43 @@ key_in lsa = record { kind = kind_field lsa; id = id_field lsa; router = router_
 abbrev pub name_in : ℕ → List ℕ → LsaName
 name_in area lsa = record { scope = scope_of area lsa; key = key_in lsa }
 
-abbrev pub given_in : ℕ → List ℕ → Given
-given_in area lsa = given_of (name_in area lsa) lsa
+abbrev pub instance_in : ℕ → List ℕ → Instance
+instance_in area lsa = record { name = name_in area lsa; header = header_of lsa }
 
--- it was given before in its current life, and is left out
-abbrev pub is_repeated : Progress → Given → Bool
-is_repeated p lsa = not p.options.keeps_all && has_given lsa p.given
+-- the recording has the database of the scope
+abbrev pub has_scope : (areas : Option (List ℕ)) → Scope → Bool
+has_scope None scope = true
+has_scope (Some areas) As = true
+has_scope (Some areas) (Area area) = list_any (λ a. a == area) areas
 
-pub record IsRepeated (p : Progress) (lsa : Given) : Type 0 where
+abbrev pub has_lsa : (areas : Option (List ℕ)) → (area : ℕ) → List ℕ → Bool
+has_lsa areas area lsa = has_scope areas (scope_of area lsa)
+
+-- a router that has what was given would discard it, and it is left out
+abbrev pub is_repeated : Progress → Instance → Bool
+is_repeated p one = not p.options.keeps_all && is_old one p.newest
+
+pub record IsRepeated (p : Progress) (one : Instance) : Type 0 where
   pub leaves_out : p.options.keeps_all ≡ false
-  pub before : WasGiven p.given lsa
+  pub old : IsOld p.newest one
 
 -- where all are kept, none have to be noted
-abbrev pub noted : Progress → Given → Lives
-noted p lsa = if p.options.keeps_all then p.given else with_given lsa p.given
+abbrev pub noted : Progress → Instance → Newest
+noted p one = if p.options.keeps_all then p.newest else with_instance one p.newest
 
-abbrev pub with_given_lsa : Progress → Given → Progress
-with_given_lsa p lsa = record p { has_begun = true; given = noted p lsa }
+abbrev pub with_noted : Progress → Instance → Progress
+with_noted p one = record p { has_begun = true; newest = noted p one }
+
+-- the same area
+abbrev pub same_area : ℕ → ℕ → Bool
+same_area a b = a == b
+
+-- an LSA of an area that the recording does not have
+abbrev pub with_strange : Progress → ℕ → Progress
+with_strange p area = record p { strange = insert_key same_area p.strange area }
 
 abbrev pub with_read_lsa : Progress → ℕ → List ℕ → Progress
-with_read_lsa p area lsa = with_given_lsa p (given_in area lsa)
+with_read_lsa p area lsa = if has_lsa p.areas area lsa then with_noted p (instance_in area lsa) else with_strange p area
 
 -- bytes at fault change nothing
 abbrev pub with_lsa : Progress → ℕ → List ℕ → Progress
@@ -50,13 +70,30 @@ with_lsa p area lsa = if is_none (fault_of lsa) then with_read_lsa p area lsa el
 
 -- ---- what is recorded of an LSA
 
+-- of one that was read, and whose database the recording has
+abbrev pub IsGiven : Progress → ℕ → List ℕ → Lsa → Recorded → Type 0
+IsGiven p area bytes read (Install scope lsa purges) =
+    (IsRepeated p (instance_in area bytes) → ⊥) × (scope ≡ scope_of area bytes) × (lsa ≡ read) × (purges ≡ is_max_age (header_of bytes))
+IsGiven p area bytes read Repeated = IsRepeated p (instance_in area bytes)
+IsGiven p area bytes read (OtherArea of is_first) = ⊥
+IsGiven p area bytes read (Fault fault) = ⊥
+IsGiven p area bytes read (Cut fault) = ⊥
+
+-- of one whose database it does not have: the area, and that it is the first one of that
+abbrev pub IsStrange : Progress → ℕ → Recorded → Type 0
+IsStrange p area (Install scope lsa purges) = ⊥
+IsStrange p area Repeated = ⊥
+IsStrange p area (OtherArea of is_first) = (of ≡ area) × (is_first ≡ not (list_any (same_area area) p.strange))
+IsStrange p area (Fault fault) = ⊥
+IsStrange p area (Cut fault) = ⊥
+
+abbrev pub ByScope : (has : Bool) → (given strange : Type 0) → Type 0
+ByScope true given strange = given
+ByScope false given strange = strange
+
 -- of one that was read
 abbrev pub IsInstalled : Progress → ℕ → List ℕ → Lsa → Recorded → Type 0
-IsInstalled p area bytes read (Install scope lsa purges) =
-    (IsRepeated p (given_in area bytes) → ⊥) × (scope ≡ scope_of area bytes) × (lsa ≡ read) × (purges ≡ is_max_age bytes)
-IsInstalled p area bytes read Repeated = IsRepeated p (given_in area bytes)
-IsInstalled p area bytes read (Fault fault) = ⊥
-IsInstalled p area bytes read (Cut fault) = ⊥
+IsInstalled p area bytes read recorded = ByScope (has_lsa p.areas area bytes) (IsGiven p area bytes read recorded) (IsStrange p area recorded)
 
 -- bytes that spell an LSA, of which this is recorded
 pub record IsSpelled (p : Progress) (area : ℕ) (bytes : List ℕ) (recorded : Recorded) : Type 0 where
@@ -68,5 +105,6 @@ pub record IsSpelled (p : Progress) (area : ℕ) (bytes : List ℕ) (recorded : 
 abbrev pub IsRecorded : Progress → ℕ → List ℕ → Recorded → Type 0
 IsRecorded p area bytes (Install scope lsa purges) = IsSpelled p area bytes (Install scope lsa purges)
 IsRecorded p area bytes Repeated = IsSpelled p area bytes Repeated
+IsRecorded p area bytes (OtherArea of is_first) = IsSpelled p area bytes (OtherArea of is_first)
 IsRecorded p area bytes (Fault fault) = fault_of bytes ≡ Some fault
 IsRecorded p area bytes (Cut fault) = ⊥

@@ -1,24 +1,37 @@
 -- How many seconds are given before a packet.
-use Rattle.std.specs.Prelude.{ℕ, ◌+◌, ◌-◌, ◌/◌, ◌||◌, not, Bool, if◌then◌else◌, Option, Some, None}
+use Rattle.std.specs.Prelude.{ℕ, ◌+◌, ◌-◌, ◌/◌, ◌%◌, ◌^◌, ◌||◌, not, min, Bool, if◌then◌else◌, Option, Some, None}
 use Rattle.captured_lsas.specs.Progress.{Progress}
 
--- the whole seconds from one time to another, in nanoseconds; none if the other is before it, or is not known
-abbrev pub between : Option ℕ → Option ℕ → ℕ
-between (Some first) (Some time) = (time - first) / 1000000000
-between (Some first) None = 0
-between None time = 0
+-- the time that passes from one packet to the next, in nanoseconds; none if the next has the time of an earlier one, or one is not known
+abbrev pub passed : Option ℕ → Option ℕ → ℕ
+passed (Some last) (Some time) = time - last
+passed (Some last) None = 0
+passed None time = 0
+
+-- what passed since the last second that was given; no more than 64 bits hold
+abbrev pub waiting_at : Progress → Option ℕ → ℕ
+waiting_at p time = min (p.waiting + passed p.last_time time) (2 ^ 64 - 1)
 
 -- no seconds are given before the first LSA
 abbrev pub is_without_seconds : Progress → Bool
 is_without_seconds p = p.options.without_seconds || not p.has_begun
 
--- as many as lie between the first time and this one, with those that were given
+-- the whole seconds that passed and were not given
 abbrev pub seconds_due : Progress → Option ℕ → ℕ
-seconds_due p time = if is_without_seconds p then 0 else between p.first_time time - p.seconds
+seconds_due p time = if is_without_seconds p then 0 else waiting_at p time / 1000000000
 
-abbrev pub earliest : Option ℕ → Option ℕ → Option ℕ
-earliest None time = time
-earliest (Some first) time = Some first
+-- what is left of it
+abbrev pub left_waiting : Progress → Option ℕ → ℕ
+left_waiting p time = if is_without_seconds p then waiting_at p time else waiting_at p time % 1000000000
+
+-- by how many whole seconds the time is before that of the last packet, from which on seconds would be counted
+abbrev pub seconds_back : Progress → Option ℕ → ℕ
+seconds_back p time = if p.options.without_seconds then 0 else passed time p.last_time / 1000000000
+
+-- a packet without a time leaves the last one
+abbrev pub latest : Option ℕ → Option ℕ → Option ℕ
+latest last None = last
+latest last (Some time) = Some time
 
 abbrev pub with_time : Progress → Option ℕ → Progress
-with_time p time = record p { first_time = earliest p.first_time time; seconds = p.seconds + seconds_due p time }
+with_time p time = record p { last_time = latest p.last_time time; waiting = left_waiting p time }

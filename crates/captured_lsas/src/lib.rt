@@ -2,13 +2,10 @@
 //! input or output here: a caller reads the capture, and prints the recording.
 #![tactic(auto)]
 
-mod chains;
-mod given;
-mod given_log;
 mod heard;
 mod listener;
-mod lsa_log;
 mod name;
+mod newest;
 mod options;
 mod reading;
 mod recorded;

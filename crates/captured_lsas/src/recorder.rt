@@ -1,24 +1,25 @@
 //! Which events come of the packets, one after the other.
 
-ghost use Rattle.std.specs.Prelude.{◌≡◌, ◌≤◌, length, IfOk, OnOk, OnErr};
-ghost use Rattle.captured_lsas.specs.Seconds.{between as between_test, seconds_due, with_time};
+ghost use Rattle.std.specs.Prelude.{◌≡◌, ◌≤◌, length, IfOk, OnOk, OnErr, option_map};
+ghost use Rattle.captured_lsas.specs.Seconds.{passed as passed_test, is_without_seconds as is_without_seconds_test, seconds_back, seconds_due, waiting_at, with_time};
 ghost use Rattle.captured_lsas.specs.Progress.{start};
 ghost use Rattle.captured_lsas.specs.Reading.{IsRead};
-ghost use Rattle.captured_lsas.specs.Recording.{is_repeated, scope_of as scope_of_test, given_in, name_in, IsInstalled, IsRecorded, with_lsa, with_read_lsa};
+ghost use Rattle.captured_lsas.specs.Recording.{has_scope as has_scope_test, is_repeated, instance_in, scope_of as scope_of_test, IsGiven, IsInstalled, IsRecorded, IsStrange, with_lsa, with_noted, with_read_lsa, with_strange};
 ghost use Rattle.packets.specs.Updates.{lent};
 ghost use Rattle.captured_lsas.specs.Updates.{pieces_in, pieces_for, with_piece, with_pieces, StopsIn, IsPieceRecorded, AreRecorded};
 ghost use Rattle.captured_lsas.specs.History.{HasHistory};
 ghost use Rattle.captured_lsas.specs.Packets.{IsTaken, IsOfPacket, with_packet, StopsWithin};
 
-use crate::given::{GivenLsas, is_max_age};
 use crate::name::LsaName;
+use crate::newest::{NewestLsas, is_max_age};
 use crate::options::Options;
 use crate::reading::read_lsa;
 use crate::recorded::Recorded;
 use crate::taken::Taken;
+use indexmap::IndexSet;
 use lsa_codec::Checked;
 use ospf_types::key::Scope;
-use ospf_types::lsa::AS_EXTERNAL_LSA;
+use ospf_types::lsa::{AS_EXTERNAL_LSA, Header};
 use ospf_types::memory::Memory;
 use packets::{Packet, PacketKind, UpdateFault, UpdateLsas, read_packet, update_lsas};
 use std::alloc::Global;
@@ -32,51 +33,65 @@ const SECOND: u64 = 1_000_000_000;
 #[derive(Drop)]
 pub struct Recorder {
     options: Options,
-    /// The time of the first packet that has one, in nanoseconds since the beginning of 1970, UTC.
-    first_time: Option<u64>,
-    /// How many seconds were given.
-    seconds: u64,
+    /// The areas of the recording, if only their LSAs are given.
+    areas: Option<Vec<u32>>,
+    /// The time of the last packet that has one, in nanoseconds since the beginning of 1970, UTC.
+    last_time: Option<u64>,
+    /// How many nanoseconds passed that were not given as seconds.
+    waiting: u64,
     /// An LSA was given.
     has_begun: bool,
-    given: GivenLsas,
+    newest: NewestLsas,
+    /// The other areas of which there were LSAs.
+    strange: IndexSet<u32, RandomState>,
 }
 
-/// Contracts see these as they are, and of the LSAs that were given what tells them apart.
+/// Contracts see these as they are.
 impl Model for Recorder {
+    ghost use Rattle.std.specs.Prelude.{option_map};
     ghost use Rattle.captured_lsas.specs.Progress.{Progress};
 
     ghost Value = { Progress };
 
-    ghost view = { λ r. record { options = r.options; first_time = r.first_time; seconds = r.seconds; has_begun = r.has_begun; given = r.given } };
+    ghost view = { λ r. record { options = r.options; areas = option_map (λ v. v.items) r.areas; last_time = r.last_time; waiting = r.waiting; has_begun = r.has_begun; newest = r.newest; strange = r.strange.keys } };
 }
 
 impl Recorder {
-    /// Nothing was recorded.
-    pub fn new(alloc: Global, hashing: RandomState, options: Options) -> Recorder
-        ensures start { result ≡ start options }
-        // From here, whichever packets are taken, an LSA counts as given just if one of them brought it, and since
-        // then it did not come to MaxAge, or below it again.
-        ensures history { HasHistory options result }
+    /// Nothing was recorded. Where these are the areas of the recording, LSAs of other areas are left out.
+    pub fn new(
+        alloc: Global,
+        hashing: RandomState,
+        options: Options,
+        areas: Option<Vec<u32>>,
+    ) -> Recorder
+        ensures start { result ≡ start options (option_map (λ v. v.items) areas) }
+        // From here, whichever packets are taken, the newest instance of each LSA is known, by its own instances in
+        // them alone.
+        ensures history { HasHistory options (option_map (λ v. v.items) areas) result }
     {
         Recorder {
             options,
-            first_time: None,
-            seconds: 0,
+            areas,
+            last_time: None,
+            waiting: 0,
             has_begun: false,
-            given: GivenLsas::new(alloc, hashing),
+            newest: NewestLsas::new(alloc, hashing),
+            strange: IndexSet::with_hasher(alloc, hashing),
         }
     }
 
     /// Takes the payload of a datagram, which was captured at the time, in nanoseconds since the beginning
     /// of 1970, UTC. Answers what is recorded of it.
     ///
-    /// Once an LSA was given, seconds come before the LSAs of a packet: as many as lie between the time of
-    /// the first packet and its own, less those that were given. Each LSA is installed, and purged too if it
-    /// is at MaxAge, unless it is at fault, or repeated.
+    /// Once an LSA was given, seconds come before the LSAs of a packet: the whole ones that passed from packet to
+    /// packet and were not given. Where the time of a packet is before that of the last one, nothing passes, and
+    /// seconds go on from it.
     ///
-    /// An LSA is repeated if all of its bytes but the age were given before in its scope, and since then it
-    /// did not come to MaxAge, or below it again. Who flushes an LSA and originates it anew begins at the
-    /// initial sequence number (RFC 2328, 12.1.6), so its bytes may be those from before, and are given again.
+    /// Each LSA is installed, and purged too if it is at MaxAge, unless it is at fault, or repeated. It is repeated if
+    /// a router that has what was given would discard it: it is no newer (RFC 2328, 13.1) than the newest instance
+    /// of it that was given (13 (7) and (8)). Where that one was at MaxAge, it was purged, and one below MaxAge is
+    /// given whatever its sequence number: its router originates it anew (12.1.6). An LSA of an area that the
+    /// recording does not have is left out too.
     pub fn take(
         &mut self,
         alloc: Global,
@@ -105,12 +120,14 @@ impl Recorder {
         ensures noted { OnOk result (self.new ≡ with_pieces (with_time self.old time) packet.now.area (pieces_for packet.now.kind packet.now.body.now)) }
         ensures stopped { OnErr result (StopsIn (with_time self.old time) self.new packet.now.area (pieces_for packet.now.kind packet.now.body.now)) }
     {
+        let back = self.seconds_back(time);
         let seconds = self.take_time(time);
         let recorded = self.take_body(alloc, packet)?;
         Ok(Taken::Packet {
             kind: packet.kind,
             router: packet.router,
             area: packet.area,
+            back,
             seconds,
             recorded,
         })
@@ -181,25 +198,43 @@ impl Recorder {
         }
     }
 
-    // Takes the time of a packet. Answers how many seconds are given before it.
+    // By how many whole seconds the time goes back, if seconds are given.
+    fn seconds_back(&self, time: Option<u64>) -> u64
+        ensures { result ≡ seconds_back self.now time }
+    {
+        if self.options.without_seconds {
+            return 0;
+        }
+        passed(time, self.last_time) / SECOND
+    }
+
+    // Takes the time of a packet. Returns how many seconds are given before it.
     fn take_time(&mut self, time: Option<u64>) -> u64
         ensures seconds { result ≡ seconds_due self.old time }
         ensures noted { self.new ≡ with_time self.old time }
     {
-        let due = self.seconds_due(time);
-        self.first_time = self.first_time.or(time);
-        self.seconds += due;
-        due
-    }
-
-    // How many seconds are to be given before a packet with the time.
-    fn seconds_due(&self, time: Option<u64>) -> u64
-        ensures value { result ≡ seconds_due self.now time }
-    {
-        if self.options.without_seconds || !self.has_begun {
+        let waiting = self.waiting_at(time);
+        self.last_time = time.or(self.last_time);
+        if self.is_without_seconds() {
+            self.waiting = waiting;
             return 0;
         }
-        between(self.first_time, time).saturating_sub(self.seconds)
+        self.waiting = waiting % SECOND;
+        waiting / SECOND
+    }
+
+    // How many nanoseconds wait to be given as seconds, at a packet with the time.
+    fn waiting_at(&self, time: Option<u64>) -> u64
+        ensures { result ≡ waiting_at self.now time }
+    {
+        self.waiting.saturating_add(passed(self.last_time, time))
+    }
+
+    // Returns true if no seconds are given yet, or at all.
+    fn is_without_seconds(&self) -> bool
+        ensures { result ≡ is_without_seconds_test self.now }
+    {
+        self.options.without_seconds || !self.has_begun
     }
 
     // Takes the bytes of an LSA that stands in a Link State Update of the area.
@@ -221,35 +256,69 @@ impl Recorder {
         ensures noted { OnOk result (self.new ≡ with_read_lsa self.old area bytes.now) }
         ensures unchanged { OnErr result (self.new ≡ self.old) }
     {
+        if self.has_scope(scope_of(area, bytes)) {
+            self.take_known(area, bytes, lsa)
+        } else {
+            self.leave_out(area)
+        }
+    }
+
+    // Takes an LSA whose database the recording has.
+    fn take_known(&mut self, area: u32, bytes: &[u8], lsa: Checked) -> Result<Recorded, Memory>
+        requires { IsRead bytes.now lsa }
+        ensures recorded { IfOk result (IsGiven self.old area bytes.now lsa) }
+        ensures noted { OnOk result (self.new ≡ with_noted self.old (instance_in area bytes.now)) }
+        ensures unchanged { OnErr result (self.new ≡ self.old) }
+    {
         let scope = scope_of(area, bytes);
-        let key = lsa.key();
-        if self.note(LsaName { scope, key }, area, bytes)? {
+        let (key, header) = (lsa.key(), lsa.header());
+        if self.note(LsaName { scope, key }, header)? {
             return Ok(Recorded::Repeated);
         }
-        let purges = is_max_age(bytes);
+        let purges = is_max_age(&header);
         Ok(Recorded::Install { scope, lsa, purges })
     }
 
-    // Notes that an LSA is given. Answers whether it is left out, as it is repeated.
-    fn note(&mut self, name: LsaName, area: u32, bytes: &[u8]) -> Result<bool, Memory>
-        requires named { name ≡ name_in area bytes.now }
-        requires long { 20 ≤ length bytes.now }
-        ensures answer { IfOk result (λ b. b ≡ is_repeated self.old (given_in area bytes.now)) }
-        ensures noted { OnOk result (self.new ≡ with_read_lsa self.old area bytes.now) }
+    // Leaves out an LSA of an area that the recording does not have.
+    fn leave_out(&mut self, area: u32) -> Result<Recorded, Memory>
+        ensures recorded { IfOk result (IsStrange self.old area) }
+        ensures noted { OnOk result (self.new ≡ with_strange self.old area) }
         ensures unchanged { OnErr result (self.new ≡ self.old) }
     {
-        let is_repeated = !self.options.keeps_all && !self.given.note(name, area, bytes)?;
+        let (_, is_first) = self.strange.insert_full(area)?;
+        Ok(Recorded::OtherArea { area, is_first })
+    }
+
+    // Returns true if the recording has the database of the scope.
+    fn has_scope(&self, scope: Scope) -> bool
+        ensures { result ≡ has_scope_test self.now.areas scope }
+    {
+        match (&self.areas, scope) {
+            (Some(areas), Scope::Area(area)) => areas.contains(&area),
+            _ => true,
+        }
+    }
+
+    // Notes that an instance is given. Returns true if it is left out, as it is repeated.
+    fn note(&mut self, name: LsaName, header: Header) -> Result<bool, Memory>
+        ensures answer { IfOk result (λ b.
+            b ≡ is_repeated self.old (record { name = name; header = header })) }
+        ensures noted { OnOk result
+            (self.new ≡ with_noted self.old (record { name = name; header = header })) }
+        ensures unchanged { OnErr result (self.new ≡ self.old) }
+    {
+        let is_repeated = !self.options.keeps_all && self.newest.note(name, header)?;
         self.has_begun = true;
         Ok(is_repeated)
     }
 }
 
-// The whole seconds from the first time to another; none if it is before.
-fn between(first: Option<u64>, time: Option<u64>) -> u64
-    ensures { result ≡ between_test first time }
+// The nanoseconds that pass from one time to the next; none if that is earlier, or one is not known.
+fn passed(last: Option<u64>, time: Option<u64>) -> u64
+    ensures { result ≡ passed_test last time }
 {
-    match (first, time) {
-        (Some(first), Some(time)) => time.saturating_sub(first) / SECOND,
+    match (last, time) {
+        (Some(last), Some(time)) => time.saturating_sub(last),
         _ => 0,
     }
 }

@@ -11,6 +11,8 @@ pub enum Taken {
         router: u32,
         /// Area ID.
         area: u32,
+        /// By how many whole seconds its time is before that of the packet before it.
+        back: u64,
         /// How many seconds are given before its LSAs.
         seconds: u64,
         /// What its LSAs come to, in their order. Only a Link State Update has any.

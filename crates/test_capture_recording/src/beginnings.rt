@@ -1,12 +1,15 @@
 //! Prints which beginnings of recordings come of LSAs.
 mod bytes;
+mod many_links;
 mod samples;
 mod trial;
 
 use anyhow::Result;
-use bytes::{Head, router_lsa, summary_lsa};
+use bytes::{Fields, Head, router_lsa, summary_lsa};
+use many_links::{NEIGHBOUR, links_back, own_links};
 use ospf_types::address::Address;
 use samples::{AREAS, ROUTERS, SUMMARIES};
+use std::alloc::Global;
 use std::hash::RandomState;
 use trial::Trial;
 
@@ -18,6 +21,8 @@ pub fn run(rt: &HostRuntime) -> Result<()> {
     put_border_router(rt)?;
     println!(rt; "300 networks")?;
     put_many_networks(rt)?;
+    println!(rt; "5400 links")?;
+    put_many_links(rt)?;
     println!(rt; "17 areas")?;
     put_areas(rt, 17)?;
     println!(rt; "no area")?;
@@ -80,6 +85,30 @@ fn put_many_networks(rt: &HostRuntime) -> Result<()> {
     trial.put(rt.alloc())?;
     print!(rt; "{}", trial.text())?;
     Ok(())
+}
+
+// Two routers with as many links as a router-LSA holds, nearly. What is printed last tells whether the last was found.
+fn put_many_links(rt: &HostRuntime) -> Result<()> {
+    let alloc = rt.alloc();
+    let mut trial = Trial::new(alloc, RandomState::new(rt)?, ROUTER);
+    trial.see(0)?;
+    note_links(alloc, &mut trial, ROUTER, &own_links(alloc)?)?;
+    note_links(alloc, &mut trial, NEIGHBOUR, &links_back(alloc, ROUTER)?)?;
+    trial.put(alloc)?;
+    for line in trial.text().lines().skip(256) {
+        println!(rt; "{line}")?;
+    }
+    Ok(())
+}
+
+fn note_links(alloc: Global, trial: &mut Trial, router: u32, links: &[Fields]) -> Result<()> {
+    let head = Head {
+        options: 2,
+        id: router,
+        router,
+    };
+    let lsa = router_lsa(alloc, head, links)?;
+    trial.note(alloc, 0, &lsa)
 }
 
 // A router of which nothing is known but its areas.

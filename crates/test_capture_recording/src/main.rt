@@ -1,9 +1,10 @@
-//! Prints the lines and the beginnings of recordings that come of captures, and what comes where an input or an output fails. It ends
-//! with an error where lines that were packed are others.
+//! Prints the lines and the beginnings of recordings that come of captures, and what comes where an input or an output fails. Behind
+//! them it prints how much was written whenever an input was read. It ends with an error where lines that were packed are others.
 #![tactic(auto)]
 
 mod beginnings;
 mod failures;
+mod live;
 mod packed;
 mod texts;
 
@@ -13,5 +14,6 @@ fn main(rt: HostRuntime) -> Result<()> {
     texts::run(&rt)?;
     beginnings::run(&rt)?;
     failures::run(&rt)?;
-    packed::run(&rt)
+    packed::run(&rt)?;
+    live::run(&rt)
 }

@@ -56,6 +56,7 @@ fn taken(kind: PacketKind, seconds: u64, recorded: Vec<Recorded>) -> Taken {
         kind,
         router: ROUTER,
         area: 1,
+        back: 0,
         seconds,
         recorded,
     }

@@ -23,7 +23,7 @@ pub fn ensure_known_again(alloc: Global, hashing: RandomState) -> Result<()> {
         keeps_all: false,
         without_seconds: false,
     };
-    let mut recorder = Recorder::new(alloc, hashing, options);
+    let mut recorder = Recorder::new(alloc, hashing, options, None);
     for id in 0..MANY {
         ensure!(
             is_installed(alloc, &mut recorder, id)?,

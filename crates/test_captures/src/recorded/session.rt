@@ -20,7 +20,7 @@ impl Session {
     pub fn new(alloc: Global, hashing: RandomState, options: Options) -> Session {
         Session {
             listener: Listener::new(alloc),
-            recorder: Recorder::new(alloc, hashing, options),
+            recorder: Recorder::new(alloc, hashing, options, None),
             text: String::new(alloc),
         }
     }

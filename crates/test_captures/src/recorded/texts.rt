@@ -37,6 +37,7 @@ fn put_recorded(alloc: Global, recorded: &Recorded, text: &mut String) -> Result
             }
         }
         Recorded::Repeated => writeln!(text, "note: repeated")?,
+        Recorded::OtherArea { area, .. } => writeln!(text, "note: of {}", Address(*area))?,
         Recorded::Fault(fault) => writeln!(text, "note: {fault}")?,
         Recorded::Cut(fault) => writeln!(text, "note: {fault}")?,
     }

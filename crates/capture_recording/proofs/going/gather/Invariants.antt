@@ -5,5 +5,5 @@ use Rattle.capture_recording.proofs.going.gather.Given as goal
 -- each packet so far was taken, and some of their lines were packed
 abbrev pub invariant-loop : goal.invariant-loop
 invariant-loop g l =
-    IsRecordedTo l.fn.start.options (Some l.fn.router) (g.R.Read.remaining l.initial.input) (g.F.Write.contents l.initial.faults)
+    IsRecordedTo l.fn.start (Some l.fn.router) (g.R.Read.remaining l.initial.input) (g.F.Write.contents l.initial.faults)
     l.source.reader (g.R.Read.remaining l.input) (g.F.Write.contents l.faults) l.session l.packed

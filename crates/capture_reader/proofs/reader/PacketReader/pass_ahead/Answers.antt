@@ -1,13 +1,16 @@
 use Rattle.std.proofs.Common.{◌<◌, [], inr, ap, subst, sym, arith}
 use Rattle.capture_reader.proofs.Going.{both_ways}
 use Rattle.capture_reader.specs.Positions.{Stops}
-use Rattle.capture_reader.proofs.Stepping.{ends_ahead, failed}
+use Rattle.capture_reader.proofs.Stepping.{ends_ahead, failed, stops, unread_ahead}
 use Rattle.capture_reader.proofs.reader.PacketReader.pass_ahead.Goals as goal
 
 pub returns-in_err-read_more : goal.returns-in_err-read_more
 returns-in_err-read_more g c = λ bytes.
+    let same = ap (λ p. p.ahead) c.self.view_is in
+    let some : 0 < c.pass_pending.new.self.ahead = omega (arith, same, c.if-self-eq0.false) in
     failed _ _ _ _ bytes c.from_residual.result c.in_err-read_more.field-0.0 c.from_residual.ensures.1
-    (both_ways _ _ _ _ _ _ [] [] (c.pass_pending.ensures.goes (g.R.Read.remaining c.args.input.now)) c.in_err-read_more.ensures)
+    (both_ways _ _ _ _ _ _ [] [] (c.pass_pending.ensures.goes (g.R.Read.remaining c.args.input.now)) c.in_err-read_more.ensures.0)
+    (stops c.in_err-read_more.field-0.0 c.read_more.new.self (g.R.Read.remaining c.read_more.new.input) (unread_ahead c.pass_pending.new.self c.read_more.new.self c.in_err-read_more.ensures.1 some (c.pass_pending.ensures.all some)))
 
 pub returns-then-branch-eq0 : goal.returns-then-branch-eq0
 returns-then-branch-eq0 g c = λ bytes.

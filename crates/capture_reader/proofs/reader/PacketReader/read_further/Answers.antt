@@ -1,11 +1,12 @@
 use Rattle.std.proofs.Common.{inr, sym, subst, arith}
 use Rattle.capture_reader.specs.Positions.{Stops}
-use Rattle.capture_reader.proofs.Stepping.{ends_cut, ends_whole, failed}
+use Rattle.capture_reader.proofs.Stepping.{ends_cut, ends_whole, failed, stops, unread_short}
 use Rattle.capture_reader.proofs.reader.PacketReader.read_further.Goals as goal
 
 pub returns-in_err-read_more : goal.returns-in_err-read_more
 returns-in_err-read_more g c = λ bytes.
-    failed _ _ _ _ bytes c.from_residual.result c.in_err-read_more.field-0.0 c.from_residual.ensures.1 c.in_err-read_more.ensures
+    failed _ _ _ _ bytes c.from_residual.result c.in_err-read_more.field-0.0 c.from_residual.ensures.1 c.in_err-read_more.ensures.0
+    (stops c.in_err-read_more.field-0.0 c.read_more.new.self (g.R.Read.remaining c.read_more.new.input) (unread_short c.args.self.now c.read_more.new.self c.requires.short c.in_err-read_more.ensures.1))
 
 pub returns-then-branch-gt0 : goal.returns-then-branch-gt0
 returns-then-branch-gt0 g c = λ bytes. c.in_ok-read_more.ensures.0

@@ -15,7 +15,7 @@ pub returns-in_err-extend_from_slice-in-Ok-Packet : goal.returns-in_err-extend_f
 returns-in_err-extend_from_slice-in-Ok-Packet g c =
     let near : c.self.inside.ahead ≡ 0 = omega (arith, c.if-self-gt0.false) in
     failed _ _ _ _ _ c.from_residual.result Memory c.from_residual.ensures.1
-    (from c.self.view_is (packet_lost _ _ _ _ _ _ _ _ near c.self.invariant c.as_slice.ensures c.read_part.ensures.answer c.read_part.ensures.reach c.read_part.ensures.steady c.in-Ok-Packet.packet c.in-Ok-Packet.length (c.in-Ok-Packet.is ∙ ap Ok c.in-Ok-Packet.field-0-is)))
+    (from c.self.view_is (packet_lost _ _ _ _ _ _ _ _ near c.self.invariant c.as_slice.ensures c.read_part.ensures.answer c.read_part.ensures.reach c.read_part.ensures.steady c.in-Ok-Packet.packet c.in-Ok-Packet.length (c.in-Ok-Packet.is ∙ ap Ok c.in-Ok-Packet.field-0-is))) tt
 
 pub returns-in_ok-extend_from_slice-in-Ok-Packet : goal.returns-in_ok-extend_from_slice-in-Ok-Packet
 returns-in_ok-extend_from_slice-in-Ok-Packet g c =

@@ -5,10 +5,10 @@ use Rattle.capture_recording.proofs.Ends.{lines_written, lines_unwritten}
 use Rattle.capture_recording.proofs.going.Ended.finish.Goals as goal
 
 pub returns-in-Ok : goal.returns-in-Ok
-returns-in-Ok g c options beginning before after first told is =
-    c.say_end.ensures options beginning before after first _ told
-    (lines_written options beginning before after first _ told _ c.args.self is _ (subst (λ l. Appends (g.W.Write.contents c.args.out.now) (g.W.Write.contents c.write_out.new.out) l) c.as_bytes.ensures.value c.in-Ok.ensures.ok))
+returns-in-Ok g c rules beginning before after first told is =
+    c.say_end.ensures rules beginning before after first _ told
+    (lines_written rules beginning before after first _ told _ c.args.self is _ (subst (λ l. Appends (g.W.Write.contents c.args.out.now) (g.W.Write.contents c.write_out.new.out) l) c.as_bytes.ensures.value c.in-Ok.ensures.ok))
 
 pub returns-in-Err : goal.returns-in-Err
-returns-in-Err g c options beginning before after first told is =
-    lines_unwritten options beginning before after first _ told _ c.args.self is _ _ c.in-Err.ensures.fault (subst (λ l. AppendsPart (g.W.Write.contents c.args.out.now) (g.W.Write.contents c.write_out.new.out) l) c.as_bytes.ensures.value c.in-Err.ensures.err)
+returns-in-Err g c rules beginning before after first told is =
+    lines_unwritten rules beginning before after first _ told _ c.args.self is _ _ c.in-Err.ensures.fault (subst (λ l. AppendsPart (g.W.Write.contents c.args.out.now) (g.W.Write.contents c.write_out.new.out) l) c.as_bytes.ensures.value c.in-Err.ensures.err)
