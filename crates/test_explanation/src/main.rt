@@ -4,6 +4,7 @@
 
 mod fates;
 mod lines;
+mod many;
 mod reasons;
 
 use anyhow::Result;
@@ -14,6 +15,7 @@ use std::hash::RandomState;
 
 fn main(rt: HostRuntime) -> Result<()> {
     fates::run(&rt)?;
+    many::run(&rt)?;
     reasons::run(&rt)?;
     lines::run(&rt)
 }
