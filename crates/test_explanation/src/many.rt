@@ -38,9 +38,12 @@ fn external(alloc: Global, number: u16) -> Result<Checked> {
 }
 
 fn print_counts(rt: &HostRuntime, candidates: &[Candidate]) -> Result<()> {
-    let taken = candidates.iter().filter(|c| c.fate == Fate::Taken).count();
-    let traces: usize = candidates.iter().map(|c| c.traces.len()).sum();
     let offers = candidates.len();
-    println!(rt; "10.15.0.1: {offers} offers, {taken} taken, {traces} traces")?;
+    let taken = candidates.iter().filter(|c| is_taken_once(c)).count();
+    println!(rt; "10.15.0.1: {offers} offers, {taken} of them taken, with one trace each")?;
     Ok(())
+}
+
+fn is_taken_once(candidate: &Candidate) -> bool {
+    candidate.fate == Fate::Taken && candidate.traces.len() == 1
 }
