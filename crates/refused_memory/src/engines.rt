@@ -1,7 +1,7 @@
 //! An engine in which one request for memory may be refused.
 ghost use Rattle.std.specs.Prelude.{◌≡◌};
 
-use engine::{Engine, Event, Forwarder, Refusal, Status};
+use engine::{Engine, Event, Forwarder, Refusal, Reply, Status, Told};
 use recording::{Line, parse};
 use std::hash::RandomState;
 use std::random::RandomSource;
@@ -70,24 +70,26 @@ fn follows<R: Wait>(rt: &R, engine: &Engine, forwarder: Forwarder, lines: Vec<Li
 // An event is taken and published, or taken alone where it is answered Behind, or refused for want of memory.
 fn submit<R: Wait>(rt: &R, engine: &Engine, known: Known, event: Event) -> (Known, bool) {
     match engine.submit(rt, event) {
-        Ok(answer) => {
-            let taken = known.taken.saturating_add(1);
-            match answer.told {
-                Some(told) => (
-                    Known {
-                        taken,
-                        published: taken,
-                    },
-                    answer.reply.state == Status::Current && told.serial() == taken,
-                ),
-                None => (
-                    Known { taken, ..known },
-                    answer.reply.state == Status::Behind,
-                ),
-            }
-        }
+        Ok(answer) => took(known, answer.reply, serial_of(answer.told)),
         Err(refused) => (known, refused.refusal == Refusal::Memory),
     }
+}
+
+fn serial_of(told: Option<Told>) -> Option<u64> {
+    match told {
+        Some(told) => Some(told.serial()),
+        None => None,
+    }
+}
+
+// The token of an event has its serial, which is the next.
+fn took(known: Known, reply: Reply, told: Option<u64>) -> (Known, bool) {
+    let taken = known.taken.saturating_add(1);
+    let published = told.unwrap_or(known.published);
+    let is_told = told == Some(taken) && reply.state == Status::Current;
+    let is_behind = told.is_none() && reply.state == Status::Behind;
+    let is_right = reply.serial == taken && (is_told || is_behind);
+    (Known { taken, published }, is_right)
 }
 
 // What a look-up answers has a serial: that of the table that is published.

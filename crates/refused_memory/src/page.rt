@@ -28,11 +28,8 @@ impl io::Write for Page {
         let Some(left) = self.bytes.get_mut(self.count..) else {
             return Ok(0);
         };
-        let mut count: usize = 0;
-        for (place, byte) in left.iter_mut().zip(buf) {
-            *place = *byte;
-            count = count.saturating_add(1);
-        }
+        let count = left.len().min(buf.len());
+        left[..count].copy_from_slice(&buf[..count]);
         self.count = self.count.saturating_add(count);
         Ok(count)
     }
