@@ -28,11 +28,12 @@ ROUTES = 1_000
 
 def front(interface, peer=0):
     yield from ("abr 3", f"router {address(ROOT)}", "compat disabled", "serial 0", "area 0.0.0.0 normal")
-    yield f"interface 1 0.0.0.0 {address(interface)} {address(peer)} up"
+    yield f"has interface 1 0.0.0.0 {address(interface)} {address(peer)} up"
 
 
-def install(lsa_bytes, scope="0.0.0.0"):
-    return f"install {scope} {lsa_bytes.hex()}"
+def has(lsa_bytes, scope="0.0.0.0"):
+    """A line of the base: all of its LSAs are there at once. They ascend by area, LS type, Link State ID and Advertising Router."""
+    return f"has lsa {scope} {lsa_bytes.hex()}"
 
 
 def router_lsa(router, links, flags=0):
@@ -43,9 +44,9 @@ def router_lsa(router, links, flags=0):
 def pair(flags):
     """The calculating router and a neighbour, over a point-to-point link."""
     yield from front(0xC6336401, 0xC6336402)
-    yield install(router_lsa(ROOT, [link(NEIGHBOUR, 0xC6336401, 1, 10)]))
+    yield has(router_lsa(ROOT, [link(NEIGHBOUR, 0xC6336401, 1, 10)]))
     forwards = link(0xCB007100, STUB, 3, 1)
-    yield install(router_lsa(NEIGHBOUR, [link(ROOT, 0xC6336402, 1, 10), forwards], flags))
+    yield has(router_lsa(NEIGHBOUR, [link(ROOT, 0xC6336402, 1, 10), forwards], flags))
 
 
 def forwards():
@@ -53,27 +54,27 @@ def forwards():
     yield from pair(flags=2)
     for number in range(MOST_EXTERNALS):
         body = (0xFFF00000).to_bytes(4, "big") + (0x80000014).to_bytes(4, "big") + (0xCB007109).to_bytes(4, "big") + bytes(4)
-        yield install(lsa(5, 0xC6300000 + number, NEIGHBOUR, 1, body), "as")
+        yield has(lsa(5, 0xC6300000 + number, NEIGHBOUR, 1, body), "as")
 
 
 def rolls():
     yield from front(0xC6336401, 0xC6336402)
     for number in range(SUMMARIES):
         body = STUB.to_bytes(4, "big") + (10).to_bytes(4, "big")
-        yield install(lsa(3, 0x14000000 + (number << 8), NEIGHBOUR, 1, body))
+        yield has(lsa(3, 0x14000000 + (number << 8), NEIGHBOUR, 1, body))
     for _ in range(ROLLS):
         yield "roll"
 
 
 def hops():
     yield from front(0xC0000202)
-    yield install(router_lsa(ROOT, [link(NETWORK, 0xC0000202, 2, 10)]))
+    yield has(router_lsa(ROOT, [link(NETWORK, 0xC0000202, 2, 10)]))
     own = [link(NETWORK, 0xC0010000 + number, 2, 10) for number in range(MOST_LINKS - 1)]
-    yield install(router_lsa(NEIGHBOUR, [*own, link(BEHIND, 0xC6336401, 1, 10)]))
+    yield has(router_lsa(NEIGHBOUR, [*own, link(BEHIND, 0xC6336401, 1, 10)]))
     stubs = [link(0x14000000 + (number << 8), STUB, 3, 1) for number in range(ROUTES)]
-    yield install(router_lsa(BEHIND, [link(NEIGHBOUR, 0xC6336402, 1, 10), *stubs]))
+    yield has(router_lsa(BEHIND, [link(NEIGHBOUR, 0xC6336402, 1, 10), *stubs]))
     body = MASK.to_bytes(4, "big") + ROOT.to_bytes(4, "big") + NEIGHBOUR.to_bytes(4, "big")
-    yield install(lsa(2, NETWORK, NEIGHBOUR, 1, body))
+    yield has(lsa(2, NETWORK, NEIGHBOUR, 1, body))
 
 
 KINDS = {"forwards": forwards, "rolls": rolls, "hops": hops}
