@@ -3,11 +3,14 @@
 import os
 import subprocess
 import sys
+import tempfile
 
 BENCH = os.path.dirname(os.path.abspath(__file__))
 TOP = os.path.dirname(BENCH)
 # A run of these programs takes milliseconds.
 SECONDS = 60
+# A replay and an engine ask for memory more often than that.
+FEWEST_REQUESTS = 100
 
 
 def library(folder):
@@ -40,3 +43,15 @@ def each_refusal(words, folder):
             return
         yield number, status, output, faults
         number += 1
+
+
+def fault_of(words, wanted):
+    """Returns how many allocations a program asks for, and what is wrong if it prints something else without one of them."""
+    count = 0
+    with tempfile.TemporaryDirectory() as folder:
+        library(folder)
+        for number, status, output, faults in each_refusal(words, folder):
+            count = number
+            if status or output != wanted:
+                return count, f"{words[0]}, refused its request {number} for memory, ends with {status}: {output!r} {faults!r}"
+    return count, "" if count >= FEWEST_REQUESTS else f"{words[0]} has {count} requests for memory: too few for a replay and an engine"

@@ -88,8 +88,6 @@ finish() {
 prefix=$given
 if [ $# = 0 ]; then
     prefix=$room/usr
-    # (where it fails, what follows takes longer)
-    examples/c/library.py > "$room/out" 2>&1 || cat "$room/out"
     runs "./abr install" 0 ./abr install "$prefix" || finish
 fi
 flags=("-I$prefix/include") libs=("-L$prefix/lib" -labr)
@@ -232,14 +230,44 @@ if command -v nm > "$room/which"; then
     same "what libabr.a calls" "$room/beyond" "$room/wanted"
 fi
 
-# ---- Python
+# ---- Python, by the module that is installed, and by one in examples/
 
 if command -v python3 > "$room/which"; then
-    whole=("-Wl,--whole-archive" "$prefix/lib/libabr.a" "-Wl,--no-whole-archive")
-    runs "libabr.so" 0 cc -shared -o "$room/libabr.so" "${whole[@]}" || finish
+    modules=$(dirname "$(dirname "$(echo "$prefix"/lib/python3*/*-packages/abr/libabr.so)")")
+    library=$modules/abr/libabr.so
     for it in "${recordings[@]}"; do
         grep -E '^(route|discard) ' "$(answers_of "$it").routes" > "$room/routes"
-        writes "routes.py: $it" "$room/routes" python3 examples/python/routes.py "$room/libabr.so" "$it.rec"
+        writes "routes.py: $it" "$room/routes" python3 examples/python/routes.py "$it.rec" "$library"
+        program="import abr; print(*abr.load('$it.rec').routes(), sep='\n')"
+        writes "import abr: $it" "$room/routes" env PYTHONPATH="$modules" python3 -c "$program"
     done
+    program="import abr; print(abr.load('examples/border_router.rec').lookup('203.0.113.9'))"
+    echo "route 203.0.113.0/25 intra 0.0.0.0 12 0 peer:2" > "$room/found"
+    writes "abr.Router.lookup" "$room/found" env PYTHONPATH="$modules" python3 -c "$program"
+fi
+
+# ---- What is installed besides: the program, its pages, and one version; and that it goes again
+
+"$prefix/bin/abr" --version > "$room/version"
+if command -v pkg-config > "$room/which"; then
+    echo "abr $(pkg-config --modversion abr)" > "$room/packaged"
+    same "the version of abr.pc" "$room/packaged" "$room/version"
+fi
+if command -v python3 > "$room/which"; then
+    PYTHONPATH=$modules python3 -c 'import abr; print("abr", abr.__version__)' > "$room/packaged"
+    same "the version of the module" "$room/packaged" "$room/version"
+fi
+for it in man/man1/abr.1 bash-completion/completions/abr zsh/site-functions/_abr fish/vendor_completions.d/abr.fish; do
+    runs "share/$it" 0 test -s "$prefix/share/$it" || true
+done
+runs "bash reads its completions" 0 bash -n "$prefix/share/bash-completion/completions/abr" || true
+runs "an installation where none can be" 1 ./abr install /proc/none || true
+if [ $# = 0 ]; then
+    DESTDIR=$room/package runs "./abr install with DESTDIR" 0 ./abr install /usr || true
+    runs "DESTDIR" 0 test -x "$room/package/usr/bin/abr" || true
+    DESTDIR=$room/package runs "./abr uninstall with DESTDIR" 0 ./abr uninstall /usr || true
+    runs "./abr uninstall" 0 ./abr uninstall "$prefix" || true
+    find "$prefix" "$room/package" ! -type d > "$room/left"
+    same "what is left" "$room/left" /dev/null
 fi
 finish

@@ -50,7 +50,6 @@ fn run<R: Threads + Wait + Sync + Print>(
 ) -> Result<()>
     requires { forwarder.name ≡ engine.now }
 {
-    // readme: begin engine
     engine.submit(rt, link_up())?;
     let (one, two) = join(
         rt,
@@ -59,7 +58,6 @@ fn run<R: Threads + Wait + Sync + Print>(
     );
     let forwarder = learn(learn(forwarder, one?), two?);
     print_route(rt, forwarder, u32::from_be_bytes([203, 0, 113, 9]))?;
-    // readme: end
     Ok(())
 }
 

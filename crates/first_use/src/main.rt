@@ -18,7 +18,6 @@ const OWN: [u8; 36] = [
 ];
 
 fn main(rt: HostRuntime) -> Result<()> {
-    // readme: begin core
     let (alloc, hashing) = (rt.alloc(), RandomState::new(&rt)?);
     let mut core = Core::open(alloc, two_areas(alloc)?, hashing)?;
     core.apply(up(1, 0, [192, 0, 2, 1]))?;
@@ -30,7 +29,6 @@ fn main(rt: HostRuntime) -> Result<()> {
     for due in core.due(0).unwrap_or(&[]) {
         print_due(&rt, due)?;
     }
-    // readme: end
     Ok(())
 }
 

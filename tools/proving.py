@@ -1,0 +1,102 @@
+"""`rt ci`, and how far it is: what `check` and `tools/build` share."""
+import contextlib
+import os
+import re
+import shutil
+import subprocess
+import time
+
+TOP = os.path.dirname(os.path.dirname(os.path.realpath(__file__)))
+# How many of a crate's last lines are shown if its proof fails.
+SHOWN = 20
+# What `rt ci` says of a crate: that it is proved, or not, or that an earlier run proved it.
+SAID = re.compile(r"rt: (\w+)(: its tests are)? (proved|NOT PROVED|is kept)\b")
+# What it says when it begins to try the edits of a crate that must fail.
+EDITS = re.compile(r"rt: (\w+): trying its must-fail edits \((\d+)\)")
+# A line of a crate's log that says what is wrong.
+FAULT = re.compile(r"\berror\b|: no proof|: not proved")
+
+
+def uses():
+    """Returns the libraries that each crate of crates.txt names, by the crate's name, in the order of the file."""
+    found = {}
+    with open(f"{TOP}/crates.txt", encoding="utf-8") as lines:
+        for line in lines:
+            name, _, libraries = line.partition("#")[0].partition(":")
+            if name.strip():
+                found[name.split()[0]] = libraries.replace(",", " ").split()
+    return found
+
+
+def crates_below(names):
+    """Returns the crates that these stand on, and themselves, lowest first. (crates.txt has a crate after those.)"""
+    found, libraries = {*names}, uses()
+    for name in reversed([*libraries]):
+        if name in found:
+            found.update(it for it in libraries[name] if it in libraries)
+    return [it for it in libraries if it in found]
+
+
+def length_of(seconds):
+    return f"{int(seconds)} s" if seconds < 60 else f"{round(seconds / 60)} min"
+
+
+def lanes():
+    """Returns how many proofs run side by side: one a processor, as long as each has 3 GB of memory. (`rt` by itself plans with
+    several times what a proof takes, and leaves processors idle.)"""
+    processors = len(os.sched_getaffinity(0))
+    with contextlib.suppress(OSError):
+        with open("/proc/meminfo", encoding="utf-8") as it:
+            free = re.search(r"MemAvailable:\s+(\d+) kB", it.read())
+        return max(1, min(processors, int(free[1]) // 3_000_000))
+    return processors
+
+
+class Progress:
+    """What is proved so far, of all crates of a repository."""
+
+    def __init__(self, crates, say):
+        self.crates, self.say, self.libraries = crates, say, uses()
+        self.proved, self.started = set(), time.time()
+
+    def note(self, name, is_kept):
+        """Says how many crates are proved, and which may be under way."""
+        self.proved.add(name)
+        is_ready = lambda it: all(below in self.proved for below in self.libraries[it] if below in self.libraries)
+        left = [it for it in self.crates if it not in self.proved and is_ready(it)]
+        how = "by an earlier run" if is_kept else f"after {length_of(time.time() - self.started)}"
+        under_way = f"; under way or next: {', '.join(left[:4])}{' ..' if left[4:] else ''}" if left else ""
+        self.say(f"proved {len(self.proved)} of {len(self.crates)}: {name}, {how}{under_way}")
+
+
+def prove(folder, crates, say, log=os.devnull):
+    """Runs `rt ci` at the top of a repository that has these crates. Returns its status, and what it prints of edits, programs and
+    tests. Says a line for each crate that is proved, and the last lines of one that is not. All lines go to the log."""
+    progress, lines = Progress(crates, say), []
+    environment = {"RT_JOBS": str(lanes()), "PYTHONUNBUFFERED": "1", **os.environ}
+    pipes = {"stdin": subprocess.DEVNULL, "stdout": subprocess.PIPE, "text": True, "errors": "replace"}
+    ran = subprocess.Popen([shutil.which("rt"), "ci"], cwd=folder, env=environment, start_new_session=True, **pipes)
+    try:
+        with open(log, "w", encoding="utf-8", errors="replace") as to:
+            for line in ran.stdout:
+                to.write(line)
+                lines = [] if line.startswith("== ") else [*lines, line]
+                said, edits = SAID.match(line), EDITS.match(line)
+                if edits:
+                    say(f"{edits[1]}: trying {edits[2]} wrong bodies, which the prover has to refuse")
+                if said and said[3] == "NOT PROVED":
+                    say("".join(worth_showing(lines)).strip())
+                elif said and not said[2]:
+                    progress.note(said[1], said[3] == "is kept")
+                lines = [] if said or edits else lines
+        return ran.wait(), "".join(lines)
+    finally:
+        # (`rt` ends what it started)
+        ran.terminate()
+        ran.wait()
+
+
+def worth_showing(lines):
+    """Returns the last lines, and before them those that say what is wrong."""
+    faults = [it for it in lines[:-SHOWN] if FAULT.search(it)]
+    return faults[:SHOWN] + lines[-SHOWN:]
