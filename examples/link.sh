@@ -1,23 +1,61 @@
 #!/bin/sh
-# Makes a repository that links the router, in the folder that is given, and runs its program. Run it in this repository.
+# Makes a repository that links the router, and runs its program. If a step fails, what was made is removed.
+#
+#     examples/link.sh FOLDER    works from any folder. FOLDER is new, or the top of a repository without crates.
 set -eu
-if [ $# -ne 1 ] || [ -e "$1/crates" ]; then
-    echo "usage: examples/link.sh FOLDER (in the top folder of abr; the folder has no crates yet)" >&2
-    exit 2
-fi
-abr=$PWD
-mkdir -p "$1/crates/my_router/src"
-cd "$1"
 
-# The crates up to abr_router, with their lines of crates.txt. (It stands behind all that it names.)
-sed '/^abr_router:/q' "$abr/crates.txt" > crates.txt
+say() {
+    echo "link.sh: $1" >&2
+}
+
+refuse() { # STATUS WHY
+    say "$2"
+    exit "$1"
+}
+
+if [ $# -ne 1 ] || [ "${1#-}" != "$1" ] || [ -z "$1" ]; then
+    refuse 2 "usage: link.sh FOLDER"
+fi
+for it in crates crates.txt HANDLES; do
+    [ ! -e "$1/$it" ] || refuse 2 "$1 has $it already"
+done
+command -v rt > /dev/null || refuse 1 "the command \`rt\` of the Rattle toolchain is not on PATH"
+abr=$(dirname "$(dirname "$(realpath "$0")")")
+new=
+[ -d "$1" ] || new=$1
+[ -z "$new" ] || mkdir -- "$1"
+folder=$(realpath -- "$1")
+
+undo() {
+    rm -rf "$folder/crates" "$folder/crates.txt" "$folder/HANDLES"
+    [ -z "$new" ] || rmdir "$folder"
+    say "failed: what was made in $folder is removed"
+}
+trap undo EXIT
+trap 'exit 130' INT
+trap 'exit 143' HUP TERM
+cd "$folder"
+[ -z "$(git rev-parse --show-prefix 2> /dev/null)" ] || refuse 2 "$folder is below the top of a repository, where \`rt ci\` does not run"
+
+# The crates that abr_router uses, with their lines of crates.txt. (A line is below those of the crates that it names.)
+tac "$abr/crates.txt" |
+    awk -F '[: ]+' '$1 == "abr_router" || $1 in named { print; for (n = 2; n <= NF; n++) named[$n] }' |
+    tac > crates.txt
+say "copying $(wc -l < crates.txt) crates of $abr into $folder"
+mkdir crates
 for crate in $(cut -d : -f 1 crates.txt); do
-    cp -R "$abr/crates/$crate" crates/
+    mkdir "crates/$crate"
+    for part in src specs proofs; do
+        [ ! -d "$abr/crates/$crate/$part" ] || cp -R "$abr/crates/$crate/$part" "crates/$crate/"
+    done
 done
 cp "$abr/HANDLES" .
 
-# A program of your own.
+# A program of your own, and what it has to print.
 echo 'my_router: abr_router anyhow' >> crates.txt
-cp "$abr/crates/first_use/src/main.rt" crates/my_router/src/
-cd crates/my_router
-rt try
+mkdir crates/my_router
+cp -R "$abr/crates/first_use/src" "$abr/crates/first_use/stdout" crates/my_router/
+say "running crates/my_router from its sources by \`rt try\`, which proves nothing and takes a minute or two"
+(cd crates/my_router && rt try)
+trap - EXIT
+say "made $folder. There, \`rt ci\` proves and tests all crates and builds the program, crates/my_router/out/my_router"

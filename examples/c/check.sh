@@ -13,7 +13,7 @@ room=$(mktemp -d)
 trap 'rm -rf "$room"' EXIT
 recordings=(examples/border_router examples/c/externals examples/c/ranges)
 router=(examples/c/router.c examples/c/dues.c examples/c/fib.c examples/c/recording.c examples/c/support.c)
-first=(examples/c/first_use.c examples/c/support.c)
+first=(examples/c/first_use.c)
 refused=(examples/c/refused.c examples/c/lsas.c)
 warnings=(-Wall -Wextra -pedantic -Werror)
 sanitizers=(-g "-fsanitize=address,undefined" -fno-sanitize-recover=all)
