@@ -1,7 +1,9 @@
 #!/bin/sh
-# Makes a repository that links the router, and runs its program. If a step fails, what was made is removed.
+# Makes a repository that links the router, and runs its program. It works from any folder.
 #
-#     examples/link.sh FOLDER    works from any folder. FOLDER is new, or the top of a repository without crates.
+#     examples/link.sh FOLDER    FOLDER is new, or the top of a repository without crates.
+#
+# If a step fails, what was made is removed.
 set -eu
 
 say() {
@@ -35,9 +37,12 @@ trap undo EXIT
 trap 'exit 130' INT
 trap 'exit 143' HUP TERM
 cd "$folder"
-[ -z "$(git rev-parse --show-prefix 2> /dev/null)" ] || refuse 2 "$folder is below the top of a repository, where \`rt ci\` does not run"
+if [ -n "$(git rev-parse --show-prefix 2> /dev/null)" ]; then
+    refuse 2 "$folder is not the top of its repository, where \`rt ci\` has to run"
+fi
 
-# The crates that abr_router uses, with their lines of crates.txt. (A line is below those of the crates that it names.)
+# The crates that abr_router uses, with their lines of crates.txt. (Each line is below those of the
+# crates that it names.)
 tac "$abr/crates.txt" |
     awk -F '[: ]+' '$1 == "abr_router" || $1 in named { print; for (n = 2; n <= NF; n++) named[$n] }' |
     tac > crates.txt
@@ -55,7 +60,7 @@ cp "$abr/HANDLES" .
 echo 'my_router: abr_router anyhow' >> crates.txt
 mkdir crates/my_router
 cp -R "$abr/crates/first_use/src" "$abr/crates/first_use/stdout" crates/my_router/
-say "running crates/my_router from its sources by \`rt try\`, which proves nothing and takes a minute or two"
+say "running the program from its sources by \`rt try\`, which proves nothing: a minute or two"
 (cd crates/my_router && rt try)
 trap - EXIT
-say "made $folder. There, \`rt ci\` proves and tests all crates and builds the program, crates/my_router/out/my_router"
+say "made $folder. \`rt ci\` there proves all and builds crates/my_router/out/my_router"
