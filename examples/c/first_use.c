@@ -1,8 +1,8 @@
 /* A border router of two areas. It takes its interfaces and an LSA, looks an address up, and prints the route and what is
    due in the backbone. It needs the library alone:
 
-       cc examples/c/first_use.c $(pkg-config --cflags --libs abr) -o first_use
-       ./first_use
+       cc examples/c/first_use.c $(pkg-config --cflags --libs abr) -o /tmp/first_use
+       /tmp/first_use
 */
 #include <abr.h>
 
