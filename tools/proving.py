@@ -1,9 +1,13 @@
-"""`rt ci`, and how far it is: what `check` and `tools/build` share."""
+"""`rt ci`, and how far it is: what `check` and `tools/build` share. As a program it runs `rt ci` in the current folder."""
 import contextlib
+import functools
+import importlib.machinery
+import importlib.util
 import os
 import re
 import shutil
 import subprocess
+import sys
 import time
 
 TOP = os.path.dirname(os.path.dirname(os.path.realpath(__file__)))
@@ -41,6 +45,17 @@ def length_of(seconds):
     return f"{int(seconds)} s" if seconds < 60 else f"{round(seconds / 60)} min"
 
 
+def load_rt():
+    """Returns the command `rt` as a module that works out once what a crate stands on. (By itself it follows each of 310,000 paths
+    from a crate down to another: that takes two minutes before the first proof.)"""
+    sys.dont_write_bytecode = True
+    loader = importlib.machinery.SourceFileLoader("rt_command", os.path.realpath(shutil.which("rt")))
+    rt = importlib.util.module_from_spec(importlib.util.spec_from_loader(loader.name, loader))
+    loader.exec_module(rt)
+    rt.rtlib.Crate.below = functools.lru_cache(maxsize=None)(rt.rtlib.Crate.below)
+    return rt
+
+
 def lanes():
     """Returns how many proofs run side by side: one a processor, as long as each has 3 GB of memory. (`rt` by itself plans with
     several times what a proof takes, and leaves processors idle.)"""
@@ -75,7 +90,7 @@ def prove(folder, crates, say, log=os.devnull):
     progress, lines = Progress(crates, say), []
     environment = {"RT_JOBS": str(lanes()), "PYTHONUNBUFFERED": "1", **os.environ}
     pipes = {"stdin": subprocess.DEVNULL, "stdout": subprocess.PIPE, "text": True, "errors": "replace"}
-    ran = subprocess.Popen([shutil.which("rt"), "ci"], cwd=folder, env=environment, start_new_session=True, **pipes)
+    ran = subprocess.Popen([sys.executable, os.path.realpath(__file__)], cwd=folder, env=environment, start_new_session=True, **pipes)
     try:
         with open(log, "w", encoding="utf-8", errors="replace") as to:
             for line in ran.stdout:
@@ -100,3 +115,7 @@ def worth_showing(lines):
     """Returns the last lines, and before them those that say what is wrong."""
     faults = [it for it in lines[:-SHOWN] if FAULT.search(it)]
     return faults[:SHOWN] + lines[-SHOWN:]
+
+
+if __name__ == "__main__":
+    sys.exit(load_rt().main(["ci"]))
