@@ -6,6 +6,7 @@ import importlib.util
 import os
 import re
 import shutil
+import signal
 import subprocess
 import sys
 import time
@@ -88,6 +89,8 @@ def prove(folder, crates, say, log=os.devnull):
     """Runs `rt ci` at the top of a repository that has these crates. Returns its status, and what it prints of edits, programs and
     tests. Says a line for each crate that is proved, and the last lines of one that is not. All lines go to the log."""
     progress, lines = Progress(crates, say), []
+    for it in (signal.SIGINT, signal.SIGTERM, signal.SIGHUP):
+        signal.signal(it, lambda number, _: sys.exit(128 + number))
     environment = {"RT_JOBS": str(lanes()), "PYTHONUNBUFFERED": "1", **os.environ}
     pipes = {"stdin": subprocess.DEVNULL, "stdout": subprocess.PIPE, "text": True, "errors": "replace"}
     ran = subprocess.Popen([sys.executable, os.path.realpath(__file__)], cwd=folder, env=environment, start_new_session=True, **pipes)
