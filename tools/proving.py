@@ -58,8 +58,7 @@ def load_rt():
 
 
 def lanes():
-    """Returns how many proofs run side by side: one a processor, as long as each has 3 GB of memory. (`rt` by itself plans with
-    several times what a proof takes, and leaves processors idle.)"""
+    """Returns how many proofs or tests may run side by side: one a processor, as long as each has 3 GB of memory."""
     processors = len(os.sched_getaffinity(0))
     with contextlib.suppress(OSError):
         with open("/proc/meminfo", encoding="utf-8") as it:
@@ -85,13 +84,14 @@ class Progress:
         self.say(f"proved {len(self.proved)} of {len(self.crates)}: {name}, {how}{under_way}")
 
 
-def prove(folder, crates, say, log=os.devnull):
+def prove(folder, crates, say, log=os.devnull, jobs=""):
     """Runs `rt ci` at the top of a repository that has these crates. Returns its status, and what it prints of edits, programs and
-    tests. Says a line for each crate that is proved, and the last lines of one that is not. All lines go to the log."""
+    tests. Says a line for each crate that is proved, and the last lines of one that is not. All lines go to the log. With jobs, so
+    many proofs run side by side; else `rt` plans them."""
     progress, lines = Progress(crates, say), []
     for it in (signal.SIGINT, signal.SIGTERM, signal.SIGHUP):
         signal.signal(it, lambda number, _: sys.exit(128 + number))
-    environment = {"RT_JOBS": str(lanes()), "PYTHONUNBUFFERED": "1", **os.environ}
+    environment = {"RT_JOBS": jobs, "PYTHONUNBUFFERED": "1", **os.environ}
     pipes = {"stdin": subprocess.DEVNULL, "stdout": subprocess.PIPE, "text": True, "errors": "replace"}
     ran = subprocess.Popen([sys.executable, os.path.realpath(__file__)], cwd=folder, env=environment, start_new_session=True, **pipes)
     try:
