@@ -1,4 +1,4 @@
-"""`rt ci`, and how far it is: what `check` and `tools/build` share. As a program it runs `rt ci` in the current folder."""
+"""`rt ci`, and how far it is: what `check` and `tools/build` share. As a program it runs `rt ci`, or `rt try`, in the current folder."""
 import contextlib
 import functools
 import importlib.machinery
@@ -93,7 +93,7 @@ def prove(folder, crates, say, log=os.devnull, jobs=""):
         signal.signal(it, lambda number, _: sys.exit(128 + number))
     environment = {"RT_JOBS": jobs, "PYTHONUNBUFFERED": "1", **os.environ}
     pipes = {"stdin": subprocess.DEVNULL, "stdout": subprocess.PIPE, "text": True, "errors": "replace"}
-    ran = subprocess.Popen([sys.executable, os.path.realpath(__file__)], cwd=folder, env=environment, start_new_session=True, **pipes)
+    ran = subprocess.Popen([sys.executable, os.path.realpath(__file__), "ci"], cwd=folder, env=environment, start_new_session=True, **pipes)
     try:
         with open(log, "w", encoding="utf-8", errors="replace") as to:
             for line in ran.stdout:
@@ -121,4 +121,8 @@ def worth_showing(lines):
 
 
 if __name__ == "__main__":
-    sys.exit(load_rt().main(["ci"]))
+    rt = load_rt()
+    if sys.argv[1] == "try":
+        # (`rt` looks for names that a check will refuse as well, which takes half as long again: the gate finds those)
+        rt.rtlib.RATTLE = shutil.which("true")
+    sys.exit(rt.main(sys.argv[1:]))
