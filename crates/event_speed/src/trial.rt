@@ -21,9 +21,9 @@ use std::io::Print;
 use std::random::RandomSource;
 
 // How many events there are.
-const EVENTS: u32 = 2_000;
+const EVENTS: u32 = 500;
 // So many items have to change, or the events would try little.
-const ENOUGH: u64 = 1_000;
+const ENOUGH: u64 = 250;
 // How many interfaces the calculating router has in an area.
 const PLACES: u32 = ROUTERS + NETWORKS;
 // LSInfinity (RFC 2328, B).
