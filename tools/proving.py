@@ -77,6 +77,9 @@ class Progress:
     def note(self, name, is_kept):
         """Says how many crates are proved, and which may be under way."""
         self.proved.add(name)
+        if is_kept and len(self.proved) % 10 and len(self.proved) < len(self.crates):
+            # (what earlier runs proved comes many a second)
+            return
         is_ready = lambda it: all(below in self.proved for below in self.libraries[it] if below in self.libraries)
         left = [it for it in self.crates if it not in self.proved and is_ready(it)]
         how = "by an earlier run" if is_kept else f"after {length_of(time.time() - self.started)}"
