@@ -57,6 +57,12 @@ def load_rt():
     return rt
 
 
+def build_library(rt, crate, flags):
+    """Proves a static library and builds it, and returns a status."""
+    words = [*crate.words(flags, keeps=False), "--toolchain", f"{rt.rtlib.KIT}/toolchain", "--backend", "llvm"]
+    return crate.prove(["build", *words, "-o", f"out/lib{crate.name}.a"])
+
+
 def lanes():
     """Returns how many proofs or tests may run side by side: one a processor, as long as each has 3 GB of memory."""
     processors = len(os.sched_getaffinity(0))
@@ -123,9 +129,16 @@ def worth_showing(lines):
     return faults[:SHOWN] + lines[-SHOWN:]
 
 
-if __name__ == "__main__":
+def main(words):
     rt = load_rt()
-    if sys.argv[1] == "try":
+    if words[0] == "try":
         # (`rt` looks for names that a check will refuse as well, which takes half as long again: the gate finds those)
         rt.rtlib.RATTLE = shutil.which("true")
-    sys.exit(rt.main(sys.argv[1:]))
+    # (`rt ci` proves a static library and leaves it unbuilt, so that `./abr install` would prove it once more)
+    proved = rt.Crate.ci
+    rt.Crate.ci = lambda it, flags, tests: build_library(rt, it, flags) if it.is_static and not tests else proved(it, flags, tests)
+    return rt.main(words)
+
+
+if __name__ == "__main__":
+    sys.exit(main(sys.argv[1:]))

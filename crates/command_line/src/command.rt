@@ -6,7 +6,7 @@ use std::alloc::AllocError;
 use thiserror::Error;
 
 /// The words of `abr one`, as they were given.
-#[derive(Clone, Copy, Debug, PartialEq, Eq)]
+#[derive(Clone, Copy)]
 pub struct OneWords<'a> {
     pub router: &'a str,
     pub area: &'a str,
@@ -18,7 +18,7 @@ pub struct OneWords<'a> {
 
 /// The words of `abr capture`, as they were given. They may have neither a Router ID nor a beginning: who does
 /// the job has to tell that mistake.
-#[derive(Clone, Copy, Debug, PartialEq, Eq)]
+#[derive(Clone, Copy)]
 pub struct CaptureWords<'a> {
     /// The capture (`-` is standard input).
     pub file: &'a str,
@@ -33,7 +33,7 @@ pub struct CaptureWords<'a> {
 }
 
 /// A command.
-#[derive(Clone, Copy, Debug, PartialEq, Eq)]
+#[derive(Clone, Copy)]
 pub enum Job<'a> {
     One(OneWords<'a>),
     /// `abr decode`, with its word, and whether each field of the body has a line.
