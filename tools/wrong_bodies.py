@@ -47,7 +47,8 @@ def try_all(names, say, jobs):
         with ThreadPoolExecutor(jobs) as pool:
             for done in as_completed([pool.submit(try_crate, rt, it, kept) for it in found]):
                 crate, count, wrong, seconds = done.result()
-                say("\n".join([*wrong, f"{crate}: {count} wrong bodies are refused, {proving.length_of(seconds)}"]))
+                told = f"{crate}: {count} of {count + len(wrong)} wrong bodies refused, {proving.length_of(seconds)}"
+                say("\n".join([*wrong, told]))
                 refused, faults = refused + count, faults + wrong
     return refused, faults
 

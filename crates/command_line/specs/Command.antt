@@ -197,36 +197,14 @@ pub record HaveNames (p : Places) : Type 0 where
   pub of_follow : AreFormatNames p.of_follow
   pub of_explain : AreFormatNames p.of_explain
 
-abbrev pub with_one_and_decode : App → App
-with_one_and_decode a = with_subcommand (with_subcommand a one_command.top) decode_command.top
-
-abbrev pub with_replay_and_changes : References → References → References → App → App
-with_replay_and_changes shows of_replay of_changes a =
-    with_subcommand (with_subcommand a (replay_command shows of_replay).top) (changes_command of_changes).top
-
-abbrev pub with_follow_and_explain : References → References → App → App
-with_follow_and_explain of_follow of_explain a =
-    with_subcommand (with_subcommand a (follow_command of_follow).top) (explain_command of_explain).top
-
--- the commands `abr replay` and `abr changes` come to it, wherever their references point
-abbrev pub HasReplayAndChanges : App → App → Type 0
-HasReplayAndChanges old new =
-    (shows of_replay of_changes : References) × AreShowNames shows × AreFormatNames of_replay × AreFormatNames of_changes
-    × (new ≡ with_replay_and_changes shows of_replay of_changes old)
-
--- the commands `abr follow` and `abr explain` come to it, wherever their references point
-abbrev pub HasFollowAndExplain : App → App → Type 0
-HasFollowAndExplain old new =
-    (of_follow of_explain : References) × AreFormatNames of_follow × AreFormatNames of_explain
-    × (new ≡ with_follow_and_explain of_follow of_explain old)
-
 -- what follows the program's name is one of its commands, or asks for its version
 abbrev pub program_with : Places → App
 program_with p =
     let named = new_app (codes "abr") in
     let top = record named { top = record named.top { has_version = true; subcommand_required = true; arg_required_else_help = true } } in
-    let second = with_replay_and_changes p.shows p.of_replay p.of_changes (with_one_and_decode top) in
-    let third = with_follow_and_explain p.of_follow p.of_explain second in
+    let first = with_subcommand (with_subcommand top one_command.top) decode_command.top in
+    let second = with_subcommand (with_subcommand first (replay_command p.shows p.of_replay).top) (changes_command p.of_changes).top in
+    let third = with_subcommand (with_subcommand second (follow_command p.of_follow).top) (explain_command p.of_explain).top in
     let fourth = with_subcommand (with_subcommand third page_command.top) capture_command.top in
     with_subcommand fourth fault_command.top
 

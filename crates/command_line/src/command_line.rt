@@ -4,7 +4,7 @@ ghost use Rattle.clap.specs.Words.{Text, app_of, rows_of, found_of, rule_of, sub
 ghost use Rattle.clap.specs.declared.builder.command.Command.TheViews.{out-Command};
 ghost use Rattle.output_format.specs.declared.Format.{Format};
 ghost use Rattle.output_format.specs.declared.Show.{Show};
-ghost use Rattle.command_line.specs.Command.{with_one_and_decode, HasReplayAndChanges, HasFollowAndExplain, one_command, decode_command, page_command, capture_command, fault_command, program, required_word, show_name, format_name, References, AreShowNames, AreFormatNames, OneTexts, ReplayTexts, ChangesTexts, FollowTexts, ExplainTexts, PageTexts, CaptureTexts, texts_of, HasWords, HasJob, IsJob, IsJobOf, IsMistake, IsProgram, IsReplayCommand, IsChangesCommand, IsFollowCommand, IsExplainCommand, IsShowOption, IsFormatOption, HasDecodeWords, HasFlag, HasReplayWords, HasChangesWords, HasFollowWords, HasExplainWords, HasPageWords, HasCaptureWords, IsFit, WritesWorkers, workers_option, long_flag, only_option, due_option, output_option, router_option, begin_option, all_flag, no_seconds_flag, strict_flag, progress_flag, command_words, GivesCapture, GivesChanges, GivesDecode, GivesDue, GivesExplain, GivesFault, GivesFollow, GivesFollowOnly, GivesFormat, GivesLong, GivesOne, GivesOnly, GivesOutput, GivesPage, GivesProgress, GivesReplay, GivesShow, GivesStrict, GivesWorkers};
+ghost use Rattle.command_line.specs.Command.{one_command, decode_command, page_command, capture_command, fault_command, program, required_word, show_name, format_name, References, AreShowNames, AreFormatNames, OneTexts, ReplayTexts, ChangesTexts, FollowTexts, ExplainTexts, PageTexts, CaptureTexts, texts_of, HasWords, HasJob, IsJob, IsJobOf, IsMistake, IsProgram, IsReplayCommand, IsChangesCommand, IsFollowCommand, IsExplainCommand, IsShowOption, IsFormatOption, HasDecodeWords, HasFlag, HasReplayWords, HasChangesWords, HasFollowWords, HasExplainWords, HasPageWords, HasCaptureWords, IsFit, WritesWorkers, workers_option, long_flag, only_option, due_option, output_option, router_option, begin_option, all_flag, no_seconds_flag, strict_flag, progress_flag, command_words, GivesCapture, GivesChanges, GivesDecode, GivesDue, GivesExplain, GivesFault, GivesFollow, GivesFollowOnly, GivesFormat, GivesLong, GivesOne, GivesOnly, GivesOutput, GivesPage, GivesProgress, GivesReplay, GivesShow, GivesStrict, GivesWorkers};
 
 use crate::command::{CaptureWords, Job, OneWords, Usage};
 use clap::builder::ValueParser;
@@ -279,50 +279,20 @@ fn format_of(name: &str) -> Option<Format>
 fn program_command<'a>(alloc: Global) -> Result<Command<'a>, AllocError>
     ensures { IfOk result (λ c. IsProgram (app_of c)) }
 {
-    let program = Command::new(alloc, "abr")
+    Command::new(alloc, "abr")
         .about("An OSPF area border router's databases and routing table (RFC 2328)")
         .version(VERSION)
         .subcommand_required(true)
-        .arg_required_else_help(true);
-    let program = add_one_and_decode(alloc, program)?;
-    let program = add_replay_and_changes(alloc, program)?;
-    let program = add_follow_and_explain(alloc, program)?;
-    program
+        .arg_required_else_help(true)
+        .subcommand(one(alloc)?)?
+        .subcommand(decode(alloc)?)?
+        .subcommand(replay(alloc)?)?
+        .subcommand(changes(alloc)?)?
+        .subcommand(follow(alloc)?)?
+        .subcommand(explain(alloc)?)?
         .subcommand(page(alloc)?)?
         .subcommand(capture(alloc)?)?
         .subcommand(fault(alloc)?)
-}
-
-// proof: the states of a function that adds all nine take the prover three times as long.
-fn add_one_and_decode<'a>(
-    alloc: Global,
-    program: Command<'a>,
-) -> Result<Command<'a>, AllocError>
-    ensures { IfOk result (λ c. app_of c ≡ with_one_and_decode (app_of program.entry)) }
-{
-    program.subcommand(one(alloc)?)?.subcommand(decode(alloc)?)
-}
-
-fn add_replay_and_changes<'a>(
-    alloc: Global,
-    program: Command<'a>,
-) -> Result<Command<'a>, AllocError>
-    ensures { IfOk result (λ c. HasReplayAndChanges (app_of program.entry) (app_of c)) }
-{
-    program
-        .subcommand(replay(alloc)?)?
-        .subcommand(changes(alloc)?)
-}
-
-fn add_follow_and_explain<'a>(
-    alloc: Global,
-    program: Command<'a>,
-) -> Result<Command<'a>, AllocError>
-    ensures { IfOk result (λ c. HasFollowAndExplain (app_of program.entry) (app_of c)) }
-{
-    program
-        .subcommand(follow(alloc)?)?
-        .subcommand(explain(alloc)?)
 }
 
 fn one<'a>(alloc: Global) -> Result<Command<'a>, AllocError>

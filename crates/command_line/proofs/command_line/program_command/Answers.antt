@@ -2,7 +2,6 @@ use Rattle.std.proofs.Common.{◌≡◌, ◌∙◌, ap, ap₂, codes, true}
 use Rattle.std.proofs.lemmas.Result.{IfOk-weaker}
 use Rattle.clap.specs.Words.{App, app_of, new_app, with_subcommand}
 use Rattle.clap.specs.Simple.{Shape, app_of_fields, on_top}
-use Rattle.command_line.specs.Command.{with_follow_and_explain, with_one_and_decode, with_replay_and_changes}
 use Rattle.command_line.proofs.command_line.program_command.Goals as goal
 
 pub returns : goal.returns
@@ -10,16 +9,21 @@ returns c =
     let named : app_of c.about.result ≡ new_app (codes "abr") = ap app_of_fields c.about.ensures ∙ c.new.ensures.app in
     let versioned = ap app_of_fields c.version.ensures ∙ ap (on_top (λ (s : Shape). record s { has_version = true })) named in
     let wanting = ap app_of_fields c.subcommand_required.ensures ∙ ap (on_top (λ (s : Shape). record s { subcommand_required = true })) versioned in
-    let top = ap app_of_fields c.arg_required_else_help-program.ensures ∙ ap (on_top (λ (s : Shape). record s { arg_required_else_help = true })) wanting in
-    let decode = c.in_ok-program.ensures ∙ ap with_one_and_decode top in
-    let (shows, of_replay, of_changes, are_shows, are_replay, are_changes, changed) = c.in_ok-program-2.ensures in
-    let changes = changed ∙ ap (with_replay_and_changes shows of_replay of_changes) decode in
-    let (of_follow, of_explain, are_follow, are_explain, explained) = c.in_ok-program-3.ensures in
-    let explain = explained ∙ ap (with_follow_and_explain of_follow of_explain) changes in
-    let page = c.in_ok-subcommand.ensures.shape c.in_ok-page.ensures.local ∙ ap₂ with_subcommand explain (ap (λ (a : App). a.top) c.in_ok-page.ensures.app) in
-    let capture = c.in_ok-subcommand-2.ensures.shape c.in_ok-capture.ensures.local ∙ ap₂ with_subcommand page (ap (λ (a : App). a.top) c.in_ok-capture.ensures.app) in
-    IfOk-weaker c.subcommand-3.result _ _ (λ r h. (
-      record { shows = shows; of_replay = of_replay; of_changes = of_changes; of_follow = of_follow; of_explain = of_explain },
-      record { shows = are_shows; of_replay = are_replay; of_changes = are_changes; of_follow = are_follow; of_explain = are_explain },
+    let top = ap app_of_fields c.arg_required_else_help.ensures ∙ ap (on_top (λ (s : Shape). record s { arg_required_else_help = true })) wanting in
+    let one = c.in_ok-subcommand.ensures.shape c.in_ok-one.ensures.local ∙ ap₂ with_subcommand top (ap (λ (a : App). a.top) c.in_ok-one.ensures.app) in
+    let decode = c.in_ok-subcommand-2.ensures.shape c.in_ok-decode.ensures.local ∙ ap₂ with_subcommand one (ap (λ (a : App). a.top) c.in_ok-decode.ensures.app) in
+    let replay_at = c.in_ok-replay.ensures.app in
+    let replay = c.in_ok-subcommand-3.ensures.shape c.in_ok-replay.ensures.local ∙ ap₂ with_subcommand decode (ap (λ (a : App). a.top) replay_at.4) in
+    let changes_at = c.in_ok-changes.ensures.app in
+    let changes = c.in_ok-subcommand-4.ensures.shape c.in_ok-changes.ensures.local ∙ ap₂ with_subcommand replay (ap (λ (a : App). a.top) changes_at.2) in
+    let follow_at = c.in_ok-follow.ensures.app in
+    let follow = c.in_ok-subcommand-5.ensures.shape c.in_ok-follow.ensures.local ∙ ap₂ with_subcommand changes (ap (λ (a : App). a.top) follow_at.2) in
+    let explain_at = c.in_ok-explain.ensures.app in
+    let explain = c.in_ok-subcommand-6.ensures.shape c.in_ok-explain.ensures.local ∙ ap₂ with_subcommand follow (ap (λ (a : App). a.top) explain_at.2) in
+    let page = c.in_ok-subcommand-7.ensures.shape c.in_ok-page.ensures.local ∙ ap₂ with_subcommand explain (ap (λ (a : App). a.top) c.in_ok-page.ensures.app) in
+    let capture = c.in_ok-subcommand-8.ensures.shape c.in_ok-capture.ensures.local ∙ ap₂ with_subcommand page (ap (λ (a : App). a.top) c.in_ok-capture.ensures.app) in
+    IfOk-weaker c.subcommand-9.result _ _ (λ r h. (
+      record { shows = replay_at.0; of_replay = replay_at.1; of_changes = changes_at.0; of_follow = follow_at.0; of_explain = explain_at.0 },
+      record { shows = replay_at.2; of_replay = replay_at.3; of_changes = changes_at.1; of_follow = follow_at.1; of_explain = explain_at.1 },
       h.shape c.in_ok-fault.ensures.local ∙ ap₂ with_subcommand capture (ap (λ (a : App). a.top) c.in_ok-fault.ensures.app),
-    )) c.subcommand-3.ensures
+    )) c.subcommand-9.ensures
