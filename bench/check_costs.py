@@ -1,14 +1,14 @@
 #!/usr/bin/env python3
 """Times what the prover does for each function of some crates.
 
-    check_costs.py [--most N] CRATES
+    check_costs.py [--tests] [--most N] CRATES
 
-proves each crate once more, with one process and nothing kept of it, and prints its dearest functions: processor seconds in all, those
-of its states and exits (the prover's `Lts`), of its proof, and of the rest. A row in parentheses is no function: `(types)` is what the
-crate declares, with what is derived but proved elsewhere, `(lemmas)` its files of lemmas, `(start)` what comes before the first module,
-`(end)` what comes after the last one. Below all crates stand the dearest functions of them all.
+proves each crate once more, in one process, and prints its dearest functions: the processor seconds that each takes in all, for its
+states and exits (`Lts` in the prover's words), for its proof, and for the rest. Rows in parentheses are no functions: `(start)` is what
+comes before the first of them, `(types)` what the crate declares, `(lemmas)` its files of lemmas, `(end)` what comes after the last.
+With several crates, the dearest functions of all stand below. With `--tests` the crates are proved with their tests.
 
-Processor seconds do not depend on what else the machine does. The libraries below are built first, if they are not.
+The libraries below are built first, if they are not.
 """
 import argparse
 import bisect
@@ -37,11 +37,12 @@ Cost = collections.namedtuple("Cost", "seconds states proof")
 def main():
     reads = argparse.ArgumentParser(description=__doc__, formatter_class=argparse.RawDescriptionHelpFormatter)
     reads.add_argument("--most", type=int, default=12, help="how many functions of a crate are printed (12)")
+    reads.add_argument("--tests", action="store_true", help="prove the crates with their tests")
     reads.add_argument("crates", nargs="+", metavar="CRATES")
     words = reads.parse_args()
     every = {}
     for crate in words.crates:
-        found = costs_of(crate)
+        found = costs_of(crate, words.tests)
         show(crate, found, words.most)
         every.update({f"{crate}::{name}": it for name, it in found.items()})
     if len(words.crates) > 1:
@@ -49,18 +50,19 @@ def main():
 
 
 def show(title, costs, most):
-    print(f"{title}: {sum(it.seconds for it in costs.values()):.0f} s\n{'all':>8}{'states':>8}{'proof':>8}{'rest':>8}")
-    for name, it in sorted(costs.items(), key=lambda it: -it[1].seconds)[:most]:
+    print(f"{'all':>8}{'states':>8}{'proof':>8}{'rest':>8}")
+    rows = sorted(costs.items(), key=lambda it: -it[1].seconds)[:most]
+    for name, it in [(title, Cost(*map(sum, zip(*costs.values())))), *rows]:
         print(f"{it.seconds:8.1f}{it.states:8.1f}{it.proof:8.1f}{it.seconds - it.states - it.proof:8.1f}  {name}")
     sys.stdout.flush()
 
 
-def costs_of(crate):
-    """Proves the crate. Returns what each function cost, by its name."""
+def costs_of(crate, tests):
+    """Proves the crate, or its tests. Returns what each function cost, by its name."""
     folder = f"{TOP}/crates/{crate}"
     built = subprocess.run(["rt", "check", "--only", ""], cwd=folder, stdout=subprocess.PIPE, stderr=subprocess.STDOUT, text=True, check=False)
     with tempfile.TemporaryDirectory() as kept:
-        ran = subprocess.Popen([*command_for(crate), "--incremental", kept], cwd=folder, stdout=subprocess.PIPE, stderr=subprocess.STDOUT, text=True)
+        ran = subprocess.Popen([*command_for(crate, tests), "--incremental", kept], cwd=folder, stdout=subprocess.PIPE, stderr=subprocess.STDOUT, text=True)
         clock = Clock(ran.pid)
         lines = ran.stdout.read()
         clock.end()
@@ -69,8 +71,8 @@ def costs_of(crate):
         return by_function(crate, clock, modules(kept))
 
 
-def command_for(crate):
-    """Returns the command that proves the crate as the gate does, but for what it leaves behind."""
+def command_for(crate, tests):
+    """Returns the command that proves the crate as the gate does."""
     rt = proving.load_rt()
     os.chdir(TOP)
     rt.Crate.cuts_libraries = True
@@ -78,7 +80,7 @@ def command_for(crate):
     found = next((it for it in rt.crates_of(TOP) if it.name == crate), None)
     if not found:
         sys.exit(f"{crate} is no crate of crates.txt")
-    return [rt.rtlib.RATTLE, "check", *found.words(["--jobs", "1"], keeps=False)]
+    return [rt.rtlib.RATTLE, "check", *found.words(["--jobs", "1"], tests=tests, keeps=False)]
 
 
 class Clock:

@@ -16,8 +16,6 @@ TOP = os.path.dirname(os.path.dirname(os.path.realpath(__file__)))
 SHOWN = 20
 # What `rt ci` says of a crate: that it is proved, or not, or that an earlier run proved it.
 SAID = re.compile(r"rt: (\w+)(: its tests are)? (proved|NOT PROVED|is kept)\b")
-# What it says when it begins to try the edits of a crate that must fail.
-EDITS = re.compile(r"rt: (\w+): trying its must-fail edits \((\d+)\)")
 # A line of a crate's log that says what is wrong.
 FAULT = re.compile(r"\berror\b|: no proof|: not proved")
 
@@ -94,9 +92,9 @@ class Progress:
 
 
 def prove(folder, crates, say, log=os.devnull, jobs=""):
-    """Runs `rt ci` at the top of a repository that has these crates. Returns its status, and what it prints of edits, programs and
-    tests. Says a line for each crate that is proved, and the last lines of one that is not. All lines go to the log. With jobs, so
-    many proofs run side by side; else `rt` plans them."""
+    """Runs `rt ci` at the top of a repository that has these crates. Returns its status, and what it prints of programs and tests. Says
+    a line for each crate that is proved, and the last lines of one that is not. All lines go to the log. With jobs, so many proofs run
+    side by side; else `rt` plans them."""
     progress, lines = Progress(crates, say), []
     for it in (signal.SIGINT, signal.SIGTERM, signal.SIGHUP):
         signal.signal(it, lambda number, _: sys.exit(128 + number))
@@ -108,14 +106,12 @@ def prove(folder, crates, say, log=os.devnull, jobs=""):
             for line in ran.stdout:
                 to.write(line)
                 lines = [] if line.startswith("== ") else [*lines, line]
-                said, edits = SAID.match(line), EDITS.match(line)
-                if edits:
-                    say(f"{edits[1]}: trying {edits[2]} wrong bodies, which the prover has to refuse")
+                said = SAID.match(line)
                 if said and said[3] == "NOT PROVED":
                     say("".join(worth_showing(lines)).strip())
                 elif said and not said[2]:
                     progress.note(said[1], said[3] == "is kept")
-                lines = [] if said or edits else lines
+                lines = [] if said else lines
         return ran.wait(), "".join(lines)
     finally:
         # (`rt` ends what it started)
