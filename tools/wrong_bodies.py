@@ -5,8 +5,9 @@ the file once. It changes the function that it is in. One that changes a constan
 wrong, in a line `function: PATH`.
 
 The edits of a crate are made together in one copy of it, and the prover checks the functions that they change, and what these call. An
-edit is refused if its function is, for a goal of its own, and not for what it calls. Each other is made alone, and if that does not
-tell either, it is tried as `rt must-fail` does. What an edit came to is kept where `rt ci` keeps what it proved.
+edit is refused if its function is, for a goal of its own, and not for what it calls. Those that are not refused so are made together
+once more, as long as some are, and then alone; what that does not tell is tried as `rt must-fail` does. What an edit came to is kept
+where `rt ci` keeps what it proved.
 """
 import contextlib
 import hashlib
@@ -25,6 +26,9 @@ FUNCTION = re.compile(r'^( *)(?:pub(?:\(\w+\))? )?(?:const )?(?:unsafe )?(?:exte
 IMPL = re.compile(r"^(?:pub )?(?:impl|trait)\b[^{]*", re.M)
 # An error that only says that a name of a proof went with the edit, or that rests on another.
 BESIDE = re.compile(r"has no field|is not in scope|has no `|was not admitted")
+
+# Raised if something else counts as refused: what is kept of earlier runs is then tried again.
+JUDGE = 1
 
 Edit = namedtuple("Edit", "path file pairs functions is_alone")
 
@@ -87,23 +91,54 @@ def build(kept, crate):
 
 def try_crate(rt, crate, kept):
     """Returns the crate's name, how many of its wrong bodies are refused, what is wrong with the others, and how long that took."""
-    started, folder, faults = time.time(), folder_of(crate.name), []
-    sum = hashlib.sha256(f"{kept.key(crate)} {text_of(os.path.realpath(__file__))}".encode()).hexdigest()
-    edits = [read_edit(crate, f"{folder}/{it}") for it in sorted(os.listdir(folder))]
-    key = {it.path: kept.of_edit(it.path, sum) for it in edits}
-    left = {it.path: it for it in edits if not kept.tried(key[it.path])}
-    together, alone = batches(crate, left.values()), [[it] for it in left.values()]
-    for some in [*together, *alone]:
-        for it in refused_of(rt, crate, [it for it in some if it.path in left]):
-            kept.keep_tried(key[it.path], rt.REFUSED, "refused")
-            del left[it.path]
-    for path in left:
-        kind, text = rt.must_fail(crate, path, ["--jobs", "1"])
-        if kind in (rt.REFUSED, rt.AT_LIMIT):
-            kept.keep_tried(key[path], kind, text)
-        else:
-            faults.append(text)
-    return crate.name, len(edits) - len(faults), faults, time.time() - started
+    started = time.time()
+    trial = Trial(rt, crate, kept)
+    trial.make_together()
+    trial.make_alone()
+    faults = trial.faults()
+    return crate.name, len(trial.edits) - len(faults), faults, time.time() - started
+
+
+class Trial:
+    """The wrong bodies of a crate, and those that are not refused yet."""
+
+    def __init__(self, rt, crate, kept):
+        self.rt, self.crate, self.kept = rt, crate, kept
+        folder = folder_of(crate.name)
+        self.edits = [read_edit(crate, f"{folder}/{it}") for it in sorted(os.listdir(folder))]
+        sum = hashlib.sha256(f"{kept.key(crate)} {JUDGE}".encode()).hexdigest()
+        self.names = {it.path: kept.of_edit(it.path, sum) for it in self.edits}
+        self.left = [it for it in self.edits if not kept.tried(self.names[it.path])]
+        self.made = []
+
+    def make(self, edits):
+        """Makes these edits. Returns true if one is refused."""
+        self.made = edits
+        refused = refused_of(self.rt, self.crate, edits)
+        for it in refused:
+            self.kept.keep_tried(self.names[it.path], self.rt.REFUSED, "refused")
+        self.left = [it for it in self.left if it not in refused]
+        return bool(refused)
+
+    def make_together(self):
+        while self.make(together(self.crate, self.left)):
+            pass
+
+    def make_alone(self):
+        for it in [*self.left]:
+            if self.made != [it]:
+                self.make([it])
+
+    def faults(self):
+        """Tries what is left by itself, as `rt must-fail` does. Returns what is wrong."""
+        found = []
+        for it in self.left:
+            kind, text = self.rt.must_fail(self.crate, it.path, ["--jobs", "1"])
+            if kind in (self.rt.REFUSED, self.rt.AT_LIMIT):
+                self.kept.keep_tried(self.names[it.path], kind, text)
+            else:
+                found.append(text)
+        return found
 
 
 def text_of(path):
@@ -163,19 +198,14 @@ def last(path):
     return path.strip().rpartition("::")[2]
 
 
-def batches(crate, edits):
-    """Puts the edits into few lists, each to be tried together: no two edits of a list change one function, and all can be made."""
-    found = []
+def together(crate, edits):
+    """Returns edits that can be made together: no two change one function."""
+    some = []
     for edit in edits:
-        apart = lambda some, edit=edit: all(edit.functions.isdisjoint(it.functions) for it in some)
-        for some in found:
-            if not edit.is_alone and apart(some) and changed(crate, [*some, edit]):
-                some.append(edit)
-                break
-        else:
-            if not edit.is_alone:
-                found.append([edit])
-    return found
+        is_apart = not edit.is_alone and all(edit.functions.isdisjoint(it.functions) for it in some)
+        if is_apart and changed(crate, [*some, edit]):
+            some.append(edit)
+    return some
 
 
 def changed(crate, edits):
