@@ -58,6 +58,7 @@ def load_rt():
 def build_library(rt, crate, flags):
     """Proves a static library and builds it, and returns a status."""
     words = [*crate.words(flags, keeps=False), "--toolchain", f"{rt.rtlib.KIT}/toolchain", "--backend", "llvm"]
+    os.makedirs(f"{crate.folder}/out", exist_ok=True)
     return crate.prove(["build", *words, "-o", f"out/lib{crate.name}.a"])
 
 
