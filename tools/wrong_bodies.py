@@ -183,7 +183,7 @@ def type_of(head):
     """Returns the name by which the prover calls an impl: the type's, and behind it the trait's, with what it is of, if there is one."""
     head = re.sub(r"'\w+", "", re.split(r"\swhere\s", head)[0]).strip()
     for word in ("pub ", "impl", "trait", " "):
-        head = head.removeprefix(word)
+        head = head[len(word) :] if head.startswith(word) else head
     if head.startswith("<"):
         # (the parameters, up to the `>` that closes them)
         depths = [head[: it + 1].count("<") - head[: it + 1].count(">") for it in range(len(head))]
