@@ -24,7 +24,7 @@ use std::alloc::{AllocError, AllocFailed, Global};
 use thiserror::Error;
 
 /// A command, and what is wanted of it.
-#[derive(Debug, Drop)]
+#[derive(Debug)]
 pub struct Row<'a> {
     /// The line at which it begins, counted from 1.
     pub line: usize,
@@ -38,6 +38,24 @@ pub struct Row<'a> {
     pub faults: Vec<u8>,
     pub is_any_text: bool,
     pub status: u8,
+}
+
+// proof: one call drops it, in place of a drop of each part wherever one is held.
+impl<'a> Drop for Row<'a> {
+    fn drop(self) {
+        let Row {
+            line: _,
+            words: _words,
+            input: _input,
+            is_readable: _,
+            beginning: _beginning,
+            has_beginning: _,
+            output: _output,
+            faults: _faults,
+            is_any_text: _,
+            status: _,
+        } = self;
+    }
 }
 
 /// Why there are no rows.

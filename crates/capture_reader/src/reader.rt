@@ -16,7 +16,6 @@ use std::io;
 use std::marker::Model;
 
 /// Packets of a capture. What was read of the input and not yet handed out is kept in a window.
-#[derive(Drop)]
 pub struct PacketReader {
     window: Window,
     capture: Capture,
@@ -24,6 +23,18 @@ pub struct PacketReader {
     ahead: usize,
     // The place of the first pending byte in the capture.
     place: u64,
+}
+
+// proof: one call drops it, in place of a drop of each part wherever one is held.
+impl Drop for PacketReader {
+    fn drop(self) {
+        let PacketReader {
+            window: _window,
+            capture: _capture,
+            ahead: _,
+            place: _,
+        } = self;
+    }
 }
 
 /// A packet without its bytes.

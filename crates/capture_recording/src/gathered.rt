@@ -17,7 +17,6 @@ use ospf_types::memory::Memory;
 use std::alloc::Global;
 
 /// What is kept of the packets so far.
-#[derive(Drop)]
 pub(crate) struct Gathered {
     pub(crate) listener: Listener,
     pub(crate) recorder: Recorder,
@@ -25,6 +24,19 @@ pub(crate) struct Gathered {
     pub(crate) areas: SeenAreas,
     /// What is known of the router, if the recording is to begin with that.
     pub(crate) config: Option<CapturedConfig>,
+}
+
+// proof: one call drops it, in place of a drop of each part wherever one is held.
+impl Drop for Gathered {
+    fn drop(self) {
+        let Gathered {
+            listener: _listener,
+            recorder: _recorder,
+            counts: _,
+            areas: _areas,
+            config: _config,
+        } = self;
+    }
 }
 
 impl Gathered {

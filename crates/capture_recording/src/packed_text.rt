@@ -13,11 +13,21 @@ use std::marker::Model;
 /// Text in which many lines begin alike and have many digits of hexadecimal numbers, and others only tell of a second. It is
 /// kept in parts: of each, some characters, which are kept once where the part before begins with them too, and then digits
 /// by two in a byte; or how many seconds there are.
-#[derive(Drop)]
 pub(crate) struct PackedText {
     pub(crate) alloc: Global,
     pub(crate) bytes: Vec<u8>,
     pub(crate) parts: Vec<Part>,
+}
+
+// proof: one call drops it, in place of a drop of each part wherever one is held.
+impl Drop for PackedText {
+    fn drop(self) {
+        let PackedText {
+            alloc: _,
+            bytes: _bytes,
+            parts: _parts,
+        } = self;
+    }
 }
 
 /// Contracts see the text.

@@ -14,7 +14,6 @@ use ospf_types::memory::Memory;
 use std::alloc::Global;
 
 /// The links of an area that tell of the router's interfaces.
-#[derive(Drop)]
 pub(crate) struct AreaLinks {
     /// The Area ID.
     pub(crate) area: u32,
@@ -25,6 +24,18 @@ pub(crate) struct AreaLinks {
     /// The hosts that stub links of the router lead to.
     hosts: Hosts,
     ghost led_to: { AreHosts own.items hosts },
+}
+
+// proof: one call drops it, in place of a drop of each part wherever one is held.
+impl Drop for AreaLinks {
+    fn drop(self) {
+        let AreaLinks {
+            area: _,
+            own: _own,
+            back: _back,
+            hosts: _hosts,
+        } = self;
+    }
 }
 
 impl AreaLinks {

@@ -21,11 +21,20 @@ use std::alloc::Global;
 use std::marker::Model;
 
 /// What the LSAs of a capture tell of the configuration of one router.
-#[derive(Drop)]
 pub struct CapturedConfig {
     /// The Router ID.
     router: u32,
     lists: FactLists,
+}
+
+// proof: one call drops it, in place of a drop of each part wherever one is held.
+impl Drop for CapturedConfig {
+    fn drop(self) {
+        let CapturedConfig {
+            router: _,
+            lists: _lists,
+        } = self;
+    }
 }
 
 /// Contracts see the Router ID and the facts that are kept of the LSAs that count: `AreFacts`.

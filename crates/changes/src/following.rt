@@ -27,7 +27,6 @@ use std::io;
 const LONG_JOURNAL: u64 = 65_536;
 
 /// A recording whose front was read. Its lines are taken as they come.
-#[derive(Drop)]
 pub(crate) struct Run {
     pub(crate) alloc: Global,
     pub(crate) version: Version,
@@ -43,6 +42,23 @@ pub(crate) struct Run {
     /// The line that came, and the bytes of its LSA.
     pub(crate) line: Vec<u8>,
     pub(crate) room: Vec<u8>,
+}
+
+// proof: one call drops it, in place of a drop of each part wherever one is held.
+impl Drop for Run {
+    fn drop(self) {
+        let Run {
+            alloc: _,
+            version: _,
+            core: _core,
+            at: _,
+            skips: _,
+            progress: _progress,
+            page: _page,
+            line: _line,
+            room: _room,
+        } = self;
+    }
 }
 
 /// Why no more lines are taken.

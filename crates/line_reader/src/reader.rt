@@ -15,11 +15,21 @@ use std::marker::Model;
 const WINDOW: usize = 65_536;
 
 /// Lines of an input. What was read of it and not yet taken is kept in a window of fixed size.
-#[derive(Drop)]
 pub struct LineReader {
     window: Vec<u8>,
     start: usize,
     end: usize,
+}
+
+// proof: one call drops it, in place of a drop of each part wherever one is held.
+impl Drop for LineReader {
+    fn drop(self) {
+        let LineReader {
+            window: _window,
+            start: _,
+            end: _,
+        } = self;
+    }
 }
 
 /// What `LineReader::next` has taken.

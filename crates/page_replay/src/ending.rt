@@ -18,10 +18,19 @@ use std::io;
 const LAST_LINES: usize = 10;
 
 /// A core behind the last line of a recording, and what the last lines changed, as the command `changes` tells it.
-#[derive(Drop)]
 pub(crate) struct Ended {
     pub(crate) core: Core,
     pub(crate) told: Vec<u8>,
+}
+
+// proof: one call drops it, in place of a drop of each part wherever one is held.
+impl Drop for Ended {
+    fn drop(self) {
+        let Ended {
+            core: _core,
+            told: _told,
+        } = self;
+    }
 }
 
 /// Runs the recording. It ends where memory runs out over a line.

@@ -17,11 +17,21 @@ use std::marker::Model;
 
 /// A reader of the published table. To a contract it is its engine's name, and the longest list of events
 /// that it saw or learned, which begins with each of them.
-#[derive(Drop)]
 pub struct Forwarder {
     reader: ShownReader,
     known: HistoryPrefix,
     base: OpeningBase,
+}
+
+// proof: one call drops it, in place of a drop of each part wherever one is held.
+impl Drop for Forwarder {
+    fn drop(self) {
+        let Forwarder {
+            reader: _reader,
+            known: _known,
+            base: _base,
+        } = self;
+    }
 }
 
 impl Model for Forwarder {

@@ -138,11 +138,21 @@ type Head = Word<Page, u64, HistoryRule>;
 type FirstPen = Seen<u64, u64, FirstPenRule>;
 
 /// A beginning of a history, with its length.
-#[derive(Drop)]
 pub struct HistoryPrefix {
     count: u64,
     log: Log,
     first: FirstPen,
+}
+
+// proof: one call drops it, in place of a drop of each part wherever one is held.
+impl Drop for HistoryPrefix {
+    fn drop(self) {
+        let HistoryPrefix {
+            count: _,
+            log: _log,
+            first: _first,
+        } = self;
+    }
 }
 
 impl Model for HistoryPrefix {
@@ -194,13 +204,25 @@ impl HistoryPrefix {
 }
 
 /// The one who adds to a history, with all of it. The pen may write its next page.
-#[derive(Drop)]
 pub struct History {
     head: Head,
     pen: Pen,
     count: u64,
     log: Log,
     first: FirstPen,
+}
+
+// proof: one call drops it, in place of a drop of each part wherever one is held.
+impl Drop for History {
+    fn drop(self) {
+        let History {
+            head: _head,
+            pen: _pen,
+            count: _,
+            log: _log,
+            first: _first,
+        } = self;
+    }
 }
 
 impl Model for History {

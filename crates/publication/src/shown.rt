@@ -12,10 +12,19 @@ use std::alloc::{AllocError, Global};
 use std::marker::Model;
 
 /// The name of an engine, for contracts alone.
-#[derive(Drop)]
 pub struct EngineName {
     front: HistoryPrefix,
     base: OpeningBase,
+}
+
+// proof: one call drops it, in place of a drop of each part wherever one is held.
+impl Drop for EngineName {
+    fn drop(self) {
+        let EngineName {
+            front: _front,
+            base: _base,
+        } = self;
+    }
 }
 
 impl Model for EngineName {
@@ -38,13 +47,24 @@ impl EngineName {
 }
 
 /// The list and the base have no bytes but the list's length.
-#[derive(Drop)]
 pub struct Shown {
     pub table: Table,
     pub front: HistoryPrefix,
     pub base: OpeningBase,
     /// How many changes were made to the table since the engine was opened.
     pub changes: u64,
+}
+
+// proof: one call drops it, in place of a drop of each part wherever one is held.
+impl Drop for Shown {
+    fn drop(self) {
+        let Shown {
+            table: _table,
+            front: _front,
+            base: _base,
+            changes: _,
+        } = self;
+    }
 }
 
 impl Shown {

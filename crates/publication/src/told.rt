@@ -10,11 +10,21 @@ use std::marker::Model;
 
 /// A token: this list of events was published by the engine of this name. Any thread may pass it on. It
 /// has no bytes but the list's length and its serial.
-#[derive(Drop)]
 pub struct Told {
     front: HistoryPrefix,
     base: OpeningBase,
     serial: u64,
+}
+
+// proof: one call drops it, in place of a drop of each part wherever one is held.
+impl Drop for Told {
+    fn drop(self) {
+        let Told {
+            front: _front,
+            base: _base,
+            serial: _,
+        } = self;
+    }
 }
 
 impl Model for Told {

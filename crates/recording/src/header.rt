@@ -24,12 +24,22 @@ pub(crate) struct Setting {
 }
 
 /// A base in work: its serial, and its configuration as far as it goes.
-#[derive(Drop)]
 pub(crate) struct Header {
     setting: Setting,
     // The areas before the last one. No line adds a range to them any more.
     areas: Areas,
     last: Option<AreaConfig>,
+}
+
+// proof: one call drops it, in place of a drop of each part wherever one is held.
+impl Drop for Header {
+    fn drop(self) {
+        let Header {
+            setting: _setting,
+            areas: _areas,
+            last: _last,
+        } = self;
+    }
 }
 
 impl Model for Header {

@@ -12,11 +12,21 @@ use std::thread::{Threads, join};
 use test_core::{items, networks_of};
 
 // A forwarder, with the serials that it was told, and the one that it saw last.
-#[derive(Drop)]
 pub struct Watch {
     forwarder: Forwarder,
     told: Vec<u64>,
     last: u64,
+}
+
+// proof: one call drops it, in place of a drop of each part wherever one is held.
+impl Drop for Watch {
+    fn drop(self) {
+        let Watch {
+            forwarder: _forwarder,
+            told: _told,
+            last: _,
+        } = self;
+    }
 }
 
 impl Watch {

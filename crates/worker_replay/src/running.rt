@@ -153,13 +153,25 @@ fn submit<S: Threads + Wait + Sync>(
 }
 
 // What the lines ask, numbered from `first` on, with the answers to the events and to the roll.
-#[derive(Drop)]
 struct AnsweredLines {
     first: usize,
     asks: Vec<Ask>,
     replies: Replies,
     rolled: Rolled,
     format: Format,
+}
+
+// proof: one call drops it, in place of a drop of each part wherever one is held.
+impl Drop for AnsweredLines {
+    fn drop(self) {
+        let AnsweredLines {
+            first: _,
+            asks: _asks,
+            replies: _replies,
+            rolled: _rolled,
+            format: _,
+        } = self;
+    }
 }
 
 impl AnsweredLines {
