@@ -4,8 +4,8 @@ use Rattle.lsa_codec.specs.declared.fault.WireFault.{WireFault}
 use Rattle.lsa_codec.specs.declared.fault.WireFault.TheVariants as wire
 use Rattle.config_faults.specs.declared.fault.ConfigFault.{ConfigFault}
 use Rattle.config_faults.specs.declared.fault.ConfigFault.TheVariants as config
-use Rattle.event_state.specs.declared.base_fault.Unfit.{Unfit}
-use Rattle.event_state.specs.declared.base_fault.Unfit.TheVariants as unfit
+use Rattle.event_state.specs.declared.base_fault.EntryFault.{EntryFault}
+use Rattle.event_state.specs.declared.base_fault.EntryFault.TheVariants as unfit
 use Rattle.event_state.specs.declared.refusal.Refusal.{Refusal}
 use Rattle.event_state.specs.declared.refusal.Refusal.TheVariants as refusal
 use Rattle.recording.specs.declared.fault.Fault.{Fault}
@@ -82,7 +82,7 @@ config_number config.Cost = 43
 config_number config.RangeCount = 44
 config_number config.Memory = 30
 
-abbrev pub unfit_number : Unfit → ℕ
+abbrev pub unfit_number : EntryFault → ℕ
 unfit_number unfit.NoArea = 20
 unfit_number unfit.Scope = 21
 unfit_number unfit.Full = 27

@@ -11,7 +11,7 @@ use Rattle.event_state.specs.declared.event.Event.TheVariants as event
 use Rattle.event_state.specs.declared.refusal.Refusal.{Refusal}
 use Rattle.event_core.specs.declared.reply.Reply.{Reply}
 use Rattle.event_core.specs.declared.reply.Status.{Status}
-use Rattle.event_core.specs.Cores.{CoreValue, Applies, IsRollRefusal, NamesChanges, HasBoundedWork, Rolls, Stands}
+use Rattle.event_core.specs.Cores.{CoreValue, Applies, IsRollRefusal, NamesChanges, HasBoundedWork, Rolls, MatchesStatus}
 use Rattle.abr_c.specs.Numbers.{answer_number, no_core, no_network, out_of_memory, refusal_number, status_number, wire_number}
 
 -- the core answers the event, and the number is that of its answer
@@ -44,7 +44,7 @@ Installs at bytes old number new =
 pub record IsCaughtUp (old : CoreValue) (told : ℕ) (new : CoreValue) : Type 0 where
   pub status : Status
   pub number : told ≡ status_number status
-  pub stands : Stands old status new
+  pub stands : MatchesStatus old status new
   pub journal : new.journal ≡ old.journal
   pub base : new.base ≡ old.base
   pub limits : new.limits ≡ old.limits

@@ -13,7 +13,7 @@ use event_state::Base;
 use lsa_codec::Checked;
 use ospf_types::config::Interface;
 use ospf_types::key::Scope;
-use recording::{Version, append_front};
+use recording::{Version, append_preamble};
 use std::alloc::Global;
 
 /// The serial of the base.
@@ -126,7 +126,7 @@ fn give_text(alloc: Global, base: &Base, out: &mut [u8]) -> usize
     ensures { GivesTextOf base.now result out.old out.new }
 {
     let mut text = String::new(alloc);
-    match append_front(alloc, Version::Three, base, &mut text) {
+    match append_preamble(alloc, Version::Three, base, &mut text) {
         Ok(()) => {
             write_bytes(out, text.as_bytes());
             text.len()

@@ -4,7 +4,7 @@ ghost use Rattle.abr_c.specs.Numbers as numbers;
 
 use config_faults::ConfigFault;
 use event_core::{Refusal, Status};
-use event_state::Unfit;
+use event_state::EntryFault;
 use lsa_codec::WireFault;
 use recording::Fault;
 
@@ -83,14 +83,14 @@ fn config_number(fault: ConfigFault) -> u32
     }
 }
 
-fn unfit_number(unfit: Unfit) -> u32
+fn unfit_number(unfit: EntryFault) -> u32
     ensures { result ≡ numbers.unfit_number unfit }
 {
     match unfit {
-        Unfit::NoArea => 20,
-        Unfit::Scope => 21,
-        Unfit::Full => 27,
-        Unfit::AddressTaken => 29,
+        EntryFault::NoArea => 20,
+        EntryFault::Scope => 21,
+        EntryFault::Full => 27,
+        EntryFault::AddressTaken => 29,
     }
 }
 

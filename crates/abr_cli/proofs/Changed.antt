@@ -3,12 +3,12 @@ use Rattle.std.proofs.Common.{◌≡◌, ◌⊎◌, ℕ, List, Option, ap, refl,
 use Rattle.recording.specs.declared.fault.LineFault.{LineFault}
 use Rattle.replay.specs.declared.fault.ReplayFault.{ReplayFault}
 use Rattle.replay.specs.declared.fault.ReplayFault.TheVariants.{Read, Write, Closed, Memory, Line}
-use Rattle.replay.specs.declared.page.Stop.TheVariants as stop
+use Rattle.replay.specs.declared.buffer.PrintError.TheVariants as stop
 use Rattle.changes.specs.Outputs.{FailsAtFront, FailsBehind, TellsPart, TellsThese}
-use Rattle.changes.specs.declared.telling.Telling.{Telling}
+use Rattle.changes.specs.declared.printing.ChangeOptions.{ChangeOptions}
 use Rattle.command_answers.specs.declared.command_fault.CommandFault.{CommandFault}
 use Rattle.command_answers.specs.declared.command_fault.CommandFault.TheVariants as fault
-use Rattle.command_answers.specs.declared.words.WordFault.TheVariants.{NotANetwork}
+use Rattle.command_answers.specs.declared.argument_values.WordFault.TheVariants.{NotANetwork}
 use Rattle.command_answers.specs.Answers.{IsSaid}
 use Rattle.command_answers.specs.Faults.{command_fault_text, fault_line, status_of}
 use Rattle.ospf_types.specs.declared.prefix.Prefix.{Prefix}
@@ -18,7 +18,7 @@ use Rattle.abr_cli.specs.declared.changing.Changes.{Changes}
 use Rattle.abr_cli.proofs.Shown.{advance_told}
 
 -- what is said of each fault by itself
-pub early_by_fault : {X : Type 0} (held : X → Option (List ℕ)) (t : Telling) (e : ReplayFault) (i i' : Option (List ℕ)) (old new : X) → (e ≡ Read → (new ≡ old) ⊎ ((bytes : List ℕ) × TellsThese t i i' bytes (held old) (held new)))
+pub early_by_fault : {X : Type 0} (held : X → Option (List ℕ)) (t : ChangeOptions) (e : ReplayFault) (i i' : Option (List ℕ)) (old new : X) → (e ≡ Read → (new ≡ old) ⊎ ((bytes : List ℕ) × TellsThese t i i' bytes (held old) (held new)))
     → ((f : LineFault) → e ≡ Line f → ((new ≡ old) × FailsAtFront i i' f) ⊎ FailsBehind t i i' f (held old) (held new))
     → (e ≡ Write → TellsPart stop.Write t i i' (held old) (held new)) → (e ≡ Closed → TellsPart stop.Closed t i i' (held old) (held new))
     → (e ≡ Memory → (new ≡ old) ⊎ TellsPart stop.Memory t i i' (held old) (held new)) → TellsEarly t e i i' (held old) (held new)
@@ -38,8 +38,8 @@ word_said e status i o f f' is said = (
 )
 
 -- what was told of the network that is asked for
-pub network_told : (c : Changes) (only : Option Prefix) (t : Telling) (status : ℕ) (i i' o o' f start shown mid f' : Option (List ℕ)) → Asks c.only only → t ≡ telling_of c only
+pub network_told : (c : Changes) (only : Option Prefix) (t : ChangeOptions) (status : ℕ) (i i' o o' f start shown mid f' : Option (List ℕ)) → Asks c.only only → t ≡ telling_of c only
     → Shows c.progress 0 f start → IsProgress t.progress start shown → EndsShowing c.progress shown mid → IsTellingEnded c.file t status i i' o o' mid f' → IsChangesTold c status i i' o o' f f'
 network_told c only t status i i' o o' f start shown mid f' asks is begun progress ended told =
-    let shows : IsProgress c.progress start shown = subst (λ (x : Telling). IsProgress x.progress start shown) is progress in
-    inr (only, asks, (mid, advance_told c.progress f start shown mid begun shows ended, subst (λ (x : Telling). IsTellingEnded c.file x status i i' o o' mid f') is told))
+    let shows : IsProgress c.progress start shown = subst (λ (x : ChangeOptions). IsProgress x.progress start shown) is progress in
+    inr (only, asks, (mid, advance_told c.progress f start shown mid begun shows ended, subst (λ (x : ChangeOptions). IsTellingEnded c.file x status i i' o o' mid f') is told))

@@ -3,16 +3,16 @@ use Rattle.std.proofs.Common.{◌≡◌, ◌⊎◌, ◌<◌, ℕ, List, Option, 
 use Rattle.std.specs.Prelude.{MatchResult}
 use Rattle.std.specs.Borrow.{Bor}
 use Rattle.replay.specs.Inputs.{ReadsAll}
-use Rattle.replay.specs.declared.page.Stop.TheVariants as stop
+use Rattle.replay.specs.declared.buffer.PrintError.TheVariants as stop
 use Rattle.recording.specs.declared.fault.LineFault.{LineFault}
 use Rattle.recording.specs.Faults.{IsFaultOf}
 use Rattle.replay.specs.declared.fault.ReplayFault.{ReplayFault}
 use Rattle.replay.specs.declared.fault.ReplayFault.TheVariants.{Read, Write, Closed, Memory, Line}
-use Rattle.replay.specs.declared.printing.Printing.{Printing}
-use Rattle.worker_replay.specs.declared.fault.ManyFault.{ManyFault}
-use Rattle.worker_replay.specs.declared.fault.ManyFault.TheVariants.{Replay, Spawn, Place, NoEntry}
+use Rattle.replay.specs.declared.printing.PrintOptions.{PrintOptions}
+use Rattle.worker_replay.specs.declared.fault.WorkerReplayFault.{WorkerReplayFault}
+use Rattle.worker_replay.specs.declared.fault.WorkerReplayFault.TheVariants.{Replay, Spawn, Place, NoEntry}
 use Rattle.worker_replay.specs.Outputs as many
-use Rattle.replay.specs.declared.writing.CannotWrite.{CannotWrite}
+use Rattle.replay.specs.declared.writing.WriteError.{WriteError}
 use Rattle.command_answers.specs.declared.command_fault.CommandFault.{CommandFault}
 use Rattle.command_answers.specs.declared.command_fault.CommandFault.TheVariants as fault
 use Rattle.command_answers.specs.Faults.{command_fault_text, fault_line, status_of}
@@ -21,7 +21,7 @@ use Rattle.command_answers.proofs.Said.{said_of}
 use Rattle.abr_cli.specs.Replaying.{fault_from, EndsBy, EndsEarly, IsEndSaid, IsReplayEnded, IsReplayedPart}
 
 -- a replay may end for want of memory wherever it may end but with a failed write
-pub ended_early : (file : Bor (List ℕ)) (workers : ℕ) (e : ManyFault) (p : Printing) (status : ℕ) (i i' o o' f f' : Option (List ℕ)) → EndsEarly workers e p i i' o o' → IsEndSaid file e status f f'
+pub ended_early : (file : Bor (List ℕ)) (workers : ℕ) (e : WorkerReplayFault) (p : PrintOptions) (status : ℕ) (i i' o o' f f' : Option (List ℕ)) → EndsEarly workers e p i i' o o' → IsEndSaid file e status f f'
     → IsReplayEnded file workers p status i i' o o' f f'
 ended_early file workers (Replay Read) p status i i' o o' f f' h (inl said) = inr (Replay Read, h, said)
 ended_early file workers (Replay Read) p status i i' o o' f f' h (inr said) = inr (Replay Memory, inl h, said)
@@ -39,7 +39,7 @@ ended_early file workers NoEntry p status i i' o o' f f' h (inl said) = inr (NoE
 ended_early file workers NoEntry p status i i' o o' f f' h (inr said) = inr (Replay Memory, inl h.1, said)
 
 -- what is said of each fault by itself
-pub by_fault : (workers : ℕ) (e : ReplayFault) (p : Printing) (i i' o o' : Option (List ℕ)) → (e ≡ Read → o' ≡ o)
+pub by_fault : (workers : ℕ) (e : ReplayFault) (p : PrintOptions) (i i' o o' : Option (List ℕ)) → (e ≡ Read → o' ≡ o)
     → ((f : LineFault) → e ≡ Line f → (o' ≡ o) × ((bytes : List ℕ) × ReadsAll i i' bytes × IsFaultOf bytes f))
     → (e ≡ Write → IsReplayedPart workers stop.Write p i i' o o') → (e ≡ Closed → IsReplayedPart workers stop.Closed p i i' o o') → (e ≡ Memory → (o' ≡ o) ⊎ IsReplayedPart workers stop.Memory p i i' o o') → EndsEarly workers (Replay e) p i i' o o'
 by_fault workers Read p i i' o o' read line write closed memory = read refl
@@ -49,7 +49,7 @@ by_fault workers Memory p i i' o o' read line write closed memory = memory refl
 by_fault workers (Line f) p i i' o o' read line write closed memory = line f refl
 
 -- a replay by several workers, by its clauses
-pub many_ends : {X : Type 0} (held : X → Option (List ℕ)) (workers : ℕ) (r : Result (Unit {0}) ManyFault) (p : Printing) (i i' : Option (List ℕ)) (old new : X) → 1 < workers
+pub many_ends : {X : Type 0} (held : X → Option (List ℕ)) (workers : ℕ) (r : Result (Unit {0}) WorkerReplayFault) (p : PrintOptions) (i i' : Option (List ℕ)) (old new : X) → 1 < workers
     → OnOk r (many.Replays p i i' (held old) (held new)) → (r ≡ Err (Replay Read) → new ≡ old)
     → ((f : LineFault) → r ≡ Err (Replay (Line f)) → (new ≡ old) × ((bytes : List ℕ) × ReadsAll i i' bytes × IsFaultOf bytes f))
     → (r ≡ Err Spawn → new ≡ old) → (r ≡ Err Place → new ≡ old) → (r ≡ Err NoEntry → new ≡ old)
@@ -73,11 +73,11 @@ many_ends held workers (Err NoEntry) p i i' old new several ok read line spawn p
 
 -- ---- what is said of it
 
-same_status : (r : Result CommandFault CannotWrite) (x c : CommandFault) → r ≡ Ok x → r ≡ Ok c → status_of c ≡ status_of x
+same_status : (r : Result CommandFault WriteError) (x c : CommandFault) → r ≡ Ok x → r ≡ Ok c → status_of c ≡ status_of x
 same_status r x c has is = let same : c ≡ x = cc (has, is) in ap status_of same
 
 -- each fault of a replay has status 1
-status_one : (file : Bor (List ℕ)) (e : ManyFault) (c : CommandFault) → fault_from file e ≡ Ok c → status_of c ≡ 1
+status_one : (file : Bor (List ℕ)) (e : WorkerReplayFault) (c : CommandFault) → fault_from file e ≡ Ok c → status_of c ≡ 1
 status_one file (Replay Read) c is = same_status (fault_from file (Replay Read)) (fault.Read file) c refl is
 status_one file (Replay Write) c is = cc
 status_one file (Replay Closed) c is = cc
@@ -91,7 +91,7 @@ abbrev line_of : CommandFault → List ℕ
 line_of c = fault_line (command_fault_text c)
 
 -- the line of the fault, or of want of memory where there is none for it
-pub fault_said : (file : Bor (List ℕ)) (e : ManyFault) (c : CommandFault) (status : ℕ) (f f' : Option (List ℕ)) → fault_from file e ≡ Ok c
+pub fault_said : (file : Bor (List ℕ)) (e : WorkerReplayFault) (c : CommandFault) (status : ℕ) (f f' : Option (List ℕ)) → fault_from file e ≡ Ok c
     → IsSaid (line_of c) (status_of c) status f f' ⊎ IsSaid (line_of fault.Memory) 1 status f f' → IsEndSaid file e status f f'
 fault_said file e c status f f' is said =
     subst (λ r. MatchResult r (λ k. IsSaidOf k status f f' ⊎ IsSaidOf fault.Memory status f f') (λ why. IsUnwrittenSaid why status f f')) (sym is) (either said)
@@ -100,6 +100,6 @@ fault_said file e c status f f' is said =
     either (inl line) = inl (said_of c status f f' (subst (λ n. IsSaid (line_of c) n status f f') (status_one file e c is) line))
     either (inr memory) = inr (said_of fault.Memory status f f' memory)
 
-pub unwritten_said : (file : Bor (List ℕ)) (e : ManyFault) (why : CannotWrite) (status : ℕ) (f f' : Option (List ℕ)) → fault_from file e ≡ Err why → IsUnwrittenSaid why status f f' → IsEndSaid file e status f f'
+pub unwritten_said : (file : Bor (List ℕ)) (e : WorkerReplayFault) (why : WriteError) (status : ℕ) (f f' : Option (List ℕ)) → fault_from file e ≡ Err why → IsUnwrittenSaid why status f f' → IsEndSaid file e status f f'
 unwritten_said file e why status f f' is said =
     subst (λ r. MatchResult r (λ k. IsSaidOf k status f f' ⊎ IsSaidOf fault.Memory status f f') (λ w. IsUnwrittenSaid w status f f')) (sym is) said

@@ -9,7 +9,7 @@ use Rattle.replay.specs.declared.fault.ReplayFault.TheVariants.{Read, Write, Clo
 use Rattle.explained_replay.specs.Outputs.{ExplainsPart}
 use Rattle.explained_replay.specs.declared.question.Explaining.{Explaining}
 use Rattle.command_answers.specs.declared.command_fault.CommandFault.TheVariants as fault
-use Rattle.command_answers.specs.declared.words.WordFault.{WordFault}
+use Rattle.command_answers.specs.declared.argument_values.WordFault.{WordFault}
 use Rattle.command_answers.specs.Answers.{IsSaid}
 use Rattle.command_answers.specs.Faults.{command_fault_text, fault_line, status_of}
 use Rattle.abr_cli.specs.Explaining.{ExplainsEarly, IsWordFault, IsWordSaid}

@@ -1,18 +1,18 @@
 -- What `abr capture` wrote.
 use Rattle.std.specs.Prelude.{ℕ, ◌≡◌, ◌⊎◌, List, Option, Some, None, Result, Ok, Err, MatchResult}
 use Rattle.std.specs.Borrow.{Bor}
-use Rattle.replay.specs.declared.writing.CannotWrite.{CannotWrite}
-use Rattle.replay.specs.declared.writing.CannotWrite.TheVariants as cannot_write
+use Rattle.replay.specs.declared.writing.WriteError.{WriteError}
+use Rattle.replay.specs.declared.writing.WriteError.TheVariants as cannot_write
 use Rattle.captured_lsas.specs.declared.options.Options.{Options}
 use Rattle.capture_recording.specs.Outputs.{Outcome}
-use Rattle.capture_recording.specs.declared.capturing.Beginning.{Beginning}
-use Rattle.capture_recording.specs.declared.capturing.Beginning.TheVariants.{Given, Router}
+use Rattle.capture_recording.specs.declared.capturing.Preamble.{Preamble}
+use Rattle.capture_recording.specs.declared.capturing.Preamble.TheVariants.{Given, Router}
 use Rattle.capture_recording.specs.declared.fault.CapturingFault.{CapturingFault}
 use Rattle.capture_recording.specs.declared.fault.CapturingFault.TheVariants as capturing
 use Rattle.command_answers.specs.declared.command_fault.CommandFault.{CommandFault}
 use Rattle.command_answers.specs.declared.command_fault.CommandFault.TheVariants as fault
-use Rattle.command_answers.specs.declared.words.WordFault.{WordFault}
-use Rattle.command_answers.specs.declared.words.WordFault.TheVariants.{NotAnAddress}
+use Rattle.command_answers.specs.declared.argument_values.WordFault.{WordFault}
+use Rattle.command_answers.specs.declared.argument_values.WordFault.TheVariants.{NotAnAddress}
 use Rattle.command_answers.specs.Answers.{IsSaid, IsUnwrittenSaid}
 use Rattle.command_answers.specs.Faults.{command_fault_text, fault_line, status_of}
 use Rattle.command_answers.specs.Words.{IsAddress, Writes}
@@ -33,7 +33,7 @@ IsRouterFault None f = ⊥
 IsRouterFault (Some word) f = (f ≡ NotAnAddress) × (¬ IsAddress word.now)
 
 -- the bytes of the file, where one is named, and else what the capture tells of the router
-abbrev pub IsBeginning : (begin beginning : Option (Bor (List ℕ))) → Option ℕ → Beginning → Type 0
+abbrev pub IsBeginning : (begin beginning : Option (Bor (List ℕ))) → Option ℕ → Preamble → Type 0
 IsBeginning None bytes None b = ⊥
 IsBeginning None bytes (Some router) b = b ≡ Router router
 IsBeginning (Some name) None router b = ⊥
@@ -46,7 +46,7 @@ HasNone None bytes (Some router) f = ⊥
 HasNone (Some name) None router f = f ≡ fault.Read name
 HasNone (Some name) (Some bytes) router f = ⊥
 
-abbrev pub BeginsWith : Capture → Beginning → Type 0
+abbrev pub BeginsWith : Capture → Preamble → Type 0
 BeginsWith c b = (router : Option ℕ) × HasRouter c.router router × IsBeginning c.begin c.beginning router b
 
 -- why there is no beginning; a word that is no address is told first
@@ -62,7 +62,7 @@ IsSaidOrMemory c status f f' =
     IsSaid (fault_line (command_fault_text c)) (status_of c) status f f' ⊎ IsSaid (fault_line (command_fault_text fault.Memory)) 1 status f f'
 
 -- the fault as one of the command, which names the capture; or why the output was not written whole
-abbrev pub fault_from_capture : Bor (List ℕ) → CapturingFault → Result CommandFault CannotWrite
+abbrev pub fault_from_capture : Bor (List ℕ) → CapturingFault → Result CommandFault WriteError
 fault_from_capture file (capturing.Capture kind place) = Ok (fault.Capture file place kind)
 fault_from_capture file capturing.Read = Ok (fault.Read file)
 fault_from_capture file (capturing.Line f) = Ok (fault.Line f)
@@ -78,11 +78,11 @@ IsCaptureEndSaid file x status f f' =
     MatchResult (fault_from_capture file x) (λ c. IsSaidOrMemory c status f f') (λ why. IsUnwrittenSaid why status f f')
 
 -- the capture was recorded; or it was not recorded whole, and it was said why
-abbrev pub IsCaptureEnded : Bor (List ℕ) → Options → Beginning → (status : ℕ) (i i' o o' f f' : Option (List ℕ)) → Type 0
+abbrev pub IsCaptureEnded : Bor (List ℕ) → Options → Preamble → (status : ℕ) (i i' o o' f f' : Option (List ℕ)) → Type 0
 IsCaptureEnded file options b status i i' o o' f f' = ((status ≡ 0) × Outcome options b i i' o o' f f' (Ok tt))
     ⊎ ((x : CapturingFault) × (mid : Option (List ℕ)) × Outcome options b i i' o o' f mid (Err x) × IsCaptureEndSaid file x status mid f')
 
 -- nothing was read, and it was said why there is no beginning; or the capture was recorded
 abbrev pub IsCaptureTold : Capture → (status : ℕ) (i i' o o' f f' : Option (List ℕ)) → Type 0
 IsCaptureTold c status i i' o o' f f' = ((x : CommandFault) × LacksBeginning c x × (i' ≡ i) × (o' ≡ o) × IsSaidOrMemory x status f f')
-    ⊎ ((b : Beginning) × BeginsWith c b × IsCaptureEnded c.file c.options b status i i' o o' f f')
+    ⊎ ((b : Preamble) × BeginsWith c b × IsCaptureEnded c.file c.options b status i i' o o' f f')

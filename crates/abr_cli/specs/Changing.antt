@@ -5,12 +5,12 @@ use Rattle.ospf_types.specs.declared.prefix.Prefix.{Prefix}
 use Rattle.word_reading.specs.Writing.{WritesNetwork}
 use Rattle.replay.specs.declared.fault.ReplayFault.{ReplayFault}
 use Rattle.replay.specs.declared.fault.ReplayFault.TheVariants.{Read, Write, Closed, Memory, Line}
-use Rattle.replay.specs.declared.page.Stop.TheVariants as stop
+use Rattle.replay.specs.declared.buffer.PrintError.TheVariants as stop
 use Rattle.changes.specs.Outputs.{FailsAtFront, FailsBehind, TellsAll, TellsPart, TellsThese}
-use Rattle.changes.specs.declared.telling.Telling.{Telling}
-use Rattle.worker_replay.specs.declared.fault.ManyFault.TheVariants.{Replay}
+use Rattle.changes.specs.declared.printing.ChangeOptions.{ChangeOptions}
+use Rattle.worker_replay.specs.declared.fault.WorkerReplayFault.TheVariants.{Replay}
 use Rattle.command_answers.specs.declared.command_fault.CommandFault.TheVariants as fault
-use Rattle.command_answers.specs.declared.words.WordFault.TheVariants.{NotANetwork}
+use Rattle.command_answers.specs.declared.argument_values.WordFault.TheVariants.{NotANetwork}
 use Rattle.command_answers.specs.Answers.{IsSaid}
 use Rattle.command_answers.specs.Faults.{command_fault_text, fault_line}
 use Rattle.abr_cli.specs.Replaying.{IsEndSaid}
@@ -30,7 +30,7 @@ LacksNetwork None = ⊥
 LacksNetwork (Some word) = (p : Prefix) → ¬ WritesNetwork word.now p
 
 -- what was made of the input and the output where it ended early for this fault
-abbrev pub TellsEarly : Telling → ReplayFault → (i i' o o' : Option (List ℕ)) → Type 0
+abbrev pub TellsEarly : ChangeOptions → ReplayFault → (i i' o o' : Option (List ℕ)) → Type 0
 TellsEarly t Read i i' o o' = (o' ≡ o) ⊎ ((bytes : List ℕ) × TellsThese t i i' bytes o o')
 TellsEarly t Write i i' o o' = TellsPart stop.Write t i i' o o'
 TellsEarly t Closed i i' o o' = TellsPart stop.Closed t i i' o o'
@@ -43,21 +43,21 @@ IsWordSaid status i i' o o' f f' =
     (i' ≡ i) × (o' ≡ o) × (IsSaid (fault_line (command_fault_text (fault.Word NotANetwork))) 2 status f f' ⊎ IsSaid (fault_line (command_fault_text fault.Memory)) 1 status f f')
 
 -- what the command tells, where this network is asked for
-abbrev pub telling_of : Changes → Option Prefix → Telling
+abbrev pub telling_of : Changes → Option Prefix → ChangeOptions
 telling_of c only = record {
   wanted = record { only = only; format = c.format };
   answers = c.answers;
-  skips = c.skips;
+  skips_faults = c.skips_faults;
   progress = c.progress;
 }
 
 -- what is to be told went to its end, and nothing was said; or it ended early, and its fault was said, or want of memory in its place
-abbrev pub IsTellingEnded : Bor (List ℕ) → Telling → (status : ℕ) (i i' o o' f f' : Option (List ℕ)) → Type 0
+abbrev pub IsTellingEnded : Bor (List ℕ) → ChangeOptions → (status : ℕ) (i i' o o' f f' : Option (List ℕ)) → Type 0
 IsTellingEnded file t status i i' o o' f f' = ((status ≡ 0) × TellsAll t i i' o o' × (f' ≡ f))
     ⊎ ((e : ReplayFault) × TellsEarly t e i i' o o' × IsEndSaid file (Replay e) status f f')
 
 -- it was shown how much is done, where that is to be shown, and then said how the telling ended
-abbrev pub IsTellingTold : Bor (List ℕ) → Telling → (status : ℕ) (i i' o o' f f' : Option (List ℕ)) → Type 0
+abbrev pub IsTellingTold : Bor (List ℕ) → ChangeOptions → (status : ℕ) (i i' o o' f f' : Option (List ℕ)) → Type 0
 IsTellingTold file t status i i' o o' f f' = (mid : Option (List ℕ)) × IsAdvanceTold t.progress f mid × IsTellingEnded file t status i i' o o' mid f'
 
 -- the word of the one network, if there is one, was no network; or what is asked for was told

@@ -13,10 +13,10 @@ use Rattle.explained_replay.specs.Outputs.{Explains, ExplainsPart}
 use Rattle.explained_replay.specs.declared.question.Explaining.{Explaining}
 use Rattle.explained_replay.specs.declared.question.Question.{Question}
 use Rattle.explained_replay.specs.declared.question.Question.TheVariants.{Address, Due}
-use Rattle.worker_replay.specs.declared.fault.ManyFault.TheVariants.{Replay}
+use Rattle.worker_replay.specs.declared.fault.WorkerReplayFault.TheVariants.{Replay}
 use Rattle.command_answers.specs.declared.command_fault.CommandFault.TheVariants as fault
-use Rattle.command_answers.specs.declared.words.WordFault.{WordFault}
-use Rattle.command_answers.specs.declared.words.WordFault.TheVariants.{NotAnAddress, NotANetwork}
+use Rattle.command_answers.specs.declared.argument_values.WordFault.{WordFault}
+use Rattle.command_answers.specs.declared.argument_values.WordFault.TheVariants.{NotAnAddress, NotANetwork}
 use Rattle.command_answers.specs.Answers.{IsSaid}
 use Rattle.command_answers.specs.Faults.{command_fault_text, fault_line}
 use Rattle.command_answers.specs.Words.{IsAddress, IsNoNetwork, Writes}

@@ -5,8 +5,8 @@ use Rattle.command_line.specs.declared.command.CaptureWords.{CaptureWords}
 use Rattle.command_line.specs.declared.command.Job.{Job}
 use Rattle.command_line.specs.declared.command.Job.TheVariants as job
 use Rattle.command_line.specs.declared.command.Usage.{Usage}
-use Rattle.abr_cli.specs.declared.running.Asked.{Asked}
-use Rattle.abr_cli.specs.declared.running.Asked.TheVariants as asked
+use Rattle.abr_cli.specs.declared.dispatch.Asked.{Asked}
+use Rattle.abr_cli.specs.declared.dispatch.Asked.TheVariants as asked
 use Rattle.command_line.specs.Command.{AreWorkers, texts_of}
 use Rattle.command_answers.specs.Answers.{Tells}
 use Rattle.command_answers.specs.One.{IsOneAnswer}
@@ -43,7 +43,7 @@ replay_asked file workers show format progress = record {
 
 -- what `abr changes` asks for: what changed, up to the first fault
 abbrev pub changes_asked : Bor (List ℕ) → Option (Bor (List ℕ)) → Format → Progress → Changes
-changes_asked file only format progress = record { file = file; only = only; format = format; answers = false; skips = false; progress = progress }
+changes_asked file only format progress = record { file = file; only = only; format = format; answers = false; skips_faults = false; progress = progress }
 
 -- what `abr follow` asks for: what came of each line, also behind a fault unless it is strict
 abbrev pub follow_asked : Bor (List ℕ) → Option (Bor (List ℕ)) → (strict : Bool) → Format → Changes
@@ -52,7 +52,7 @@ follow_asked file only strict format = record {
   only = only;
   format = format;
   answers = true;
-  skips = not strict;
+  skips_faults = not strict;
   progress = record { is_shown = false; all = None };
 }
 

@@ -7,7 +7,7 @@ use Rattle.replay.specs.Inputs.{ReadsAll}
 use Rattle.replay.specs.declared.fault.ReplayFault.{ReplayFault}
 use Rattle.replay.specs.declared.fault.ReplayFault.TheVariants.{Read, Write, Closed, Memory, Line}
 use Rattle.page_replay.specs.Outputs.{WritesPage, WritesPagePart}
-use Rattle.worker_replay.specs.declared.fault.ManyFault.TheVariants.{Replay}
+use Rattle.worker_replay.specs.declared.fault.WorkerReplayFault.TheVariants.{Replay}
 use Rattle.command_answers.specs.declared.command_fault.CommandFault.TheVariants as fault
 use Rattle.command_answers.specs.Answers.{IsSaidOf}
 use Rattle.abr_cli.specs.Replaying.{IsEndSaid}

@@ -3,9 +3,9 @@ ghost use Rattle.std.specs.Prelude.{◌≡◌, IfErr, IfOk};
 ghost use Rattle.abr_cli.specs.Capturing.{BeginsWith, HasRouter, IsCaptureEndSaid, IsCaptureTold, IsRouterFault, LacksBeginning, fault_from_capture};
 
 use crate::replaying::say_fault;
-use capture_recording::{Beginning, Capturing, CapturingFault, Options, record_capture};
+use capture_recording::{Preamble, Capturing, CapturingFault, Options, record_capture};
 use command_answers::{CommandFault, WordFault, read_address, say_unwritten};
-use replay::CannotWrite;
+use replay::WriteError;
 use std::alloc::Global;
 use std::hash::RandomState;
 use std::io;
@@ -57,15 +57,15 @@ impl<'a> Capture<'a> {
     }
 
     // What the recording begins with: the file, where there is one.
-    fn begins_with(self) -> Result<Beginning<'a>, CommandFault<'a>>
+    fn begins_with(self) -> Result<Preamble<'a>, CommandFault<'a>>
         ensures beginning { IfOk result (BeginsWith self.entry) }
         ensures fault { IfErr result (LacksBeginning self.entry) }
     {
         let router = router_of(self.router)?;
         match (self.begin, self.beginning, router) {
-            (Some(_), Some(bytes), _) => Ok(Beginning::Given(bytes)),
+            (Some(_), Some(bytes), _) => Ok(Preamble::Given(bytes)),
             (Some(name), None, _) => Err(CommandFault::Read(name)),
-            (None, _, Some(router)) => Ok(Beginning::Router(router)),
+            (None, _, Some(router)) => Ok(Preamble::Router(router)),
             (None, _, None) => Err(CommandFault::Beginning),
         }
     }
@@ -98,7 +98,7 @@ fn say_capture_end<F: io::Write>(
 }
 
 // The fault as one of the command; or why the output was not written whole.
-fn fault_from_capture(file: &str, fault: CapturingFault) -> Result<CommandFault<'_>, CannotWrite>
+fn fault_from_capture(file: &str, fault: CapturingFault) -> Result<CommandFault<'_>, WriteError>
     ensures { result ≡ fault_from_capture file.entry fault }
 {
     match fault {
@@ -106,9 +106,9 @@ fn fault_from_capture(file: &str, fault: CapturingFault) -> Result<CommandFault<
         CapturingFault::Read => Ok(CommandFault::Read(file)),
         CapturingFault::Line(fault) => Ok(CommandFault::Line(fault)),
         CapturingFault::Config(fault) => Ok(CommandFault::Config(fault)),
-        CapturingFault::Unsaid => Err(CannotWrite::Failed),
-        CapturingFault::Write => Err(CannotWrite::Failed),
-        CapturingFault::Closed => Err(CannotWrite::Closed),
+        CapturingFault::Unsaid => Err(WriteError::Failed),
+        CapturingFault::Write => Err(WriteError::Failed),
+        CapturingFault::Closed => Err(WriteError::Closed),
         CapturingFault::Memory => Ok(CommandFault::Memory),
     }
 }

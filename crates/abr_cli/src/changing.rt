@@ -1,11 +1,11 @@
 //! The commands `changes` and `follow`.
 ghost use Rattle.std.specs.Prelude.{◌≡◌, IfOk, IfErr};
 ghost use Rattle.command_answers.specs.declared.command_fault.CommandFault.TheVariants as fault;
-ghost use Rattle.command_answers.specs.declared.words.WordFault.TheVariants.{NotANetwork};
+ghost use Rattle.command_answers.specs.declared.argument_values.WordFault.TheVariants.{NotANetwork};
 ghost use Rattle.abr_cli.specs.Changing.{Asks, IsChangesTold, LacksNetwork, telling_of};
 
 use crate::replaying::{say_end, say_fault};
-use changes::{Telling, Wanted, tell_changes};
+use changes::{ChangeOptions, ChangeFilter, print_changes};
 use command_answers::{CommandFault, read_network};
 use ospf_types::prefix::Prefix;
 use output_format::Format;
@@ -13,7 +13,7 @@ use replay::Progress;
 use std::alloc::Global;
 use std::hash::RandomState;
 use std::io;
-use worker_replay::ManyFault;
+use worker_replay::WorkerReplayFault;
 
 /// The command `changes` or `follow`, as it was given.
 #[derive(Clone, Copy)]
@@ -27,7 +27,7 @@ pub struct Changes<'a> {
     /// Whether it is told too what came of a line that changed nothing, and of each line before the next is waited for.
     pub answers: bool,
     /// Whether a line at fault behind the front is told of and skipped.
-    pub skips: bool,
+    pub skips_faults: bool,
     /// How many lines there are, and whether it is shown how many of them are done.
     pub progress: Progress,
 }
@@ -53,25 +53,25 @@ impl Changes<'_> {
             Err(fault) => return say_fault(alloc, fault, faults),
         };
         self.progress.show(alloc, 0, faults);
-        let ended = tell_changes(alloc, hashing, self.telling(only), input, out, faults);
+        let ended = print_changes(alloc, hashing, self.telling(only), input, out, faults);
         self.progress.end(faults);
         match ended {
             Ok(()) => 0,
-            Err(fault) => say_end(alloc, self.file, ManyFault::Replay(fault), faults),
+            Err(fault) => say_end(alloc, self.file, WorkerReplayFault::Replay(fault), faults),
         }
     }
 
     // What is told, where this network is asked for.
-    fn telling(self, only: Option<Prefix>) -> Telling
+    fn telling(self, only: Option<Prefix>) -> ChangeOptions
         ensures { result ≡ telling_of self.entry only }
     {
-        Telling {
-            wanted: Wanted {
+        ChangeOptions {
+            wanted: ChangeFilter {
                 only,
                 format: self.format,
             },
             answers: self.answers,
-            skips: self.skips,
+            skips_faults: self.skips_faults,
             progress: self.progress,
         }
     }

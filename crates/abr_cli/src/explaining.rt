@@ -12,7 +12,7 @@ use replay::Progress;
 use std::alloc::Global;
 use std::hash::RandomState;
 use std::io;
-use worker_replay::ManyFault;
+use worker_replay::WorkerReplayFault;
 
 /// The command `explain`, as it was given.
 #[derive(Clone, Copy)]
@@ -63,7 +63,7 @@ impl Explain<'_> {
         progress.end(faults);
         match ended {
             Ok(()) => 0,
-            Err(fault) => say_end(alloc, self.file, ManyFault::Replay(fault), faults),
+            Err(fault) => say_end(alloc, self.file, WorkerReplayFault::Replay(fault), faults),
         }
     }
 }

@@ -9,7 +9,7 @@ use replay::{Progress, ReplayFault};
 use std::alloc::Global;
 use std::hash::RandomState;
 use std::io;
-use worker_replay::ManyFault;
+use worker_replay::WorkerReplayFault;
 
 /// The command `page`, as it was given.
 #[derive(Clone, Copy)]
@@ -64,7 +64,7 @@ fn say_page_end<F: io::Write>(
 {
     match unwritten(output, fault) {
         Some(name) => say_fault(alloc, CommandFault::WriteTo(name), faults),
-        None => say_end(alloc, file, ManyFault::Replay(fault), faults),
+        None => say_end(alloc, file, WorkerReplayFault::Replay(fault), faults),
     }
 }
 

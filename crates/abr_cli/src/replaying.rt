@@ -7,13 +7,13 @@ ghost use Rattle.abr_cli.specs.Replaying.{fault_from as from_replay, EndsBy, IsE
 ghost use Rattle.abr_cli.specs.Showing.{IsRunTold};
 
 use command_answers::{CommandFault, NO_MEMORY, line_of, say, say_unwritten};
-use replay::{CannotWrite, Progress, ReplayFault, replay_one};
+use replay::{WriteError, Progress, ReplayFault, replay_one};
 use std::alloc::Global;
 use std::hash::RandomState;
 use std::io;
 use std::sync::Wait;
 use std::thread::Threads;
-use worker_replay::{ManyFault, ReplayOptions, replay_many};
+use worker_replay::{WorkerReplayFault, ReplayOptions, replay_many};
 
 /// The command `replay`, as it was given.
 #[derive(Clone, Copy)]
@@ -58,7 +58,7 @@ fn run_with<S: Threads + Wait + Sync, R: io::Read, W: io::Write, F: io::Write>(
     input: &mut R,
     out: &mut W,
     faults: &mut F,
-) -> Result<(), ManyFault>
+) -> Result<(), WorkerReplayFault>
     requires { AreWorkers options.workers }
     ensures end { EndsBy options.workers options.printing result (R.remaining input.old)
         (R.remaining input.new) (W.contents out.old) (W.contents out.new) }
@@ -78,7 +78,7 @@ fn run_with<S: Threads + Wait + Sync, R: io::Read, W: io::Write, F: io::Write>(
     progress.end(faults);
     match ended {
         Ok(()) => Ok(()),
-        Err(fault) => Err(ManyFault::Replay(fault)),
+        Err(fault) => Err(WorkerReplayFault::Replay(fault)),
     }
 }
 
@@ -86,7 +86,7 @@ fn run_with<S: Threads + Wait + Sync, R: io::Read, W: io::Write, F: io::Write>(
 pub(crate) fn say_end<F: io::Write>(
     alloc: Global,
     file: &str,
-    fault: ManyFault,
+    fault: WorkerReplayFault,
     faults: &mut F,
 ) -> u8
     ensures { IsEndSaid file.entry fault result (F.contents faults.old) (F.contents faults.new) }
@@ -98,18 +98,18 @@ pub(crate) fn say_end<F: io::Write>(
 }
 
 // The fault as one of the command; or why the output was not written whole.
-fn fault_from(file: &str, fault: ManyFault) -> Result<CommandFault<'_>, CannotWrite>
+fn fault_from(file: &str, fault: WorkerReplayFault) -> Result<CommandFault<'_>, WriteError>
     ensures { result ≡ from_replay file.entry fault }
 {
     match fault {
-        ManyFault::Replay(ReplayFault::Read) => Ok(CommandFault::Read(file)),
-        ManyFault::Replay(ReplayFault::Write) => Err(CannotWrite::Failed),
-        ManyFault::Replay(ReplayFault::Closed) => Err(CannotWrite::Closed),
-        ManyFault::Replay(ReplayFault::Memory) => Ok(CommandFault::Memory),
-        ManyFault::Replay(ReplayFault::Line(fault)) => Ok(CommandFault::Line(fault)),
-        ManyFault::Spawn => Ok(CommandFault::Spawn),
-        ManyFault::Place => Ok(CommandFault::Place),
-        ManyFault::NoEntry => Ok(CommandFault::NoEntry),
+        WorkerReplayFault::Replay(ReplayFault::Read) => Ok(CommandFault::Read(file)),
+        WorkerReplayFault::Replay(ReplayFault::Write) => Err(WriteError::Failed),
+        WorkerReplayFault::Replay(ReplayFault::Closed) => Err(WriteError::Closed),
+        WorkerReplayFault::Replay(ReplayFault::Memory) => Ok(CommandFault::Memory),
+        WorkerReplayFault::Replay(ReplayFault::Line(fault)) => Ok(CommandFault::Line(fault)),
+        WorkerReplayFault::Spawn => Ok(CommandFault::Spawn),
+        WorkerReplayFault::Place => Ok(CommandFault::Place),
+        WorkerReplayFault::NoEntry => Ok(CommandFault::NoEntry),
     }
 }
 

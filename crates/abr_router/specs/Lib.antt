@@ -9,7 +9,7 @@ pub use Rattle.event_core.specs.Listings
 pub use Rattle.publication.specs.Forwarders
 pub use Rattle.publication.specs.Published
 pub use Rattle.publication.specs.Told
-pub use Rattle.publication.specs.Unseen
+pub use Rattle.publication.specs.LookupError
 pub use Rattle.route_table.specs.Tables
 pub use Rattle.event_state.specs.Steps
 pub use Rattle.event_state.specs.Bases

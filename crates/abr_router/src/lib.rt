@@ -5,7 +5,7 @@
 // One thread has a core; threads share an engine, and look up by forwarders.
 pub use engine::{
     Answer, Base, BaseFault, BytesFault, ConfigFault, Core, DueList, DueSummary, Engine, Event,
-    Forwarder, Gate, Open, OpenFault, Refusal, Refused, Reply, Seen, Status, Told, Unfit, Unseen,
+    Forwarder, Gate, Open, OpenFault, Refusal, Refused, Reply, Seen, Status, Told, EntryFault, LookupError,
 };
 // What a router is opened from again.
 pub use event_state::{Limits, fault_in_base};

@@ -3,7 +3,7 @@
 use abr_cli::Format;
 use anyhow::{Result, ensure};
 use recording::{Fault, LineFault};
-use replay::{Printing, ReplayFault, Show, replay_one};
+use replay::{PrintOptions, ReplayFault, Show, replay_one};
 use std::alloc::Global;
 use std::hash::RandomState;
 use std::io;
@@ -87,7 +87,7 @@ pub fn some_device(
 }
 
 /// The routing table, in words; how much is done is not shown.
-pub const PRINTING: Printing = Printing {
+pub const PRINTING: PrintOptions = PrintOptions {
     show: Show::Routes,
     format: Format::Text,
     progress: false,

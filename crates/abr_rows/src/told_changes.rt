@@ -4,7 +4,7 @@ use crate::replays::{RECORDING, some_device};
 use crate::trial::UNSHOWN;
 use abr_cli::Format;
 use anyhow::{Result, ensure};
-use changes::{Telling, Wanted, tell_changes};
+use changes::{ChangeOptions, ChangeFilter, print_changes};
 use recording::{Fault, LineFault};
 use replay::ReplayFault;
 use std::alloc::Global;
@@ -16,24 +16,24 @@ const CHANGES: &str = "5 set 192.0.2.0/24 intra 0.0.0.0 10 0 direct:1
 ";
 
 // The changes of all networks, in words.
-const WANTED: Wanted = Wanted {
+const WANTED: ChangeFilter = ChangeFilter {
     only: None,
     format: Format::Text,
 };
 
 // All that is told, and no answers; the first fault ends it.
-const ALL: Telling = Telling {
+const ALL: ChangeOptions = ChangeOptions {
     wanted: WANTED,
     answers: false,
-    skips: false,
+    skips_faults: false,
     progress: UNSHOWN,
 };
 
 // Answers too, and faults are skipped.
-const ANSWERS: Telling = Telling {
+const ANSWERS: ChangeOptions = ChangeOptions {
     wanted: WANTED,
     answers: true,
-    skips: true,
+    skips_faults: true,
     progress: UNSHOWN,
 };
 
@@ -49,7 +49,7 @@ fn tells(
     let mut input = some_device(alloc, text, calls.0, None);
     let mut out = some_device(alloc, "", calls.1, failure);
     let mut faults = Vec::new(alloc);
-    let answer = tell_changes(alloc, hashing, ALL, &mut input, &mut out, &mut faults);
+    let answer = print_changes(alloc, hashing, ALL, &mut input, &mut out, &mut faults);
     let written = out.taken.as_slice();
     let begins = CHANGES.as_bytes().starts_with(written);
     (answer, begins, written.len() == CHANGES.len())
@@ -137,6 +137,6 @@ fn reads_line_by_line(alloc: Global, hashing: RandomState) -> bool {
     let closed = Some(io::ErrorKind::BrokenPipe);
     let mut out = some_device(alloc, "", 0, closed);
     let mut faults = Vec::new(alloc);
-    let answer = tell_changes(alloc, hashing, ANSWERS, &mut input, &mut out, &mut faults);
+    let answer = print_changes(alloc, hashing, ANSWERS, &mut input, &mut out, &mut faults);
     answer == Err(ReplayFault::Closed) && input.calls == 5
 }

@@ -22,7 +22,7 @@ use Rattle.active_ranges.specs.Active.{ActiveValue, IsActiveIn}
 use Rattle.active_ranges.specs.Following.{HasMore}
 use Rattle.active_ranges.specs.Grouped.{Networks, NetworksByRange, range_cmp, range_of}
 use Rattle.active_ranges.specs.declared.member.AreaRange.{AreaRange}
-use Rattle.active_ranges.specs.declared.member.Member.{Member}
+use Rattle.active_ranges.specs.declared.member.RangeMember.{RangeMember}
 use Rattle.active_ranges.proofs.Grouped.{cost_among, found, range_total, range_exact, ranges_value}
 use Rattle.active_ranges.proofs.Kept.{keys_kept, kept_passes, passes_kept}
 use Rattle.active_ranges.proofs.Members.{not_greater, not_first, same_one, zero_least}
@@ -54,7 +54,7 @@ module _ (tree : BTreeMap AreaRange Networks) (spent : Bool) (ordered : IsOrdere
     λ w.
         let r = w.0.0 in
         let first = first_network w.0.1.entries w.3 in
-        let m : Member = record { range = r.prefix; area = r.area; network = first.0 } in
+        let m : RangeMember = record { range = r.prefix; area = r.area; network = first.0 } in
         let stands = (btree_map_get_iff range_total range_exact tree ordered r w.0.1).1 w.1 in
         (m, first.1, found tree.entries spent m ∙ ap (λ (o : Option Networks). cost_among o first.0) stands ∙ first.2, w.2),
   )

@@ -19,7 +19,7 @@ use Rattle.intra.proofs.Following.{one_or_other}
 use Rattle.active_ranges.specs.Active.{ActiveValue, AreRangesOf, DiffersAt, EntriesDifferAmong, IsConfigured, IsMember, member_cmp}
 use Rattle.active_ranges.specs.Following.{AreFollowed, HasTurned, IsCostIn, IsNamed, IsNotedOf}
 use Rattle.active_ranges.specs.declared.active.Noted.{Noted}
-use Rattle.active_ranges.specs.declared.member.Member.{Member}
+use Rattle.active_ranges.specs.declared.member.RangeMember.{RangeMember}
 use Rattle.active_ranges.proofs.Members.{member_total, member_exact}
 
 -- ---- member by member
@@ -31,13 +31,13 @@ followed_none entries v = record {
   others = λ m absent. refl;
 }
 
-pub followed_more : (entries : EntriesByPrefix) (old mid new : ActiveValue) (named : List Member) (i : ℕ) (member : Member) → i < length named → member ≡ get_or named i member → AreFollowed entries (take i named) old mid
+pub followed_more : (entries : EntriesByPrefix) (old mid new : ActiveValue) (named : List RangeMember) (i : ℕ) (member : RangeMember) → i < length named → member ≡ get_or named i member → AreFollowed entries (take i named) old mid
     → new.spent ≡ mid.spent → ((cost : ℕ) → (get new.members member ≡ Some cost) ↔ IsCostIn (get entries member.network) member.area cost)
-    → ((m : Member) → m ≢ member → get new.members m ≡ get mid.members m) → AreFollowed entries (take (i + 1) named) old new
+    → ((m : RangeMember) → m ≢ member → get new.members m ≡ get mid.members m) → AreFollowed entries (take (i + 1) named) old new
 followed_more entries old mid new named i member lt at first spent here others = record {
   spent = spent ∙ first.spent;
   here = λ m c cost. elim (one_or_other member_total member_exact member m) [
-    | inl e ↦ subst (λ (x : Member). (get new.members x ≡ Some cost) ↔ IsCostIn (get entries x.network) x.area cost) (sym e) (here cost)
+    | inl e ↦ subst (λ (x : RangeMember). (get new.members x ≡ Some cost) ↔ IsCostIn (get entries x.network) x.area cost) (sym e) (here cost)
     | inr other ↦
         let early : Contains (take i named) m = elim ((contains_more named i member m lt at).0 c) [ inl early ↦ early | inr e ↦ absurd (other e) ] in
         subst (λ (o : Option ℕ). (o ≡ Some cost) ↔ IsCostIn (get entries m.network) m.area cost) (sym (others m other)) (first.here m early cost)
@@ -47,11 +47,11 @@ followed_more entries old mid new named i member lt at first spent here others =
       others m (λ e. absent (more.1 (inr e))) ∙ first.others m (λ c. absent (more.1 (inl c)));
 }
 
-pub followed_all : (entries : EntriesByPrefix) (old new : ActiveValue) (named : List Member) (i : ℕ) → length named ≤ i → AreFollowed entries (take i named) old new → AreFollowed entries named old new
-followed_all entries old new named i past followed = subst (λ (ms : List Member). AreFollowed entries ms old new) (take_all i named past) followed
+pub followed_all : (entries : EntriesByPrefix) (old new : ActiveValue) (named : List RangeMember) (i : ℕ) → length named ≤ i → AreFollowed entries (take i named) old new → AreFollowed entries named old new
+followed_all entries old new named i past followed = subst (λ (ms : List RangeMember). AreFollowed entries ms old new) (take_all i named past) followed
 
 -- a member that is none has no cost
-pub left_here : (new : ActiveValue) (member : Member) → get new.members member ≡ None → (cost : ℕ) → (get new.members member ≡ Some cost) ↔ IsCostIn (get (empty {R = network_cmp}) member.network) member.area cost
+pub left_here : (new : ActiveValue) (member : RangeMember) → get new.members member ≡ None → (cost : ℕ) → (get new.members member ≡ Some cost) ↔ IsCostIn (get (empty {R = network_cmp}) member.network) member.area cost
 left_here new member none cost = (
   λ h. let wrong = sym none ∙ h in absurd cc,
   λ w. let wrong = sym (get-empty network_cmp member.network) ∙ w.1 in absurd cc,
@@ -70,10 +70,10 @@ among_or_not {K = K} total exact (y ∷ ys) x = elim (one_or_other total exact y
   ]
 ]
 
-module _ (areas : List AreaConfig) (dests : List Dest) (before entries : EntriesByPrefix) (old new : ActiveValue) (named : List Member) (was : AreRangesOf areas before old)
-    (differ : EntriesDifferAmong dests before entries) (exact : (m : Member) → Contains named m ↔ IsNamed areas dests m) (followed : AreFollowed entries named old new) where
+module _ (areas : List AreaConfig) (dests : List Dest) (before entries : EntriesByPrefix) (old new : ActiveValue) (named : List RangeMember) (was : AreRangesOf areas before old)
+    (differ : EntriesDifferAmong dests before entries) (exact : (m : RangeMember) → Contains named m ↔ IsNamed areas dests m) (followed : AreFollowed entries named old new) where
   -- a member that is named
-  at_named : (m : Member) (cost : ℕ) → Contains named m → (get new.members m ≡ Some cost) ↔ IsMember areas entries m cost
+  at_named : (m : RangeMember) (cost : ℕ) → Contains named m → (get new.members m ≡ Some cost) ↔ IsMember areas entries m cost
   at_named m cost c =
       let n = (exact m).0 c in
       let is = followed.here m c cost in (
@@ -82,7 +82,7 @@ module _ (areas : List AreaConfig) (dests : List Dest) (before entries : Entries
       )
 
   -- and one that is not
-  elsewhere : (m : Member) (cost : ℕ) → (Contains named m → ⊥) → (get new.members m ≡ Some cost) ↔ IsMember areas entries m cost
+  elsewhere : (m : RangeMember) (cost : ℕ) → (Contains named m → ⊥) → (get new.members m ≡ Some cost) ↔ IsMember areas entries m cost
   elsewhere m cost absent =
       let kept = followed.others m absent in
       let same : IsConfigured areas m.area m.range → Covers m.range m.network → get entries m.network ≡ get before m.network =
@@ -114,12 +114,12 @@ module _ (old new : ActiveValue) (noted : List Noted) (notes : (n : Noted) → C
       let here : DiffersAt old new from.0.prefix = subst (λ (q : Prefix). DiffersAt old new q) (sym from.2) d in
       (exact p).1 (from.0, from.1, from.2, elim here [ inl left ↦ inl (note.1 left.0, left.1) | inr came ↦ inr (λ active. came.0 (note.0 active), came.1) ])
 
-module _ (entries : EntriesByPrefix) (old new : ActiveValue) (named : List Member) (followed : AreFollowed entries named old new) (touched : List Prefix)
-    (ranges : (p : Prefix) → Contains touched p ↔ Contains (map (λ (m : Member). m.range) named) p) (noted : List Noted) (listed : map (λ (n : Noted). n.prefix) noted ≡ touched)
+module _ (entries : EntriesByPrefix) (old new : ActiveValue) (named : List RangeMember) (followed : AreFollowed entries named old new) (touched : List Prefix)
+    (ranges : (p : Prefix) → Contains touched p ↔ Contains (map (λ (m : RangeMember). m.range) named) p) (noted : List Noted) (listed : map (λ (n : Noted). n.prefix) noted ≡ touched)
     (notes : (n : Noted) → Contains noted n → IsNotedOf old n) (turned : List Prefix)
     (exact : (p : Prefix) → Contains turned p ↔ ((n : Noted) × Contains noted n × (n.prefix ≡ p) × HasTurned new n)) where
-  kept : (p : Prefix) → (Contains touched p → ⊥) → (m : Member) → m.range ≡ p → get new.members m ≡ get old.members m
-  kept p absent m is = followed.others m (λ c. absent ((ranges p).1 (subst (λ (q : Prefix). Contains (map (λ (x : Member). x.range) named) q) is (mapped_element (λ (x : Member). x.range) named m c))))
+  kept : (p : Prefix) → (Contains touched p → ⊥) → (m : RangeMember) → m.range ≡ p → get new.members m ≡ get old.members m
+  kept p absent m is = followed.others m (λ c. absent ((ranges p).1 (subst (λ (q : Prefix). Contains (map (λ (x : RangeMember). x.range) named) q) is (mapped_element (λ (x : RangeMember). x.range) named m c))))
 
   -- what is not touched stays as it was
   stays : (p : Prefix) → (Contains touched p → ⊥) → DiffersAt old new p → ⊥

@@ -23,7 +23,7 @@ use Rattle.intra.proofs.Following.{one_or_other}
 use Rattle.active_ranges.specs.Active.{ActiveValue, member_cmp}
 use Rattle.active_ranges.specs.Grouped.{Networks, NetworksByRange, is_elsewhere, member_in, member_of, members_in, range_cmp, range_of}
 use Rattle.active_ranges.specs.declared.member.AreaRange.{AreaRange}
-use Rattle.active_ranges.specs.declared.member.Member.{Member}
+use Rattle.active_ranges.specs.declared.member.RangeMember.{RangeMember}
 use Rattle.active_ranges.proofs.Members.{member_total, member_exact}
 
 pub range_total : IsTotalOrder range_cmp
@@ -63,7 +63,7 @@ both_equal Equal Equal c = refl
 both_equal Equal Greater c = refl
 both_equal Greater b c = refl
 
-abbrev of_member : Member → AreaRange → Bool
+abbrev of_member : RangeMember → AreaRange → Bool
 of_member m r = is_at (range_cmp (range_of m)) r
 
 none_either : (b : Bool) → ◌≡◌ {A = Option ℕ} None (cond b None None)
@@ -74,7 +74,7 @@ among_one : (b c : Bool) (x y : Option ℕ) (n : ℕ) → y ≡ cond b x None �
 among_one true c x y n is = ap (λ (o : Option ℕ). cond c (Some n) o) is
 among_one false c x y n is = is
 
-in_range : (m : Member) (r : AreaRange) (es : List (Prefix × ℕ)) → lookup (is_at (member_cmp m)) (map (member_in r) es) ≡ cond (of_member m r) (lookup (is_at (network_cmp m.network)) es) None
+in_range : (m : RangeMember) (r : AreaRange) (es : List (Prefix × ℕ)) → lookup (is_at (member_cmp m)) (map (member_in r) es) ≡ cond (of_member m r) (lookup (is_at (network_cmp m.network)) es) None
 in_range m r [] = none_either (of_member m r)
 in_range m r (e ∷ es) =
     ap (λ (b : Bool). cond b (Some e.1) (lookup (is_at (member_cmp m)) (map (member_in r) es))) (both_equal (network_cmp m.range r.prefix) (nat_cmp m.area r.area) (network_cmp m.network e.0))
@@ -85,22 +85,22 @@ this_or_others : (b : Bool) (here : Option ℕ) (networks : Networks) (others : 
 this_or_others true here networks others rest network is are = or_none here ∙ is
 this_or_others false here networks others rest network is are = are
 
-found_in : (m : Member) (rs : NetworksByRange) → lookup (is_at (member_cmp m)) (members_in rs) ≡ cost_among (lookup (is_at (range_cmp (range_of m))) rs) m.network
+found_in : (m : RangeMember) (rs : NetworksByRange) → lookup (is_at (member_cmp m)) (members_in rs) ≡ cost_among (lookup (is_at (range_cmp (range_of m))) rs) m.network
 found_in m [] = refl
 found_in m (r ∷ rs) =
-    let test : Member → Bool = is_at (member_cmp m) in
-    let own : List (Member × ℕ) = map (member_in r.0) r.1.entries in
-    let rest : List (Member × ℕ) = members_in rs in
+    let test : RangeMember → Bool = is_at (member_cmp m) in
+    let own : List (RangeMember × ℕ) = map (member_in r.0) r.1.entries in
+    let rest : List (RangeMember × ℕ) = members_in rs in
     let others = lookup-filter-keys test (is_elsewhere r.0) (is_elsewhere r.0 m) (λ k tied. ap (is_elsewhere r.0) (sym (tells_apart member_exact m k tied))) rest in
-    lookup_in_two test own (filter (λ (x : Member × ℕ). is_elsewhere r.0 x.0) rest)
-    ∙ ap (λ (o : Option ℕ). option_or o (lookup test (filter (λ (x : Member × ℕ). is_elsewhere r.0 x.0) rest))) (in_range m r.0 r.1.entries)
+    lookup_in_two test own (filter (λ (x : RangeMember × ℕ). is_elsewhere r.0 x.0) rest)
+    ∙ ap (λ (o : Option ℕ). option_or o (lookup test (filter (λ (x : RangeMember × ℕ). is_elsewhere r.0 x.0) rest))) (in_range m r.0 r.1.entries)
     ∙ ap (option_or (cond (of_member m r.0) (lookup (is_at (network_cmp m.network)) r.1.entries) None)) others
     ∙ this_or_others (of_member m r.0) (lookup (is_at (network_cmp m.network)) r.1.entries) r.1 (lookup test rest) (lookup (is_at (range_cmp (range_of m))) rs) m.network refl (found_in m rs)
 
 abbrev pub ranges_value : NetworksByRange → Bool → ActiveValue
 ranges_value rs spent = record { members = from_entries (members_in rs); spent = spent }
 
-pub found : (rs : NetworksByRange) (spent : Bool) (m : Member) → get (ranges_value rs spent).members m ≡ cost_among (lookup (is_at (range_cmp (range_of m))) rs) m.network
+pub found : (rs : NetworksByRange) (spent : Bool) (m : RangeMember) → get (ranges_value rs spent).members m ≡ cost_among (lookup (is_at (range_cmp (range_of m))) rs) m.network
 found rs spent m = get-lookup member_total (members_in rs) m ∙ found_in m rs
 
 -- ---- one range has other networks
@@ -108,12 +108,12 @@ found rs spent m = get-lookup member_total (members_in rs) m ∙ found_in m rs
 module _ (es fs : NetworksByRange) (was is : Bool) (r : AreaRange) (new : Option Networks)
     (updates : (q : AreaRange) → lookup (is_at (range_cmp q)) fs ≡ cond (is_at (range_cmp r) q) new (lookup (is_at (range_cmp q)) es)) where
   -- its members have costs of them
-  pub changed_here : (m : Member) → range_of m ≡ r → get (ranges_value fs is).members m ≡ cost_among new m.network
+  pub changed_here : (m : RangeMember) → range_of m ≡ r → get (ranges_value fs is).members m ≡ cost_among new m.network
   changed_here m same =
       found fs is m ∙ ap (λ (o : Option Networks). cost_among o m.network) (updates (range_of m) ∙ ap (λ (b : Bool). cond b new (lookup (is_at (range_cmp (range_of m))) es)) (ap (is_at (range_cmp r)) same ∙ (eq_by_cmp_equiv range_total).refl r))
 
   -- and the others what they had
-  pub changed_elsewhere : (m : Member) → (range_of m ≡ r → ⊥) → get (ranges_value fs is).members m ≡ get (ranges_value es was).members m
+  pub changed_elsewhere : (m : RangeMember) → (range_of m ≡ r → ⊥) → get (ranges_value fs is).members m ≡ get (ranges_value es was).members m
   changed_elsewhere m other =
       let apart : is_at (range_cmp r) (range_of m) ≡ false =
       elim (is_at (range_cmp r) (range_of m)) as (λ b. is_at (range_cmp r) (range_of m) ≡ b → b ≡ false) [ true ↦ λ tied. absurd (other (sym (tells_apart range_exact r (range_of m) tied))) | false ↦ λ tied. refl ] refl in
@@ -121,7 +121,7 @@ module _ (es fs : NetworksByRange) (was is : Bool) (r : AreaRange) (new : Option
 
 -- ---- one member has another cost
 
-module _ (es fs : NetworksByRange) (was is : Bool) (member : Member) (cost : Option ℕ) (had : Option Networks) (new : Networks) (stood : lookup (is_at (range_cmp (range_of member))) es ≡ had)
+module _ (es fs : NetworksByRange) (was is : Bool) (member : RangeMember) (cost : Option ℕ) (had : Option Networks) (new : Networks) (stood : lookup (is_at (range_cmp (range_of member))) es ≡ had)
     (updates : (q : AreaRange) → lookup (is_at (range_cmp q)) fs ≡ cond (is_at (range_cmp (range_of member)) q) (Some new) (lookup (is_at (range_cmp q)) es))
     (within : (q : Prefix) → lookup (is_at (network_cmp q)) new.entries ≡ cond (is_at (network_cmp member.network) q) cost (cost_among had q)) where
   pub put_here : get (ranges_value fs is).members member ≡ cost
@@ -129,7 +129,7 @@ module _ (es fs : NetworksByRange) (was is : Bool) (member : Member) (cost : Opt
       changed_here es fs was is (range_of member) (Some new) updates member refl ∙ within member.network
       ∙ ap (λ (b : Bool). cond b cost (cost_among had member.network)) ((eq_by_cmp_equiv network_total).refl member.network)
 
-  pub put_elsewhere : (m : Member) → m ≢ member → get (ranges_value fs is).members m ≡ get (ranges_value es was).members m
+  pub put_elsewhere : (m : RangeMember) → m ≢ member → get (ranges_value fs is).members m ≡ get (ranges_value es was).members m
   put_elsewhere m other = elim (one_or_other range_total range_exact (range_of member) (range_of m)) [
     | inr apart ↦ changed_elsewhere es fs was is (range_of member) (Some new) updates m apart
     | inl same ↦
@@ -157,7 +157,7 @@ module _ (es fs : NetworksByRange) (was is : Bool) (r : AreaRange) (network : Pr
   first_here =
       changed_here es fs was is r (Some new) updates (member_of r network) refl ∙ alone network ∙ ap (λ (b : Bool). cond b (Some cost) None) ((eq_by_cmp_equiv network_total).refl network)
 
-  pub first_elsewhere : ((p : Prefix) → get (ranges_value es was).members (member_of r p) ≡ None) → (m : Member) → m ≢ member_of r network → get (ranges_value fs is).members m ≡ get (ranges_value es was).members m
+  pub first_elsewhere : ((p : Prefix) → get (ranges_value es was).members (member_of r p) ≡ None) → (m : RangeMember) → m ≢ member_of r network → get (ranges_value fs is).members m ≡ get (ranges_value es was).members m
   first_elsewhere had_none m other = elim (one_or_other range_total range_exact r (range_of m)) [
     | inr apart ↦ changed_elsewhere es fs was is r (Some new) updates m apart
     | inl same ↦

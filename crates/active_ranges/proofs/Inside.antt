@@ -12,23 +12,23 @@ use Rattle.result_map.specs.Lists.{IsOfSome}
 use Rattle.intra.specs.Intras.{EntriesByPrefix}
 use Rattle.active_ranges.specs.Active.{IsConfigured, IsMemberWithin}
 use Rattle.active_ranges.specs.Following.{HasMore, IsAddedWithin, IsCostIn, IsCostWithin}
-use Rattle.active_ranges.specs.declared.member.Member.{Member}
+use Rattle.active_ranges.specs.declared.member.RangeMember.{RangeMember}
 
 pub some_number : (a b : ℕ) → Some a ≡ Some b → a ≡ b
 some_number a b e = cc
 
 -- the member that the network is of the range, at its cost
-abbrev pub IsOfNetwork : EntriesByPrefix → ℕ → Prefix → Prefix → Member × ℕ → Type 0
+abbrev pub IsOfNetwork : EntriesByPrefix → ℕ → Prefix → Prefix → RangeMember × ℕ → Type 0
 IsOfNetwork entries area range network = IsAddedWithin entries (record { range = range; area = area; network = network })
 
 module _ (entries : EntriesByPrefix) (area : ℕ) (range : Prefix) (networks : List Prefix) (all : (p : Prefix) → Contains networks p ↔ IsSome (get entries p)) where
-  of_network : (x : Member × ℕ) → IsOfSome networks (IsOfNetwork entries area range) x → IsCostWithin entries area range x
+  of_network : (x : RangeMember × ℕ) → IsOfSome networks (IsOfNetwork entries area range) x → IsCostWithin entries area range x
   of_network x w =
       let covers = w.2.1 in
       let cost = w.2.2 in
-      subst (λ (m : Member). IsMemberWithin entries area range m × IsCostIn (get entries m.network) m.area x.1) (sym w.2.0) ((refl, refl, (cost.0, cost.1, cost.2, covers)), cost)
+      subst (λ (m : RangeMember). IsMemberWithin entries area range m × IsCostIn (get entries m.network) m.area x.1) (sym w.2.0) ((refl, refl, (cost.0, cost.1, cost.2, covers)), cost)
 
-  from_network : (x : Member × ℕ) → IsCostWithin entries area range x → IsOfSome networks (IsOfNetwork entries area range) x
+  from_network : (x : RangeMember × ℕ) → IsCostWithin entries area range x → IsOfSome networks (IsOfNetwork entries area range) x
   from_network x w =
       let network = x.0.network in
       let id = w.0.0 in
@@ -38,16 +38,16 @@ module _ (entries : EntriesByPrefix) (area : ℕ) (range : Prefix) (networks : L
       (network, there, ((λ i. record { range = prefix i; area = id i; network = network }), within.3, subst (λ (n : ℕ). IsCostIn (get entries network) n x.1) id w.1))
 
   -- from no members
-  pub all_within : (costs : List (Member × ℕ)) → HasMore (IsOfSome networks (IsOfNetwork entries area range)) [] costs → (x : Member × ℕ) → Contains costs x ↔ IsCostWithin entries area range x
+  pub all_within : (costs : List (RangeMember × ℕ)) → HasMore (IsOfSome networks (IsOfNetwork entries area range)) [] costs → (x : RangeMember × ℕ) → Contains costs x ↔ IsCostWithin entries area range x
   all_within costs more x = (
     λ c. elim ((more x).0 c) [ inl none ↦ absurd (no_element x none) | inr some ↦ of_network x some ],
     λ is. (more x).1 (inr (from_network x is)),
   )
 
 -- where the cost of the network's entry is that of one through the area
-module _ (entries : EntriesByPrefix) (member : Member) (looked : Option Entry) (held : looked ≡ get entries member.network) (found : Option ℕ) (costs : (cost : ℕ) → (found ≡ Some cost) ↔ IsCostIn looked member.area cost) where
+module _ (entries : EntriesByPrefix) (member : RangeMember) (looked : Option Entry) (held : looked ≡ get entries member.network) (found : Option ℕ) (costs : (cost : ℕ) → (found ≡ Some cost) ↔ IsCostIn looked member.area cost) where
   -- it is that cost alone
-  pub within_by : (cost : ℕ) → found ≡ Some cost → Covers member.range member.network → (x : Member × ℕ) → IsAddedWithin entries member x ↔ (x ≡ (member, cost))
+  pub within_by : (cost : ℕ) → found ≡ Some cost → Covers member.range member.network → (x : RangeMember × ℕ) → IsAddedWithin entries member x ↔ (x ≡ (member, cost))
   within_by cost is covers x = (
     λ w.
         let e : IsCostIn looked member.area x.1 = subst (λ (o : Option Entry). IsCostIn o member.area x.1) (sym held) w.2 in
@@ -57,12 +57,12 @@ module _ (entries : EntriesByPrefix) (member : Member) (looked : Option Entry) (
   )
 
   -- or it has none
-  pub outside_by : found ≡ None → (x : Member × ℕ) → IsAddedWithin entries member x → ⊥
+  pub outside_by : found ≡ None → (x : RangeMember × ℕ) → IsAddedWithin entries member x → ⊥
   outside_by none x w =
       let e : IsCostIn looked member.area x.1 = subst (λ (o : Option Entry). IsCostIn o member.area x.1) (sym held) w.2 in
       let wrong = sym none ∙ (costs x.1).1 e in absurd cc
 
-pub uncovered : (entries : EntriesByPrefix) (member : Member) → (Covers member.range member.network → ⊥) → (x : Member × ℕ) → IsAddedWithin entries member x → ⊥
+pub uncovered : (entries : EntriesByPrefix) (member : RangeMember) → (Covers member.range member.network → ⊥) → (x : RangeMember × ℕ) → IsAddedWithin entries member x → ⊥
 uncovered entries member not x w = not w.1
 
 -- the area is the one and has a range with the prefix

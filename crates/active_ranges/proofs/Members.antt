@@ -10,7 +10,7 @@ use Rattle.ospf_types.specs.declared.prefix.Prefix.{Prefix}
 use Rattle.ospf_types.specs.Network.{network_cmp}
 use Rattle.ospf_types.proofs.Orders.{network_total, network_exact}
 use Rattle.active_ranges.specs.Active.{member_cmp}
-use Rattle.active_ranges.specs.declared.member.Member.{Member}
+use Rattle.active_ranges.specs.declared.member.RangeMember.{RangeMember}
 
 pub member_total : IsTotalOrder member_cmp
 member_total = then_total (on_total (λ m. m.range) network_total) (then_total (on_total (λ m. m.area) nat_cmp_total) (on_total (λ m. m.network) network_total))
@@ -20,7 +20,7 @@ Triple = Prefix × (ℕ × Prefix)
 
 pub member_exact : CmpEqualImpliesEq member_cmp
 member_exact a b h =
-    ap (λ (t : Triple). let m : Member = record { range = t.0; area = t.1.0; network = t.1.1 } in m)
+    ap (λ (t : Triple). let m : RangeMember = record { range = t.0; area = t.1.0; network = t.1.1 } in m)
     (exact_pairs network_cmp (λ (x y : ℕ × Prefix). ordering_then (nat_cmp x.0 y.0) (network_cmp x.1 y.1)) network_exact (exact_pairs nat_cmp network_cmp exact_unsigned network_exact) (a.range, (a.area, a.network)) (b.range, (b.area, b.network)) h)
 
 -- ---- orders that are one after the other

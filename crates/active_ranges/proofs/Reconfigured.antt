@@ -15,7 +15,7 @@ use Rattle.ospf_types.specs.Network.{network_cmp}
 use Rattle.intra.specs.Intras.{EntriesByPrefix}
 use Rattle.active_ranges.specs.Active.{ActiveValue, AreRangesOf, EntriesDifferAmong, IsActiveIn, IsConfigured, IsMember, IsMemberWithin, IsRangeNamed, IsWithin, RangesDifferAt}
 use Rattle.active_ranges.specs.Following.{AreFollowed, IsCostIn}
-use Rattle.active_ranges.specs.declared.member.Member.{Member}
+use Rattle.active_ranges.specs.declared.member.RangeMember.{RangeMember}
 use Rattle.active_ranges.proofs.Following.{among_or_not}
 use Rattle.active_ranges.proofs.Members.{member_total, member_exact}
 
@@ -40,9 +40,9 @@ module _ (named : Option (ℕ × Prefix)) (before after : List AreaConfig) (diff
 -- ---- the members of the range follow
 
 module _ (before after : List AreaConfig) (area : ℕ) (range : Prefix) (differ : RangesDifferAt (Some (area, range)) before after) (entries : EntriesByPrefix) (old new : ActiveValue) (was : AreRangesOf before entries old)
-    (members : List Member) (exact : (m : Member) → Contains members m ↔ IsMemberWithin entries area range m) where
+    (members : List RangeMember) (exact : (m : RangeMember) → Contains members m ↔ IsMemberWithin entries area range m) where
   -- a network within the range is its member where the range is configured
-  member_here : IsConfigured after area range → (m : Member) (cost : ℕ) → Contains members m → IsCostIn (get entries m.network) m.area cost ↔ IsMember after entries m cost
+  member_here : IsConfigured after area range → (m : RangeMember) (cost : ℕ) → Contains members m → IsCostIn (get entries m.network) m.area cost ↔ IsMember after entries m cost
   member_here configured m cost c =
       let is = (exact m).0 c in
       let own : IsConfigured after m.area m.range = subst (λ (id : ℕ). IsConfigured after id m.range) (sym is.0) (subst (λ (q : Prefix). IsConfigured after area q) (sym is.1) configured) in
@@ -52,7 +52,7 @@ module _ (before after : List AreaConfig) (area : ℕ) (range : Prefix) (differ 
       )
 
   -- and none where it is not
-  none_here : (IsConfigured after area range → ⊥) → (m : Member) (cost : ℕ) → Contains members m → IsCostIn (get (empty {R = network_cmp}) m.network) m.area cost ↔ IsMember after entries m cost
+  none_here : (IsConfigured after area range → ⊥) → (m : RangeMember) (cost : ℕ) → Contains members m → IsCostIn (get (empty {R = network_cmp}) m.network) m.area cost ↔ IsMember after entries m cost
   none_here absent m cost c =
       let is = (exact m).0 c in (
         λ w. let none = sym (get-empty network_cmp m.network) ∙ w.1 in absurd cc,
@@ -60,7 +60,7 @@ module _ (before after : List AreaConfig) (area : ℕ) (range : Prefix) (differ 
       )
 
   -- a member of another range, or of another area
-  other_range : (m : Member) → (Contains members m → ⊥) → IsWithin entries m.area m.range m.network → one area range ≡ one m.area m.range → ⊥
+  other_range : (m : RangeMember) → (Contains members m → ⊥) → IsWithin entries m.area m.range m.network → one area range ≡ one m.area m.range → ⊥
   other_range m absent within e =
       let mine : ℕ × Prefix = (area, range) in
       let theirs : ℕ × Prefix = (m.area, m.range) in
@@ -69,14 +69,14 @@ module _ (before after : List AreaConfig) (area : ℕ) (range : Prefix) (differ 
       let prefix : m.range ≡ range = sym (ap (λ (x : ℕ × Prefix). x.1) same) in
       absent ((exact m).1 (id, prefix, subst (λ (n : ℕ). IsWithin entries n range m.network) id (subst (λ (q : Prefix). IsWithin entries m.area q m.network) prefix within)))
 
-  member_elsewhere : (m : Member) (cost : ℕ) → (Contains members m → ⊥) → IsMember before entries m cost ↔ IsMember after entries m cost
+  member_elsewhere : (m : RangeMember) (cost : ℕ) → (Contains members m → ⊥) → IsMember before entries m cost ↔ IsMember after entries m cost
   member_elsewhere m cost absent = (
     λ w. (w.0, w.1, w.2, w.3, configured_after (Some (area, range)) before after differ m.area m.range (other_range m absent (w.0, w.1, w.2, w.5)) w.4, w.5),
     λ w. (w.0, w.1, w.2, w.3, configured_before (Some (area, range)) before after differ m.area m.range (other_range m absent (w.0, w.1, w.2, w.5)) w.4, w.5),
   )
 
   -- the members took costs which are those of members now
-  followed_by : (costs : EntriesByPrefix) → AreFollowed costs members old new → ((m : Member) (cost : ℕ) → Contains members m → IsCostIn (get costs m.network) m.area cost ↔ IsMember after entries m cost) → AreRangesOf after entries new
+  followed_by : (costs : EntriesByPrefix) → AreFollowed costs members old new → ((m : RangeMember) (cost : ℕ) → Contains members m → IsCostIn (get costs m.network) m.area cost ↔ IsMember after entries m cost) → AreRangesOf after entries new
   followed_by costs followed are = record {
     fresh = followed.spent ∙ was.fresh;
     members = λ m cost. elim (among_or_not member_total member_exact members m) [
@@ -124,10 +124,10 @@ same_option None None there back = refl
 -- they differ only where the network is named and lies in the range
 module _ (named : Option (ℕ × Prefix)) (areas others : List AreaConfig) (differ : RangesDifferAt named areas others) (dests : List Dest) (before after : EntriesByPrefix) (whole : IsRangeNamed named dests before)
     (entries : EntriesDifferAmong dests before after) (old new : ActiveValue) (was : AreRangesOf areas before old) (are : AreRangesOf others after new) where
-  apart_there : (m : Member) → (Contains dests (Net m.network) → ⊥) → IsWithin before m.area m.range m.network → named ≡ Some (m.area, m.range) → ⊥
+  apart_there : (m : RangeMember) → (Contains dests (Net m.network) → ⊥) → IsWithin before m.area m.range m.network → named ≡ Some (m.area, m.range) → ⊥
   apart_there m absent within e = absent ((whole m.area m.range e).1 m.network within)
 
-  pub members_stay : (m : Member) → (Contains dests (Net m.network) → Covers m.range m.network → ⊥) → get new.members m ≡ get old.members m
+  pub members_stay : (m : RangeMember) → (Contains dests (Net m.network) → Covers m.range m.network → ⊥) → get new.members m ≡ get old.members m
   members_stay m absent =
       same_option (get old.members m) (get new.members m)
       (λ cost is.

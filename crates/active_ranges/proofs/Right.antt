@@ -16,7 +16,7 @@ use Rattle.ospf_types.proofs.Orders.{area_cost_total, area_cost_exact}
 use Rattle.intra.specs.Intras.{EntriesByPrefix, IsEntryFor}
 use Rattle.active_ranges.specs.Active.{ActiveValue, AreRangesOf, IsActiveIn}
 use Rattle.active_ranges.specs.Right.{AreConfigured, IsRightFor}
-use Rattle.active_ranges.specs.declared.member.Member.{Member}
+use Rattle.active_ranges.specs.declared.member.RangeMember.{RangeMember}
 
 -- ---- areas that are configured so
 
@@ -74,7 +74,7 @@ module _ (s : Inputs) (areas : List AreaConfig) (entries : EntriesByPrefix) (v :
       let n = active.network in
       let a = configured_from s.areas areas same b active.area in
       let key = same_key area_cost_total area_cost_exact (IntraOffers s n.0) entry.0 (n.1, b.id) e.paths n.2 entry.1 n.3 in
-      let m : Member = record { range = r.prefix; area = b.id; network = n.0 } in
+      let m : RangeMember = record { range = r.prefix; area = b.id; network = n.0 } in
       let through : e.area ≡ Some b.id = ap (λ (x : Entry). x.area) entry.3 ∙ ap (λ (k : AreaCost). Some k.1) key in
       let here = (kept.members m e.cost).1 (e, held, through, refl, (a.0, r, a.1, sym a.2, subst (λ (rs : List Range). Contains rs r) a.3 active.range, refl), n.4) in
       (m, e.cost, here, refl)

@@ -17,7 +17,7 @@ use Rattle.active_ranges.specs.Active.{ActiveValue, AreRangesOf, IsConfigured, I
 use Rattle.active_ranges.specs.Following.{AreFollowed, IsMemberIn}
 use Rattle.active_ranges.specs.Grouped.{Networks, NetworksByRange, member_of, range_cmp}
 use Rattle.active_ranges.specs.declared.member.AreaRange.{AreaRange}
-use Rattle.active_ranges.specs.declared.member.Member.{Member}
+use Rattle.active_ranges.specs.declared.member.RangeMember.{RangeMember}
 use Rattle.active_ranges.proofs.Grouped.{cost_among, found, ranges_value}
 use Rattle.active_ranges.proofs.Lists.{no_value}
 use Rattle.active_ranges.proofs.Members.{some_value}
@@ -30,11 +30,11 @@ module _ (rs : NetworksByRange) (spent : Bool) (area : ℕ) (range : Prefix) whe
   value = ranges_value rs spent
 
   -- the cost of a member of the range
-  cost_of : (m : Member) → m.range ≡ range → m.area ≡ area → get value.members m ≡ cost_among (lookup (is_at (range_cmp at_range)) rs) m.network
+  cost_of : (m : RangeMember) → m.range ≡ range → m.area ≡ area → get value.members m ≡ cost_among (lookup (is_at (range_cmp at_range)) rs) m.network
   cost_of m prefix id = found rs spent m ∙ ap (λ (r : AreaRange). cost_among (lookup (is_at (range_cmp r)) rs) m.network) (λ i. record { prefix = prefix i; area = id i })
 
   -- the range has no networks
-  pub members_none : None ≡ lookup (is_at (range_cmp at_range)) rs → (m : Member) → Contains [] m ↔ IsMemberIn value area range m
+  pub members_none : None ≡ lookup (is_at (range_cmp at_range)) rs → (m : RangeMember) → Contains [] m ↔ IsMemberIn value area range m
   members_none none m = (
     λ c. absurd (no_element m c),
     λ w.
@@ -43,36 +43,36 @@ module _ (rs : NetworksByRange) (spent : Bool) (area : ℕ) (range : Prefix) whe
   )
 
   -- or these
-  pub members_there : (networks : Networks) → Some networks ≡ lookup (is_at (range_cmp at_range)) rs → (m : Member) → Contains (map (member_of at_range) (keys_of networks.entries)) m ↔ IsMemberIn value area range m
+  pub members_there : (networks : Networks) → Some networks ≡ lookup (is_at (range_cmp at_range)) rs → (m : RangeMember) → Contains (map (member_of at_range) (keys_of networks.entries)) m ↔ IsMemberIn value area range m
   members_there networks stands m =
       let of : m.range ≡ range → m.area ≡ area → get value.members m ≡ lookup (is_at (network_cmp m.network)) networks.entries =
       λ prefix id. cost_of m prefix id ∙ ap (λ (o : Option Networks). cost_among o m.network) (sym stands) in (
         λ c.
             let from = mapped_from (member_of at_range) (keys_of networks.entries) m c in
-            let prefix : m.range ≡ range = ap (λ (x : Member). x.range) (sym from.2) in
-            let id : m.area ≡ area = ap (λ (x : Member). x.area) (sym from.2) in
-            let key : Contains (keys_of networks.entries) m.network = subst (λ (p : Prefix). Contains (keys_of networks.entries) p) (ap (λ (x : Member). x.network) from.2) from.1 in
+            let prefix : m.range ≡ range = ap (λ (x : RangeMember). x.range) (sym from.2) in
+            let id : m.area ≡ area = ap (λ (x : RangeMember). x.area) (sym from.2) in
+            let key : Contains (keys_of networks.entries) m.network = subst (λ (p : Prefix). Contains (keys_of networks.entries) p) (ap (λ (x : RangeMember). x.network) from.2) from.1 in
             let some = some_value (lookup (is_at (network_cmp m.network)) networks.entries) (IsSome-lookup_from_Contains (eq_by_cmp_equiv network_total) m.network networks.entries key) in
             (prefix, id, (some.0, of prefix id ∙ some.1)),
         λ w.
             let key = Contains-keys_from_lookup (tells_apart network_exact) m.network networks.entries (ap is_some (sym (of w.0 w.1) ∙ w.2.1)) in
             let same : member_of at_range m.network ≡ m = λ i. record { range = (sym w.0) i; area = (sym w.1) i; network = m.network } in
-            subst (λ (x : Member). Contains (map (member_of at_range) (keys_of networks.entries)) x) same (mapped_element (member_of at_range) (keys_of networks.entries) m.network key),
+            subst (λ (x : RangeMember). Contains (map (member_of at_range) (keys_of networks.entries)) x) same (mapped_element (member_of at_range) (keys_of networks.entries) m.network key),
       )
 
 -- ---- a range that has a member has all that it can have
 
-module _ (before : List AreaConfig) (entries : EntriesByPrefix) (old : ActiveValue) (area : ℕ) (range : Prefix) (was : AreRangesOf before entries old) (had : List Member)
-    (exact : (m : Member) → Contains had m ↔ IsMemberIn old area range m) where
+module _ (before : List AreaConfig) (entries : EntriesByPrefix) (old : ActiveValue) (area : ℕ) (range : Prefix) (was : AreRangesOf before entries old) (had : List RangeMember)
+    (exact : (m : RangeMember) → Contains had m ↔ IsMemberIn old area range m) where
   -- it was configured
-  configured_before : (m : Member) → Contains had m → IsConfigured before area range
+  configured_before : (m : RangeMember) → Contains had m → IsConfigured before area range
   configured_before m c =
       let is = (exact m).0 c in
       let w : IsMember before entries m is.2.0 = (was.members m is.2.0).0 is.2.1 in
       subst (λ (n : ℕ). IsConfigured before n range) is.1 (subst (λ (p : Prefix). IsConfigured before m.area p) is.0 w.4)
 
   -- so these are the members within it
-  pub all_within : (first : Member) → Contains had first → (m : Member) → Contains had m ↔ IsMemberWithin entries area range m
+  pub all_within : (first : RangeMember) → Contains had first → (m : RangeMember) → Contains had m ↔ IsMemberWithin entries area range m
   all_within first there m = (
     λ c.
         let is = (exact m).0 c in
@@ -86,7 +86,7 @@ module _ (before : List AreaConfig) (entries : EntriesByPrefix) (old : ActiveVal
   )
 
   -- and they have the costs of their entries
-  pub stood_followed : (first : Member) → Contains had first → AreFollowed entries had old old
+  pub stood_followed : (first : RangeMember) → Contains had first → AreFollowed entries had old old
   stood_followed first there = record {
     spent = refl;
     here = λ m c cost.
@@ -99,6 +99,6 @@ module _ (before : List AreaConfig) (entries : EntriesByPrefix) (old : ActiveVal
   }
 
 -- a member that is not listed has no cost
-pub none_but : (old : ActiveValue) (area : ℕ) (range : Prefix) (had : List Member) → ((m : Member) → Contains had m ↔ IsMemberIn old area range m) → (m : Member) → m.range ≡ range → m.area ≡ area → (Contains had m → ⊥)
+pub none_but : (old : ActiveValue) (area : ℕ) (range : Prefix) (had : List RangeMember) → ((m : RangeMember) → Contains had m ↔ IsMemberIn old area range m) → (m : RangeMember) → m.range ≡ range → m.area ≡ area → (Contains had m → ⊥)
     → get old.members m ≡ None
 none_but old area range had exact m prefix id absent = no_value (get old.members m) (λ cost is. absent ((exact m).1 (prefix, id, (cost, is))))

@@ -20,7 +20,7 @@ use Rattle.active_ranges.specs.Active.{ActiveValue, AreRangesOf, IsMember, IsMem
 use Rattle.active_ranges.specs.Following.{AreFollowed, AreTakenIn, HasLeft, IsCostIn, IsCostWithin}
 use Rattle.active_ranges.specs.Grouped.{AreMadeOf, Networks, NetworksByRange, range_cmp}
 use Rattle.active_ranges.specs.declared.member.AreaRange.{AreaRange}
-use Rattle.active_ranges.specs.declared.member.Member.{Member}
+use Rattle.active_ranges.specs.declared.member.RangeMember.{RangeMember}
 use Rattle.active_ranges.proofs.Following.{left_here}
 use Rattle.active_ranges.proofs.Grouped.{changed_here, changed_elsewhere, ranges_value}
 use Rattle.active_ranges.proofs.Inside.{some_number}
@@ -31,27 +31,27 @@ use Rattle.active_ranges.proofs.Lists.{no_value}
 some_same : {A : Type 0} {x y : A} → Some x ≡ Some y → x ≡ y
 some_same e = cc
 
-module _ (es fs : NetworksByRange) (was is : Bool) (area : ℕ) (range : Prefix) (costs : List (Member × ℕ)) (within : (m : Member) (cost : ℕ) → Contains costs (m, cost) → (m.range ≡ range) × (m.area ≡ area)) (networks : Networks) where
+module _ (es fs : NetworksByRange) (was is : Bool) (area : ℕ) (range : Prefix) (costs : List (RangeMember × ℕ)) (within : (m : RangeMember) (cost : ℕ) → Contains costs (m, cost) → (m.range ≡ range) × (m.area ≡ area)) (networks : Networks) where
   abbrev taken : AreaRange
   taken = record { prefix = range; area = area }
 
-  abbrev as_network : Member × ℕ → Prefix × ℕ
+  abbrev as_network : RangeMember × ℕ → Prefix × ℕ
   as_network x = (x.0.network, x.1)
 
   abbrev pairs : List (Prefix × ℕ)
   pairs = map as_network costs
 
   -- a network stands for the member
-  member_of : (m : Member) → m.range ≡ range → m.area ≡ area → (cost : ℕ) → Contains pairs (m.network, cost) → Contains costs (m, cost)
+  member_of : (m : RangeMember) → m.range ≡ range → m.area ≡ area → (cost : ℕ) → Contains pairs (m.network, cost) → Contains costs (m, cost)
   member_of m prefix id cost there =
       let from = mapped_from as_network costs (m.network, cost) there in
       let x = from.0.0 in
       let own = within x from.0.1 from.1 in
       let same : x ≡ m = λ i. record { range = (own.0 ∙ sym prefix) i; area = (own.1 ∙ sym id) i; network = (from.2 i).0 } in
-      subst (λ (y : Member × ℕ). Contains costs y) (λ i. (same i, (from.2 i).1)) from.1
+      subst (λ (y : RangeMember × ℕ). Contains costs y) (λ i. (same i, (from.2 i).1)) from.1
 
   module _ (made : AreMadeOf pairs networks) (updates : (q : AreaRange) → lookup (is_at (range_cmp q)) fs ≡ cond (is_at (range_cmp taken) q) (Some networks) (lookup (is_at (range_cmp q)) es)) where
-    now : (m : Member) → m.range ≡ range → m.area ≡ area → get (ranges_value fs is).members m ≡ lookup (is_at (network_cmp m.network)) networks.entries
+    now : (m : RangeMember) → m.range ≡ range → m.area ≡ area → get (ranges_value fs is).members m ≡ lookup (is_at (network_cmp m.network)) networks.entries
     now m prefix id = changed_here es fs was is taken (Some networks) updates m (λ i. record { prefix = prefix i; area = id i })
 
     pub taken_in : is ≡ was → AreTakenIn area range costs (ranges_value es was) (ranges_value fs is)
@@ -79,8 +79,8 @@ module _ (es fs : NetworksByRange) (was is : Bool) (area : ℕ) (range : Prefix)
 
 -- ---- members of other ranges stay
 
-pub stays_but_range : (area : ℕ) (range : Prefix) (old new : ActiveValue) (members : List Member) → ((m : Member) → m.range ≡ range → m.area ≡ area → (Contains members m → ⊥) → get new.members m ≡ get old.members m)
-    → ((m : Member) → ((m.range ≡ range) × (m.area ≡ area) → ⊥) → get new.members m ≡ get old.members m) → (m : Member) → (Contains members m → ⊥) → get new.members m ≡ get old.members m
+pub stays_but_range : (area : ℕ) (range : Prefix) (old new : ActiveValue) (members : List RangeMember) → ((m : RangeMember) → m.range ≡ range → m.area ≡ area → (Contains members m → ⊥) → get new.members m ≡ get old.members m)
+    → ((m : RangeMember) → ((m.range ≡ range) × (m.area ≡ area) → ⊥) → get new.members m ≡ get old.members m) → (m : RangeMember) → (Contains members m → ⊥) → get new.members m ≡ get old.members m
 stays_but_range area range old new members here others m absent = elim (one_or_other network_total network_exact range m.range) [
   | inr other ↦ others m (λ w. other w.0)
   | inl prefix ↦ elim (one_or_other nat_cmp_total exact_unsigned area m.area) [
@@ -90,8 +90,8 @@ stays_but_range area range old new members here others m absent = elim (one_or_o
 ]
 
 -- a range that is dropped, with members that are all that it had
-pub gone_followed : (area : ℕ) (range : Prefix) (old new : ActiveValue) (members : List Member) → HasLeft area range old new → ((m : Member) → Contains members m → (m.range ≡ range) × (m.area ≡ area))
-    → ((m : Member) → m.range ≡ range → m.area ≡ area → (Contains members m → ⊥) → get old.members m ≡ None) → AreFollowed empty members old new
+pub gone_followed : (area : ℕ) (range : Prefix) (old new : ActiveValue) (members : List RangeMember) → HasLeft area range old new → ((m : RangeMember) → Contains members m → (m.range ≡ range) × (m.area ≡ area))
+    → ((m : RangeMember) → m.range ≡ range → m.area ≡ area → (Contains members m → ⊥) → get old.members m ≡ None) → AreFollowed empty members old new
 gone_followed area range old new members left within none_was = record {
   spent = left.spent;
   here = λ m c cost. let is = within m c in left_here new m (left.here m is.0 is.1) cost;
@@ -106,22 +106,22 @@ some_entry d e same = cc
 one_cost : (o : Option Entry) (area a b : ℕ) → IsCostIn o area a → IsCostIn o area b → a ≡ b
 one_cost o area a b v w = sym v.3 ∙ ap (λ (e : Entry). e.cost) (some_entry v.0 w.0 (sym v.1 ∙ w.1)) ∙ w.3
 
-module _ (entries : EntriesByPrefix) (area : ℕ) (range : Prefix) (costs : List (Member × ℕ)) (exact : (x : Member × ℕ) → Contains costs x ↔ IsCostWithin entries area range x) where
-  abbrev members : List Member
-  members = map (λ (x : Member × ℕ). x.0) costs
+module _ (entries : EntriesByPrefix) (area : ℕ) (range : Prefix) (costs : List (RangeMember × ℕ)) (exact : (x : RangeMember × ℕ) → Contains costs x ↔ IsCostWithin entries area range x) where
+  abbrev members : List RangeMember
+  members = map (λ (x : RangeMember × ℕ). x.0) costs
 
   -- they are the members within the range
-  pub members_exact : (m : Member) → Contains members m ↔ IsMemberWithin entries area range m
+  pub members_exact : (m : RangeMember) → Contains members m ↔ IsMemberWithin entries area range m
   members_exact m = (
-    λ c. let from = mapped_from (λ (x : Member × ℕ). x.0) costs m c in subst (IsMemberWithin entries area range) from.2 ((exact from.0).0 from.1).0,
+    λ c. let from = mapped_from (λ (x : RangeMember × ℕ). x.0) costs m c in subst (IsMemberWithin entries area range) from.2 ((exact from.0).0 from.1).0,
     λ is.
         let e = is.2 in
-        mapped_element (λ (x : Member × ℕ). x.0) costs (m, e.0.cost) ((exact (m, e.0.cost)).1 (is, (e.0, e.1, e.2 ∙ ap Some (sym is.0), refl))),
+        mapped_element (λ (x : RangeMember × ℕ). x.0) costs (m, e.0.cost) ((exact (m, e.0.cost)).1 (is, (e.0, e.1, e.2 ∙ ap Some (sym is.0), refl))),
   )
 
   module _ (old new : ActiveValue) (before : List AreaConfig) (was : AreRangesOf before entries old) where
     -- it had no others
-    none_was : (m : Member) → (Contains members m → ⊥) → m.range ≡ range → m.area ≡ area → get old.members m ≡ None
+    none_was : (m : RangeMember) → (Contains members m → ⊥) → m.range ≡ range → m.area ≡ area → get old.members m ≡ None
     none_was m absent prefix id = no_value (get old.members m) (λ cost is.
         let w : IsMember before entries m cost = (was.members m cost).0 is in
         let within : IsWithin entries m.area m.range m.network = (w.0, w.1, w.2, w.5) in
@@ -134,12 +134,12 @@ module _ (entries : EntriesByPrefix) (area : ℕ) (range : Prefix) (costs : List
     taken_followed taken = record {
       spent = taken.spent;
       here = λ m c cost.
-          let from = mapped_from (λ (x : Member × ℕ). x.0) costs m c in
-          let there : Contains costs (m, from.0.1) = subst (λ (k : Member). Contains costs (k, from.0.1)) from.2 from.1 in
+          let from = mapped_from (λ (x : RangeMember × ℕ). x.0) costs m c in
+          let there : Contains costs (m, from.0.1) = subst (λ (k : RangeMember). Contains costs (k, from.0.1)) from.2 from.1 in
           let now = taken.here m from.0.1 there in
           let is : IsCostIn (get entries m.network) m.area now.0 = ((exact (m, now.0)).0 now.2).1 in (
             λ h. subst (IsCostIn (get entries m.network) m.area) (some_number now.0 cost (sym now.1 ∙ h)) is,
             λ w. now.1 ∙ ap Some (one_cost (get entries m.network) m.area now.0 cost is w),
           );
-      others = stays_but_range area range old new members (λ m prefix id absent. taken.none m prefix id (λ c there. absent (mapped_element (λ (x : Member × ℕ). x.0) costs (m, c) there)) ∙ sym (none_was m absent prefix id)) taken.others;
+      others = stays_but_range area range old new members (λ m prefix id absent. taken.none m prefix id (λ c there. absent (mapped_element (λ (x : RangeMember × ℕ). x.0) costs (m, c) there)) ∙ sym (none_was m absent prefix id)) taken.others;
     }

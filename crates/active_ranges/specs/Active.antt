@@ -13,14 +13,14 @@ use Rattle.ospf_types.specs.declared.prefix.Prefix.{Prefix}
 use Rattle.ospf_types.specs.Address.{Covers}
 use Rattle.ospf_types.specs.Network.{network_cmp, network_code}
 use Rattle.intra.specs.Intras.{EntriesByPrefix}
-use Rattle.active_ranges.specs.declared.member.Member.{Member}
+use Rattle.active_ranges.specs.declared.member.RangeMember.{RangeMember}
 
 -- by range, then area, then network
-abbrev pub member_cmp : Member → Member → Ordering
+abbrev pub member_cmp : RangeMember → RangeMember → Ordering
 member_cmp x y = ordering_then (network_cmp x.range y.range) (ordering_then (nat_cmp x.area y.area) (network_cmp x.network y.network))
 
 -- as a range, an area and a network
-abbrev pub member_code : Coded Member
+abbrev pub member_code : Coded RangeMember
 member_code =
     code_by (Prefix × (ℕ × Prefix)) (coded× network_code (coded× coded_ℕ network_code)) (λ m. (m.range, (m.area, m.network))) (λ p. record { range = p.0; area = p.1.0; network = p.1.1 }) (λ _. refl)
 
@@ -43,17 +43,17 @@ abbrev pub HasRange : AreaConfig → Prefix → Type 0
 HasRange area range = (r : Range) × Contains area.ranges r × (r.prefix ≡ range)
 
 -- the range of an area has this network: its entry is intra-area, through that area, at this cost
-abbrev pub IsMember : List AreaConfig → EntriesByPrefix → Member → ℕ → Type 0
+abbrev pub IsMember : List AreaConfig → EntriesByPrefix → RangeMember → ℕ → Type 0
 IsMember areas entries m cost = (e : Entry) × (get entries m.network ≡ Some e) × (e.area ≡ Some m.area) × (e.cost ≡ cost) × IsConfigured areas m.area m.range × Covers m.range m.network
 
 -- the members are those by these entries
 pub record AreRangesOf (areas : List AreaConfig) (entries : EntriesByPrefix) (v : ActiveValue) : Type 0 where
   pub fresh : v.spent ≡ false
-  pub members : (m : Member) (cost : ℕ) → (get v.members m ≡ Some cost) ↔ IsMember areas entries m cost
+  pub members : (m : RangeMember) (cost : ℕ) → (get v.members m ≡ Some cost) ↔ IsMember areas entries m cost
 
 -- the prefix is that of a range, of some area, that has a member
 abbrev pub IsActiveIn : ActiveValue → Prefix → Type 0
-IsActiveIn v p = (m : Member) × (cost : ℕ) × (get v.members m ≡ Some cost) × (m.range ≡ p)
+IsActiveIn v p = (m : RangeMember) × (cost : ℕ) × (get v.members m ≡ Some cost) × (m.range ≡ p)
 
 -- the area's range with this prefix has a network at this cost
 abbrev pub HasCost : ActiveValue → Prefix → ℕ → ℕ → Type 0
@@ -94,5 +94,5 @@ abbrev pub IsRangeNamed : Option (ℕ × Prefix) → List Dest → EntriesByPref
 IsRangeNamed named dests entries = (area : ℕ) (range : Prefix) → named ≡ Some (area, range) → Contains dests (Net range) × ((network : Prefix) → IsWithin entries area range network → Contains dests (Net network))
 
 -- it is the member that a network within the range is of it
-abbrev pub IsMemberWithin : EntriesByPrefix → ℕ → Prefix → Member → Type 0
+abbrev pub IsMemberWithin : EntriesByPrefix → ℕ → Prefix → RangeMember → Type 0
 IsMemberWithin entries area range m = (m.area ≡ area) × (m.range ≡ range) × IsWithin entries area range m.network

@@ -13,24 +13,24 @@ use Rattle.active_ranges.specs.Active.{ActiveValue, IsActiveIn, IsConfigured, Is
 pub use Rattle.active_ranges.specs.Lists.{HasMore}
 use Rattle.active_ranges.specs.declared.active.Noted.{Noted}
 use Rattle.active_ranges.specs.declared.member.AreaRange.{AreaRange}
-use Rattle.active_ranges.specs.declared.member.Member.{Member}
+use Rattle.active_ranges.specs.declared.member.RangeMember.{RangeMember}
 
 -- ---- the members that networks may be
 
 -- the network may be this one, by the configuration
-abbrev pub IsNamed : List AreaConfig → List Dest → Member → Type 0
+abbrev pub IsNamed : List AreaConfig → List Dest → RangeMember → Type 0
 IsNamed areas dests m = Contains dests (Net m.network) × IsConfigured areas m.area m.range × Covers m.range m.network
 
 -- by one area's ranges
-abbrev pub IsNamedIn : AreaConfig → List Dest → Member → Type 0
+abbrev pub IsNamedIn : AreaConfig → List Dest → RangeMember → Type 0
 IsNamedIn a dests m = Contains dests (Net m.network) × (a.id ≡ m.area) × ((r : Range) × Contains a.ranges r × (r.prefix ≡ m.range)) × Covers m.range m.network
 
 -- by one range
-abbrev pub IsNamedOf : AreaRange → List Dest → Member → Type 0
+abbrev pub IsNamedOf : AreaRange → List Dest → RangeMember → Type 0
 IsNamedOf range dests m = Contains dests (Net m.network) × (range.prefix ≡ m.range) × (range.area ≡ m.area) × Covers range.prefix m.network
 
 -- of one destination
-abbrev pub IsNamedAs : AreaRange → Dest → Member → Type 0
+abbrev pub IsNamedAs : AreaRange → Dest → RangeMember → Type 0
 IsNamedAs range dest m = (dest ≡ Net m.network) × (range.prefix ≡ m.range) × (range.area ≡ m.area) × Covers range.prefix m.network
 
 -- ---- their costs
@@ -40,55 +40,55 @@ abbrev pub IsCostIn : Option Entry → ℕ → ℕ → Type 0
 IsCostIn entry area cost = (e : Entry) × (entry ≡ Some e) × (e.area ≡ Some area) × (e.cost ≡ cost)
 
 -- the one member, at the cost of its network's entry, where its range covers the network
-abbrev pub IsAddedWithin : EntriesByPrefix → Member → Member × ℕ → Type 0
+abbrev pub IsAddedWithin : EntriesByPrefix → RangeMember → RangeMember × ℕ → Type 0
 IsAddedWithin entries member x = (x.0 ≡ member) × Covers member.range member.network × IsCostIn (get entries member.network) member.area x.1
 
 -- where this is the entry of the member's network, the member comes to the list if its range covers the network
-abbrev pub AddsWithin : Member → Entry → List (Member × ℕ) → List (Member × ℕ) → Type 0
+abbrev pub AddsWithin : RangeMember → Entry → List (RangeMember × ℕ) → List (RangeMember × ℕ) → Type 0
 AddsWithin member entry before after = (entries : EntriesByPrefix) → get entries member.network ≡ Some entry → HasMore (IsAddedWithin entries member) before after
 
 -- it is a member that a network within the range is of it, and the cost of the network's entry
-abbrev pub IsCostWithin : EntriesByPrefix → ℕ → Prefix → Member × ℕ → Type 0
+abbrev pub IsCostWithin : EntriesByPrefix → ℕ → Prefix → RangeMember × ℕ → Type 0
 IsCostWithin entries area range x = IsMemberWithin entries area range x.0 × IsCostIn (get entries x.0.network) x.0.area x.1
 
 -- the member has the cost of its network's entry, where that is one through the member's area
-abbrev pub HasCostBy : EntriesByPrefix → ActiveValue → Member → Type 0
+abbrev pub HasCostBy : EntriesByPrefix → ActiveValue → RangeMember → Type 0
 HasCostBy entries v m = (cost : ℕ) → (get v.members m ≡ Some cost) ↔ IsCostIn (get entries m.network) m.area cost
 
 -- but for the one member all have what they had
-abbrev pub AreAlikeBut : Member → ActiveValue → ActiveValue → Type 0
-AreAlikeBut member old new = (m : Member) → m ≢ member → get new.members m ≡ get old.members m
+abbrev pub AreAlikeBut : RangeMember → ActiveValue → ActiveValue → Type 0
+AreAlikeBut member old new = (m : RangeMember) → m ≢ member → get new.members m ≡ get old.members m
 
 -- the prefixes of the members' ranges
-abbrev pub ranges_in : List Member → List Prefix
+abbrev pub ranges_in : List RangeMember → List Prefix
 ranges_in members = map (λ m. m.range) members
 
 -- these members have the costs of the entries, and the others what they had
-pub record AreFollowed (entries : EntriesByPrefix) (named : List Member) (old new : ActiveValue) : Type 0 where
+pub record AreFollowed (entries : EntriesByPrefix) (named : List RangeMember) (old new : ActiveValue) : Type 0 where
   pub spent : new.spent ≡ old.spent
-  pub here : (m : Member) → Contains named m → (cost : ℕ) → (get new.members m ≡ Some cost) ↔ IsCostIn (get entries m.network) m.area cost
-  pub others : (m : Member) → (Contains named m → ⊥) → get new.members m ≡ get old.members m
+  pub here : (m : RangeMember) → Contains named m → (cost : ℕ) → (get new.members m ≡ Some cost) ↔ IsCostIn (get entries m.network) m.area cost
+  pub others : (m : RangeMember) → (Contains named m → ⊥) → get new.members m ≡ get old.members m
 
 -- it is one of the members that the area's range has
-abbrev pub IsMemberIn : ActiveValue → ℕ → Prefix → Member → Type 0
+abbrev pub IsMemberIn : ActiveValue → ℕ → Prefix → RangeMember → Type 0
 IsMemberIn v area range m = (m.range ≡ range) × (m.area ≡ area) × ((cost : ℕ) × (get v.members m ≡ Some cost))
 
 -- the members are all of the area's range
-abbrev pub AreOfRange : ℕ → Prefix → List (Member × ℕ) → Type 0
-AreOfRange area range costs = (m : Member) (cost : ℕ) → Contains costs (m, cost) → (m.range ≡ range) × (m.area ≡ area)
+abbrev pub AreOfRange : ℕ → Prefix → List (RangeMember × ℕ) → Type 0
+AreOfRange area range costs = (m : RangeMember) (cost : ℕ) → Contains costs (m, cost) → (m.range ≡ range) × (m.area ≡ area)
 
 -- the area's range has these members at costs that come with them, and no others; those of other ranges have what they had
-pub record AreTakenIn (area : ℕ) (range : Prefix) (costs : List (Member × ℕ)) (old new : ActiveValue) : Type 0 where
+pub record AreTakenIn (area : ℕ) (range : Prefix) (costs : List (RangeMember × ℕ)) (old new : ActiveValue) : Type 0 where
   pub spent : new.spent ≡ old.spent
-  pub here : (m : Member) (c : ℕ) → Contains costs (m, c) → (cost : ℕ) × (get new.members m ≡ Some cost) × Contains costs (m, cost)
-  pub none : (m : Member) → m.range ≡ range → m.area ≡ area → ((c : ℕ) → Contains costs (m, c) → ⊥) → get new.members m ≡ None
-  pub others : (m : Member) → ((m.range ≡ range) × (m.area ≡ area) → ⊥) → get new.members m ≡ get old.members m
+  pub here : (m : RangeMember) (c : ℕ) → Contains costs (m, c) → (cost : ℕ) × (get new.members m ≡ Some cost) × Contains costs (m, cost)
+  pub none : (m : RangeMember) → m.range ≡ range → m.area ≡ area → ((c : ℕ) → Contains costs (m, c) → ⊥) → get new.members m ≡ None
+  pub others : (m : RangeMember) → ((m.range ≡ range) × (m.area ≡ area) → ⊥) → get new.members m ≡ get old.members m
 
 -- the area's range has no members, and the others are as they were
 pub record HasLeft (area : ℕ) (range : Prefix) (old new : ActiveValue) : Type 0 where
   pub spent : new.spent ≡ old.spent
-  pub here : (m : Member) → m.range ≡ range → m.area ≡ area → get new.members m ≡ None
-  pub others : (m : Member) → ((m.range ≡ range) × (m.area ≡ area) → ⊥) → get new.members m ≡ get old.members m
+  pub here : (m : RangeMember) → m.range ≡ range → m.area ≡ area → get new.members m ≡ None
+  pub others : (m : RangeMember) → ((m.range ≡ range) × (m.area ≡ area) → ⊥) → get new.members m ≡ get old.members m
 
 -- ---- which ranges are active
 

@@ -9,14 +9,14 @@ use Rattle.std.specs.declared.cmp.Ordering.TheVariants.{Less, Greater}
 use Rattle.ospf_types.specs.declared.prefix.Prefix.{Prefix}
 use Rattle.ospf_types.specs.Network.{network_cmp}
 use Rattle.active_ranges.specs.declared.member.AreaRange.{AreaRange}
-use Rattle.active_ranges.specs.declared.member.Member.{Member}
+use Rattle.active_ranges.specs.declared.member.RangeMember.{RangeMember}
 
 -- by prefix, then area
 abbrev pub range_cmp : AreaRange → AreaRange → Ordering
 range_cmp x y = ordering_then (network_cmp x.prefix y.prefix) (nat_cmp x.area y.area)
 
 -- the range that has a member
-abbrev pub range_of : Member → AreaRange
+abbrev pub range_of : RangeMember → AreaRange
 range_of m = record { prefix = m.range; area = m.area }
 
 -- the networks of a range, ascending, each at its cost
@@ -53,17 +53,17 @@ pub record IsGapFor (es : List (Prefix × ℕ)) (network : Prefix) (at : ℕ) : 
   pub apart : IsPartitionPoint (λ (e : Prefix × ℕ). network_cmp e.0 network ≡ Less) (λ (e : Prefix × ℕ). network_cmp e.0 network ≡ Greater) es at
 
 -- the network as a member of the range
-abbrev pub member_of : AreaRange → Prefix → Member
+abbrev pub member_of : AreaRange → Prefix → RangeMember
 member_of r network = record { range = r.prefix; area = r.area; network = network }
 
-abbrev pub member_in : AreaRange → Prefix × ℕ → Member × ℕ
+abbrev pub member_in : AreaRange → Prefix × ℕ → RangeMember × ℕ
 member_in r x = (member_of r x.0, x.1)
 
 -- the member is of another range
-abbrev pub is_elsewhere : AreaRange → Member → Bool
+abbrev pub is_elsewhere : AreaRange → RangeMember → Bool
 is_elsewhere r m = not (is_at (range_cmp (range_of m)) r)
 
 -- the members of all ranges (a range stands once; if one stood twice, its first networks would count)
-abbrev pub members_in : NetworksByRange → List (Member × ℕ)
+abbrev pub members_in : NetworksByRange → List (RangeMember × ℕ)
 members_in [] = []
 members_in (r ∷ rs) = map (member_in r.0) r.1.entries ++ filter (λ x. is_elsewhere r.0 x.0) (members_in rs)

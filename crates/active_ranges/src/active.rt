@@ -8,11 +8,11 @@ ghost use Rattle.ospf_types.specs.Network.{network_cmp};
 ghost use Rattle.active_ranges.specs.Active.{AreRangesOf, AreRangesBehind, AreRangesButAt, DiffersAt, HasCost, IsActiveIn, IsMemberWithin, spent_ranges};
 ghost use Rattle.active_ranges.specs.Following.{AreAlikeBut, AreFollowed, AreNotedOf, AreOfRange, AreTakenIn, HasCostBy, HasLeft, IsCostIn, IsMemberIn, IsTold, IsTurnedAmong, prefixes_of, ranges_in};
 ghost use Rattle.active_ranges.specs.Grouped.{member_of};
-ghost use Rattle.active_ranges.specs.Lists.{HasJust, HasMore, IsGreatestBelow};
+ghost use Rattle.active_ranges.specs.Lists.{ListsExactly, HasMore, IsGreatestBelow};
 ghost use Rattle.active_ranges.specs.Right.{IsRightWith};
 
-use crate::member::{AreaRange, Member};
-use crate::named::named_members;
+use crate::member::{AreaRange, RangeMember};
+use crate::covered_members::named_members;
 use crate::networks::Networks;
 use crate::within::{costs_within, is_configured};
 use intra::Intra;
@@ -93,7 +93,7 @@ impl ActiveRanges {
         ensures right { OnOk result (IsRightWith areas.now intra.now self.new) }
         ensures in_order { IfOk result (λ prefixes. IsStrictlySortedBy network_cmp prefixes.items) }
         ensures exact { IfOk result
-            (λ prefixes. HasJust (DiffersAt self.old self.new) prefixes.items) }
+            (λ prefixes. ListsExactly (DiffersAt self.old self.new) prefixes.items) }
         ensures spent { OnErr result (self.new ≡ spent_ranges) }
     {
         let prefixes = self.update_parts(alloc, areas, intra, dests);
@@ -112,12 +112,12 @@ impl ActiveRanges {
         areas: &[AreaConfig],
         intra: &Intra,
         named: (u32, Prefix),
-    ) -> Result<Vec<Member>, Memory>
+    ) -> Result<Vec<RangeMember>, Memory>
         requires before { AreRangesButAt named areas.now intra.now.entries self.old }
         ensures kept { OnOk result (AreRangesOf areas.now intra.now.entries self.new) }
         ensures right { OnOk result (IsRightWith areas.now intra.now self.new) }
         ensures exact { IfOk result
-            (λ members. HasJust (IsMemberWithin intra.now.entries named.0 named.1) members.items) }
+            (λ members. ListsExactly (IsMemberWithin intra.now.entries named.0 named.1) members.items) }
         ensures spent { OnErr result (self.new ≡ spent_ranges) }
     {
         let members = self.reconfigure_parts(alloc, areas, intra, named);
@@ -159,7 +159,7 @@ impl ActiveRanges {
     /// The prefixes of active ranges, ascending, each once.
     pub fn prefixes(&self, alloc: Global) -> Result<Vec<Prefix>, Memory>
         ensures in_order { IfOk result (λ prefixes. IsStrictlySortedBy network_cmp prefixes.items) }
-        ensures exact { IfOk result (λ prefixes. HasJust (IsActiveIn self.now) prefixes.items) }
+        ensures exact { IfOk result (λ prefixes. ListsExactly (IsActiveIn self.now) prefixes.items) }
     {
         let mut prefixes = Vec::new(alloc);
         for (range, networks) in self.ranges.iter() {
@@ -189,7 +189,7 @@ impl ActiveRanges {
         ensures kept { OnOk result (AreRangesOf areas.now intra.now.entries self.new) }
         ensures in_order { IfOk result (λ prefixes. IsStrictlySortedBy network_cmp prefixes.items) }
         ensures exact { IfOk result
-            (λ prefixes. HasJust (DiffersAt self.old self.new) prefixes.items) }
+            (λ prefixes. ListsExactly (DiffersAt self.old self.new) prefixes.items) }
     {
         let named = named_members(alloc, areas, dests)?;
         let touched = ranges_of(alloc, named.as_slice())?;
@@ -206,11 +206,11 @@ impl ActiveRanges {
         areas: &[AreaConfig],
         intra: &Intra,
         named: (u32, Prefix),
-    ) -> Result<Vec<Member>, Memory>
+    ) -> Result<Vec<RangeMember>, Memory>
         requires before { AreRangesButAt named areas.now intra.now.entries self.old }
         ensures kept { OnOk result (AreRangesOf areas.now intra.now.entries self.new) }
         ensures exact { IfOk result
-            (λ members. HasJust (IsMemberWithin intra.now.entries named.0 named.1) members.items) }
+            (λ members. ListsExactly (IsMemberWithin intra.now.entries named.0 named.1) members.items) }
     {
         let (area, range) = named;
         let had = self.members_in(alloc, area, range)?;
@@ -231,11 +231,11 @@ impl ActiveRanges {
         areas: &[AreaConfig],
         intra: &Intra,
         named: (u32, Prefix),
-    ) -> Result<Vec<Member>, Memory>
+    ) -> Result<Vec<RangeMember>, Memory>
         requires before { AreRangesButAt named areas.now intra.now.entries self.old }
         ensures kept { OnOk result (AreRangesOf areas.now intra.now.entries self.new) }
         ensures exact { IfOk result
-            (λ members. HasJust (IsMemberWithin intra.now.entries named.0 named.1) members.items) }
+            (λ members. ListsExactly (IsMemberWithin intra.now.entries named.0 named.1) members.items) }
     {
         let (area, range) = named;
         let costs = costs_within(alloc, intra, area, range)?;
@@ -249,8 +249,8 @@ impl ActiveRanges {
     }
 
     // The members of the area's range.
-    fn members_in(&self, alloc: Global, area: u32, range: Prefix) -> Result<Vec<Member>, Memory>
-        ensures { IfOk result (λ members. HasJust (IsMemberIn self.now area range) members.items) }
+    fn members_in(&self, alloc: Global, area: u32, range: Prefix) -> Result<Vec<RangeMember>, Memory>
+        ensures { IfOk result (λ members. ListsExactly (IsMemberIn self.now area range) members.items) }
     {
         let area_range = AreaRange {
             prefix: range,
@@ -282,7 +282,7 @@ impl ActiveRanges {
         requires { IsStrictlySortedBy network_cmp (prefixes_of noted.now) }
         ensures in_order { IfOk result (λ prefixes. IsStrictlySortedBy network_cmp prefixes.items) }
         ensures exact { IfOk result
-            (λ prefixes. HasJust (IsTurnedAmong self.now noted.now) prefixes.items) }
+            (λ prefixes. ListsExactly (IsTurnedAmong self.now noted.now) prefixes.items) }
     {
         let mut prefixes = Vec::new(alloc);
         for note in noted {
@@ -303,7 +303,7 @@ impl ActiveRanges {
     }
 
     // The members take the costs of the entries.
-    fn follow(&mut self, alloc: Global, intra: &Intra, named: &[Member]) -> Result<(), Memory>
+    fn follow(&mut self, alloc: Global, intra: &Intra, named: &[RangeMember]) -> Result<(), Memory>
         ensures { OnOk result (AreFollowed intra.now.entries named.now self.old self.new) }
     {
         for member in named {
@@ -317,7 +317,7 @@ impl ActiveRanges {
         &mut self,
         alloc: Global,
         named: (u32, Prefix),
-        costs: &[(Member, u32)],
+        costs: &[(RangeMember, u32)],
     ) -> Result<(), Memory>
         requires within { AreOfRange named.0 named.1 costs.now }
         ensures { OnOk result (AreTakenIn named.0 named.1 costs.now self.old self.new) }
@@ -340,12 +340,12 @@ impl ActiveRanges {
     }
 
     // The member takes the cost of its network's entry, where that is one through the member's area.
-    fn follow_member(&mut self, alloc: Global, intra: &Intra, member: Member) -> Result<(), Memory>
+    fn follow_member(&mut self, alloc: Global, intra: &Intra, member: RangeMember) -> Result<(), Memory>
         ensures spent { OnOk result (self.new.spent ≡ self.old.spent) }
         ensures here { OnOk result (HasCostBy intra.now.entries self.new member) }
         ensures others { OnOk result (AreAlikeBut member self.old self.new) }
     {
-        let Member {
+        let RangeMember {
             range: prefix,
             area,
             network,
@@ -406,17 +406,17 @@ impl ActiveRanges {
 }
 
 // The prefixes of the members' ranges, ascending, each once.
-fn ranges_of(alloc: Global, members: &[Member]) -> Result<Vec<Prefix>, Memory>
+fn ranges_of(alloc: Global, members: &[RangeMember]) -> Result<Vec<Prefix>, Memory>
     ensures in_order { IfOk result (λ prefixes. IsStrictlySortedBy network_cmp prefixes.items) }
     ensures exact { IfOk result
-        (λ prefixes. HasJust (Contains (ranges_in members.now)) prefixes.items) }
+        (λ prefixes. ListsExactly (Contains (ranges_in members.now)) prefixes.items) }
 {
     let prefixes = each_range(alloc, members)?;
     Ok(ascending(prefixes))
 }
 
 // The prefix of each member's range.
-fn each_range(alloc: Global, members: &[Member]) -> Result<Vec<Prefix>, Memory>
+fn each_range(alloc: Global, members: &[RangeMember]) -> Result<Vec<Prefix>, Memory>
     ensures { IfOk result (λ prefixes. prefixes.items ≡ ranges_in members.now) }
 {
     let prefixes = members.iter().map(|member| member.range).collect(alloc)?;
@@ -424,7 +424,7 @@ fn each_range(alloc: Global, members: &[Member]) -> Result<Vec<Prefix>, Memory>
 }
 
 // The members without their costs.
-fn members_of(alloc: Global, costs: &[(Member, u32)]) -> Result<Vec<Member>, Memory>
+fn members_of(alloc: Global, costs: &[(RangeMember, u32)]) -> Result<Vec<RangeMember>, Memory>
     ensures { IfOk result (λ members. members.items ≡ list_map (λ x. x.0) costs.now) }
 {
     let members = costs.iter().map(|pair| pair.0).collect(alloc)?;

@@ -4,9 +4,9 @@
 
 mod active;
 mod member;
-mod named;
+mod covered_members;
 mod networks;
 mod within;
 
 pub use active::ActiveRanges;
-pub use member::Member;
+pub use member::RangeMember;

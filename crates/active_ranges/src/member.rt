@@ -4,7 +4,7 @@ use ospf_types::prefix::Prefix;
 
 /// A network that a range of an area has.
 #[derive(Clone, Copy, Debug, PartialEq, Eq)]
-pub struct Member {
+pub struct RangeMember {
     /// The prefix of the range.
     pub range: Prefix,
     /// The Area ID.

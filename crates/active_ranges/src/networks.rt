@@ -6,7 +6,7 @@ ghost use Rattle.ospf_types.specs.Network.{network_cmp};
 ghost use Rattle.active_ranges.specs.Grouped.{AreMadeOf, IsAt, IsCostOf, IsGapFor, IsPutIn, member_of};
 ghost use Rattle.active_ranges.specs.Lists.{IsGreatestBelow};
 
-use crate::member::{AreaRange, Member};
+use crate::member::{AreaRange, RangeMember};
 use ospf_types::memory::Memory;
 use ospf_types::prefix::Prefix;
 use std::alloc::Global;
@@ -42,7 +42,7 @@ impl Networks {
     }
 
     /// The networks of members, at their costs.
-    pub(crate) fn of(alloc: Global, costs: &[(Member, u32)]) -> Result<Networks, Memory>
+    pub(crate) fn of(alloc: Global, costs: &[(RangeMember, u32)]) -> Result<Networks, Memory>
         ensures { IfOk result (AreMadeOf (list_map (λ x. (x.0.network, x.1)) costs.now)) }
     {
         let mut networks = Networks {
@@ -93,14 +93,14 @@ impl Networks {
     }
 
     /// The networks as members of the range.
-    pub(crate) fn as_members(&self, alloc: Global, range: AreaRange) -> Result<Vec<Member>, Memory>
+    pub(crate) fn as_members(&self, alloc: Global, range: AreaRange) -> Result<Vec<RangeMember>, Memory>
         ensures { IfOk result
             (λ members. members.items ≡ list_map (λ e. member_of range e.0) self.now.entries) }
     {
         let members = self
             .list
             .iter()
-            .map(|entry| Member {
+            .map(|entry| RangeMember {
                 range: range.prefix,
                 area: range.area,
                 network: entry.0,

@@ -2,10 +2,10 @@
 ghost use Rattle.std.specs.Prelude.{◌↔◌, IfOk, OnOk, IsTrue};
 ghost use Rattle.active_ranges.specs.Active.{HasRange, IsConfigured};
 ghost use Rattle.active_ranges.specs.Following.{AddsWithin, IsCostWithin};
-ghost use Rattle.active_ranges.specs.Lists.{HasJust};
+ghost use Rattle.active_ranges.specs.Lists.{ListsExactly};
 
 use crate::active::cost_in;
-use crate::member::Member;
+use crate::member::RangeMember;
 use intra::Intra;
 use ospf_types::config::AreaConfig;
 use ospf_types::entry::Entry;
@@ -19,9 +19,9 @@ pub(crate) fn costs_within(
     intra: &Intra,
     area: u32,
     range: Prefix,
-) -> Result<Vec<(Member, u32)>, Memory>
+) -> Result<Vec<(RangeMember, u32)>, Memory>
     ensures { IfOk result
-        (λ costs. HasJust (IsCostWithin intra.now.entries area range) costs.items) }
+        (λ costs. ListsExactly (IsCostWithin intra.now.entries area range) costs.items) }
 {
     let entries = intra.entries();
     let mut costs = Vec::new(alloc);
@@ -29,7 +29,7 @@ pub(crate) fn costs_within(
         let Some((network, kept)) = entries.get_index(place) else {
             unreachable!()
         };
-        let member = Member {
+        let member = RangeMember {
             range,
             area,
             network: *network,
@@ -42,7 +42,7 @@ pub(crate) fn costs_within(
 }
 
 // Adds the member, where its network's entry is one of its area, and its range covers the network.
-fn push_within(entry: &Entry, member: Member, costs: &mut Vec<(Member, u32)>) -> Result<(), Memory>
+fn push_within(entry: &Entry, member: RangeMember, costs: &mut Vec<(RangeMember, u32)>) -> Result<(), Memory>
     ensures { OnOk result (AddsWithin member entry.now costs.old.items costs.new.items) }
 {
     if !member.range.covers(member.network) {

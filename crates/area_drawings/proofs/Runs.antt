@@ -7,7 +7,7 @@ use Rattle.std.proofs.lemmas.List.{take_more, map_push}
 use Rattle.std.proofs.lemmas.List.Elements.{All-nil, All-cons, All-weaker}
 use Rattle.std.proofs.lemmas.List.Kept.{AllPairs-cons}
 use Rattle.ospf_types.proofs.Elements.{no_element, first_element, later_element, first_or_later}
-use Rattle.drawings.specs.declared.drawing.Place.{Place}
+use Rattle.drawings.specs.declared.drawing.GridCell.{GridCell}
 use Rattle.area_drawings.specs.declared.reached.ReachedVertex.{ReachedVertex}
 use Rattle.area_drawings.specs.declared.stands.Stand.{Stand}
 use Rattle.area_drawings.specs.Places.{AreInPlaces, HasRows, IsBefore, IsNext, IsRun, rows_of}
@@ -28,7 +28,7 @@ run_push before (t ∷ ts) mid s run next = (run.0, run_push (Some t) ts mid s r
 behind : (b s : Stand) → IsNext (Some b) s → IsBefore b.place s.place
 behind b s next = elim next [ inl same ↦ inr (sym same.0, same.1) | inr below ↦ inl (omega arith) ]
 
-farther : (p q r : Place) → IsBefore p q → IsBefore q r → IsBefore p r
+farther : (p q r : GridCell) → IsBefore p q → IsBefore q r → IsBefore p r
 farther p q r first second =
     elim first [
       | inl up ↦ elim second [ inl further ↦ inl (omega arith) | inr same ↦ inl (omega arith) ]

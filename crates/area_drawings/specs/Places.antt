@@ -1,13 +1,13 @@
 -- Where vertices stand in a picture.
 use Rattle.std.specs.Prelude.{◌↔◌, ◌⊎◌, ℕ, ◌+◌, ◌≡◌, ◌<◌, List, [], ◌∷◌, Contains, Option, None, Some, slice_get}
 use Rattle.std.specs.List.{AllPairs}
-use Rattle.drawings.specs.declared.drawing.Place.{Place}
+use Rattle.drawings.specs.declared.drawing.GridCell.{GridCell}
 use Rattle.area_drawings.specs.declared.columns.Column.{Column}
 use Rattle.area_drawings.specs.declared.stands.Stand.{Stand}
 use Rattle.area_drawings.specs.Columns.{column_of}
 
 -- a place comes before another: it is in a row further up, or further left in the row
-abbrev pub IsBefore : Place → Place → Type 0
+abbrev pub IsBefore : GridCell → GridCell → Type 0
 IsBefore p q = (p.row < q.row) ⊎ ((p.row ≡ q.row) × (p.column < q.column))
 
 -- Each stands before those behind it, so that no two have one place.

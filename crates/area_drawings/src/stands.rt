@@ -7,7 +7,7 @@ ghost use Rattle.area_drawings.specs.Places.{AreInPlaces, HasRows, IsInColumn, I
 use crate::branches::{Branch, parent_of};
 use crate::columns::{Column, place_of};
 use crate::reached::ReachedVertex;
-use drawings::Place;
+use drawings::GridCell;
 use ospf_types::entry::Vertex;
 use ospf_types::memory::Memory;
 use std::alloc::Global;
@@ -16,7 +16,7 @@ use std::alloc::Global;
 #[derive(Clone, Copy, Debug, PartialEq, Eq)]
 pub(crate) struct Stand {
     pub(crate) reached: ReachedVertex,
-    pub(crate) place: Place,
+    pub(crate) place: GridCell,
 }
 
 /// Vertices in their places.
@@ -77,7 +77,7 @@ fn next_stand(
     let row = next_row(before, column, follows(branches, before, reached.vertex))?;
     Ok(Stand {
         reached,
-        place: Place { column, row },
+        place: GridCell { column, row },
     })
 }
 

@@ -19,10 +19,10 @@ use Rattle.ospf_types.specs.Lsa.{Body, Lsa}
 use Rattle.ospf_types.specs.Vertices.{vertex_cmp}
 use Rattle.ospf_types.proofs.Elements.{no_element, first_element, later_element, first_or_later, mapped_from}
 use Rattle.ospf_types.proofs.Orders.{key_exact}
-use Rattle.spf.specs.Members.{HasNoDoubles}
+use Rattle.spf.specs.VertexSet.{HasNoDoubles}
 use Rattle.spf.proofs.Counting.{no_longer}
 use Rattle.spf.proofs.Elements.{cases_contains}
-use Rattle.vertex_graph.specs.End.{End}
+use Rattle.vertex_graph.specs.LinkEnd.{LinkEnd}
 use Rattle.vertex_graph.specs.Graphs.{GraphValue, Handed, AreApartHanded, AreFewAfter, IsThereAfter, IsReplaced}
 use Rattle.vertex_graph.proofs.VertexTests.{is_vertex, vertex_laws, vertex_same}
 use Rattle.area_trees.specs.Areas.{AreNetworksOf, AreStanding, AreaGraphValue, DifferAmong, IsGraphOf, IsStanding, IsUsed, LeadsBy, body_at, network_key, router_key, vertex_of}
@@ -160,9 +160,9 @@ module _ (before after : Database) (changed : List Key) (differ : DifferAmong be
 
     -- ---- routers are few, since each has an LSA
 
-    some_leads : (w : Vertex) (body : Option Body) (ends : Option (List End)) → LeadsBy w body ends → IsSome ends → IsSome body
+    some_leads : (w : Vertex) (body : Option Body) (ends : Option (List LinkEnd)) → LeadsBy w body ends → IsSome ends → IsSome body
     some_leads w (Some body) ends leads some = refl
-    some_leads w None ends leads some = let gone : is_some {T = List End} None ≡ true = subst (λ (o : Option (List End)). IsSome o) leads some in absurd cc
+    some_leads w None ends leads some = let gone : is_some {T = List LinkEnd} None ≡ true = subst (λ (o : Option (List LinkEnd)). IsSome o) leads some in absurd cc
 
     used_after : (router : ℕ) → IsThereAfter old.graph hs (Router router) → IsUsed after (router_key router)
     used_after router there =

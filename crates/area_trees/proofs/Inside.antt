@@ -16,7 +16,7 @@ use Rattle.ospf_types.specs.Lsa.{Lsa, Body, RouterLink, RouterLinks, NetworkLink
 use Rattle.ospf_types.proofs.Elements.{no_element}
 use Rattle.lsa_codec.specs.Spelling.{IsLegal, IsLegalBody}
 use Rattle.lsdb.specs.Databases.{Database}
-use Rattle.vertex_graph.specs.End.{End}
+use Rattle.vertex_graph.specs.LinkEnd.{LinkEnd}
 use Rattle.vertex_graph.specs.Up.{Up}
 use Rattle.vertex_graph.specs.Ends.{AreEnds}
 use Rattle.vertex_graph.specs.Graphs.{LinksOf, HasRoot, HasEnds}
@@ -52,12 +52,12 @@ network_key_is l id advertiser mask routers legal at by is =
 -- a vertex has its ends in order, and a network leads only to routers
 module _ {d : Database} {v : AreaGraphValue} (is : IsGraphOf d v) where
   -- where a vertex leads by what stands for it
-  led : (w : Vertex) (b : Body) → IsStanding d w (Some b) → (ends : List End) × (get v.graph.ends w ≡ Some ends) × AreEnds w b ends
+  led : (w : Vertex) (b : Body) → IsStanding d w (Some b) → (ends : List LinkEnd) × (get v.graph.ends w ≡ Some ends) × AreEnds w b ends
   led w b stands =
       let at = is.leads w in
       leads_some w b (get v.graph.ends w) (subst (λ (o : Option Body). LeadsBy w o (get v.graph.ends w)) (one_standing d w at.0 (Some b) at.1 stands) at.2)
 
-  leading : (w : Vertex) (ends : List End) → get v.graph.ends w ≡ Some ends → (b : Body) × IsStanding d w (Some b) × AreEnds w b ends
+  leading : (w : Vertex) (ends : List LinkEnd) → get v.graph.ends w ≡ Some ends → (b : Body) × IsStanding d w (Some b) × AreEnds w b ends
   leading w ends here =
       let at = is.leads w in
       let from = some_leads w at.0 ends (subst (LeadsBy w at.0) here at.2) in
@@ -147,13 +147,13 @@ module _ {s : Inputs} {a : Area} {d : Database} {ups : List Up} (area : IsAreaOf
   label_out from detail (At addresses) is = is
 
   module _ {v : AreaGraphValue} (graph : IsGraphOf d v) where
-    router_led : (r flags : ℕ) (links : List RouterLink) → IsRouter a r flags links → (ends : List End) × (get v.graph.ends (Router r) ≡ Some ends) × AreEnds (Router r) (RouterLinks flags links) ends
+    router_led : (r flags : ℕ) (links : List RouterLink) → IsRouter a r flags links → (ends : List LinkEnd) × (get v.graph.ends (Router r) ≡ Some ends) × AreEnds (Router r) (RouterLinks flags links) ends
     router_led r flags links is = led graph (Router r) (RouterLinks flags links) ((router_in r flags links).0 is)
 
-    network_led : (n mask : ℕ) (routers : List ℕ) → IsNetwork a n mask routers → (ends : List End) × (get v.graph.ends (Network n) ≡ Some ends) × AreEnds (Network n) (NetworkLinks mask routers) ends
+    network_led : (n mask : ℕ) (routers : List ℕ) → IsNetwork a n mask routers → (ends : List LinkEnd) × (get v.graph.ends (Network n) ≡ Some ends) × AreEnds (Network n) (NetworkLinks mask routers) ends
     network_led n mask routers is = led graph (Network n) (NetworkLinks mask routers) ((network_in n mask routers).0 is)
 
-    router_leads : (r : ℕ) (ends : List End) → get v.graph.ends (Router r) ≡ Some ends → (flags : ℕ) × (links : List RouterLink) × IsRouter a r flags links × AreEnds (Router r) (RouterLinks flags links) ends
+    router_leads : (r : ℕ) (ends : List LinkEnd) → get v.graph.ends (Router r) ≡ Some ends → (flags : ℕ) × (links : List RouterLink) × IsRouter a r flags links × AreEnds (Router r) (RouterLinks flags links) ends
     router_leads r ends here =
         let from = leading graph (Router r) ends here in
         let body = some_router area.sound r from.0 from.1 in (
@@ -163,7 +163,7 @@ module _ {s : Inputs} {a : Area} {d : Database} {ups : List Up} (area : IsAreaOf
           subst (λ (b : Body). AreEnds (Router r) b ends) body.2 from.2,
         )
 
-    network_leads : (n : ℕ) (ends : List End) → get v.graph.ends (Network n) ≡ Some ends → (mask : ℕ) × (routers : List ℕ) × IsNetwork a n mask routers × AreEnds (Network n) (NetworkLinks mask routers) ends
+    network_leads : (n : ℕ) (ends : List LinkEnd) → get v.graph.ends (Network n) ≡ Some ends → (mask : ℕ) × (routers : List ℕ) × IsNetwork a n mask routers × AreEnds (Network n) (NetworkLinks mask routers) ends
     network_leads n ends here =
         let from = leading graph (Network n) ends here in
         let body = some_network area.sound n from.0 from.1 in (
@@ -174,19 +174,19 @@ module _ {s : Inputs} {a : Area} {d : Database} {ups : List Up} (area : IsAreaOf
         )
 
     -- a network that lists a router has an end at it
-    listed_by : (network router : ℕ) → ListsRouter (view_of s a) network router → (ends : List End) × (get v.graph.ends (Network network) ≡ Some ends) × Names ends (Router router)
+    listed_by : (network router : ℕ) → ListsRouter (view_of s a) network router → (ends : List LinkEnd) × (get v.graph.ends (Network network) ≡ Some ends) × Names ends (Router router)
     listed_by network router lists =
         let at = network_led network lists.0 lists.1 lists.2 in
         (at.0, at.1, router_there at.2 router lists.3)
 
-    lists_by : (network router : ℕ) (ends : List End) → get v.graph.ends (Network network) ≡ Some ends → Names ends (Router router) → ListsRouter (view_of s a) network router
+    lists_by : (network router : ℕ) (ends : List LinkEnd) → get v.graph.ends (Network network) ≡ Some ends → Names ends (Router router) → ListsRouter (view_of s a) network router
     lists_by network router ends here named =
         let at = network_leads network ends here in
         (at.0, at.1, at.2, router_named at.3 router named)
 
     -- a link of the area is one that the ends of its two vertices make
     pair_in : (x y : Vertex) (cost : ℕ) (label : Label) → IsLink s a x y cost label
-        → (ends : List End) × (back : List End) × (get v.graph.ends x ≡ Some ends) × (get v.graph.ends y ≡ Some back) × IsPairLink s.router ups x ends y back cost label
+        → (ends : List LinkEnd) × (back : List LinkEnd) × (get v.graph.ends x ≡ Some ends) × (get v.graph.ends y ≡ Some back) × IsPairLink s.router ups x ends y back cost label
     pair_in (Router from) (Router to) cost label taken =
         let own = router_led from taken.0 taken.1 taken.3 in
         let named = taken.10 in
@@ -237,14 +237,14 @@ module _ {s : Inputs} {a : Area} {d : Database} {ups : List Up} (area : IsAreaOf
           (
             own.2,
             taken.4,
-            subst (λ (es : List End). Names es (Network from)) same (named_there back.2 (Network from) named.2 named.4 (named.5, named.6)),
+            subst (λ (es : List LinkEnd). Names es (Network from)) same (named_there back.2 (Network from) named.2 named.4 (named.5, named.6)),
             (taken.2, details_there other.2 from taken.2 taken.6, taken.7),
           ),
         )
     pair_in (Network from) (Network to) cost label taken = absurd taken
 
     -- and what the ends of two vertices make is a link of the area
-    link_in : (x y : Vertex) (ends back : List End) (cost : ℕ) (label : Label) → get v.graph.ends x ≡ Some ends → get v.graph.ends y ≡ Some back
+    link_in : (x y : Vertex) (ends back : List LinkEnd) (cost : ℕ) (label : Label) → get v.graph.ends x ≡ Some ends → get v.graph.ends y ≡ Some back
         → IsPairLink s.router ups x ends y back cost label → IsLink s a x y cost label
     link_in (Router from) (Router to) ends back cost label here at taken =
         let own = router_leads from ends here in
@@ -297,11 +297,11 @@ module _ {s : Inputs} {a : Area} {d : Database} {ups : List Up} (area : IsAreaOf
 
   module _ {t : AreaTreeValue} (is : IsAreaTree s.router d ups t) where
     -- root and interfaces of the graph are those of the area
-    given : (x y : Vertex) (ends back : List End) (cost : ℕ) (label : Label) → IsPairLink t.area.graph.root t.area.graph.interfaces x ends y back cost label → IsPairLink s.router ups x ends y back cost label
+    given : (x y : Vertex) (ends back : List LinkEnd) (cost : ℕ) (label : Label) → IsPairLink t.area.graph.root t.area.graph.interfaces x ends y back cost label → IsPairLink s.router ups x ends y back cost label
     given x y ends back cost label taken =
         subst (λ (r : ℕ). IsPairLink r ups x ends y back cost label) is.root_is (subst (λ (us : List Up). IsPairLink t.area.graph.root us x ends y back cost label) is.interfaces taken)
 
-    kept : (x y : Vertex) (ends back : List End) (cost : ℕ) (label : Label) → IsPairLink s.router ups x ends y back cost label → IsPairLink t.area.graph.root t.area.graph.interfaces x ends y back cost label
+    kept : (x y : Vertex) (ends back : List LinkEnd) (cost : ℕ) (label : Label) → IsPairLink s.router ups x ends y back cost label → IsPairLink t.area.graph.root t.area.graph.interfaces x ends y back cost label
     kept x y ends back cost label taken =
         subst (λ (us : List Up). IsPairLink t.area.graph.root us x ends y back cost label) (sym is.interfaces) (subst (λ (r : ℕ). IsPairLink r ups x ends y back cost label) (sym is.root_is) taken)
 

@@ -7,7 +7,7 @@ use Rattle.ospf_types.specs.declared.lsa.LinkKind.{LinkKind}
 use Rattle.ospf_types.specs.declared.lsa.LinkKind.TheVariants.{PointToPoint, Transit, Stub, Virtual}
 use Rattle.ospf_types.specs.Links.{AreAddressesOn}
 use Rattle.ospf_types.specs.Lsa.{Body, RouterLink, RouterLinks, NetworkLinks}
-use Rattle.vertex_graph.specs.End.{End}
+use Rattle.vertex_graph.specs.LinkEnd.{LinkEnd}
 use Rattle.vertex_graph.specs.EndOrder.{listed_end}
 use Rattle.vertex_graph.specs.Ends.{end_by, end_of, AreEnds}
 use Rattle.vertex_graph.specs.Graphs.{number_of}
@@ -16,11 +16,11 @@ use Rattle.area_trees.specs.Areas.{LeadsBy}
 
 -- ---- a body leads somewhere, and no body nowhere
 
-pub leads_some : (v : Vertex) (b : Body) (o : Option (List End)) → LeadsBy v (Some b) o → (ends : List End) × (o ≡ Some ends) × AreEnds v b ends
+pub leads_some : (v : Vertex) (b : Body) (o : Option (List LinkEnd)) → LeadsBy v (Some b) o → (ends : List LinkEnd) × (o ≡ Some ends) × AreEnds v b ends
 leads_some v b (Some ends) leads = (ends, refl, leads)
 leads_some v b None leads = absurd leads
 
-pub some_leads : (v : Vertex) (o : Option Body) (ends : List End) → LeadsBy v o (Some ends) → (b : Body) × (o ≡ Some b) × AreEnds v b ends
+pub some_leads : (v : Vertex) (o : Option Body) (ends : List LinkEnd) → LeadsBy v o (Some ends) → (b : Body) × (o ≡ Some b) × AreEnds v b ends
 some_leads v (Some b) ends leads = (b, refl, leads)
 some_leads v None ends leads = absurd cc
 
@@ -31,7 +31,7 @@ abbrev pub kind_to : Vertex → LinkKind
 kind_to (Router r) = PointToPoint
 kind_to (Network n) = Transit
 
-abbrev pub end_at : Vertex → ℕ → ℕ → End
+abbrev pub end_at : Vertex → ℕ → ℕ → LinkEnd
 end_at t detail metric = record { to = t; detail = detail; metric = metric }
 
 -- the link leads to the vertex
@@ -43,13 +43,13 @@ end_of_to (Router r) l to = ap (λ (k : LinkKind). end_by k l) to.0 ∙ ap (λ (
 end_of_to (Network n) l to = ap (λ (k : LinkKind). end_by k l) to.0 ∙ ap (λ (n : ℕ). Some (end_at (Network n) l.detail l.metric)) to.1
 
 -- the link has this end
-abbrev HasEnd : RouterLink → End → Type 0
+abbrev HasEnd : RouterLink → LinkEnd → Type 0
 HasEnd l e = IsTo e.to l × (l.detail ≡ e.detail) × (l.metric ≡ e.metric)
 
-same_end : (x y : End) → Some x ≡ Some y → x ≡ y
+same_end : (x y : LinkEnd) → Some x ≡ Some y → x ≡ y
 same_end x y e = cc
 
-to_of_kind : (k : LinkKind) (l : RouterLink) (e : End) → l.kind ≡ k → end_by k l ≡ Some e → HasEnd l e
+to_of_kind : (k : LinkKind) (l : RouterLink) (e : LinkEnd) → l.kind ≡ k → end_by k l ≡ Some e → HasEnd l e
 to_of_kind PointToPoint l e kind is =
     subst (HasEnd l) (same_end (end_at (Router l.id) l.detail l.metric) e is) ((kind, refl), refl, refl)
 to_of_kind Transit l e kind is =
@@ -57,7 +57,7 @@ to_of_kind Transit l e kind is =
 to_of_kind Stub l e kind is = absurd cc
 to_of_kind Virtual l e kind is = absurd cc
 
-module _ {r flags : ℕ} {links : List RouterLink} {ends : List End} (are : AreEnds (Router r) (RouterLinks flags links) ends) where
+module _ {r flags : ℕ} {links : List RouterLink} {ends : List LinkEnd} (are : AreEnds (Router r) (RouterLinks flags links) ends) where
   -- an end stands for each link to a vertex
   pub end_there : (t : Vertex) (l : RouterLink) → Contains links l → IsTo t l → Contains ends (end_at t l.detail l.metric)
   end_there t l c to = (are.exact (end_at t l.detail l.metric)).1 (l, c, end_of_to t l to)
@@ -66,7 +66,7 @@ module _ {r flags : ℕ} {links : List RouterLink} {ends : List End} (are : AreE
   named_there t l c to = (end_at t l.detail l.metric, end_there t l c to, refl)
 
   -- and each end stands for one
-  pub link_there : (e : End) → Contains ends e → (l : RouterLink) × Contains links l × IsTo e.to l × (l.detail ≡ e.detail) × (l.metric ≡ e.metric)
+  pub link_there : (e : LinkEnd) → Contains ends e → (l : RouterLink) × Contains links l × IsTo e.to l × (l.detail ≡ e.detail) × (l.metric ≡ e.metric)
   link_there e c =
       let w = (are.exact e).0 c in
       let has = to_of_kind w.0.kind w.0 e refl w.2 in
@@ -103,12 +103,12 @@ module _ {r flags : ℕ} {links : List RouterLink} {ends : List End} (are : AreE
     );
   }
 
-module _ {n mask : ℕ} {routers : List ℕ} {ends : List End} (are : AreEnds (Network n) (NetworkLinks mask routers) ends) where
+module _ {n mask : ℕ} {routers : List ℕ} {ends : List LinkEnd} (are : AreEnds (Network n) (NetworkLinks mask routers) ends) where
   pub router_there : (router : ℕ) → Contains routers router → Names ends (Router router)
   router_there router c = (listed_end router, (are.exact (listed_end router)).1 (router, c, refl), refl)
 
   pub router_named : (router : ℕ) → Names ends (Router router) → Contains routers router
   router_named router named =
       let w = (are.exact named.0).0 named.1 in
-      let number : w.0 ≡ router = ap number_of (ap (λ (e : End). e.to) (sym w.2) ∙ named.2) in
+      let number : w.0 ≡ router = ap number_of (ap (λ (e : LinkEnd). e.to) (sym w.2) ∙ named.2) in
       subst (Contains routers) number w.1

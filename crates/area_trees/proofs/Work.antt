@@ -15,7 +15,7 @@ use Rattle.vertex_graph.specs.Up.{Up}
 use Rattle.vertex_graph.specs.Graphs.{GraphValue, LinksOf, HasRoot, AreExact}
 use Rattle.vertex_graph.proofs.Deciding.{link_decided}
 use Rattle.spf.specs.Changes.{link_value, Among, SameLinks, AreDecided, AreExactChanges}
-use Rattle.spf.specs.Members.{HasNoDoubles}
+use Rattle.spf.specs.VertexSet.{HasNoDoubles}
 use Rattle.spf.specs.Parts.{HadRoot, LinksBefore, hops_of}
 use Rattle.spf.specs.Repairs.{Between, IsSame, HasDiffering, AreOwed}
 use Rattle.spf.specs.Trees.{IsTree}

@@ -12,7 +12,7 @@ use Rattle.ospf_types.specs.declared.config.Interface.{Interface}
 use Rattle.ospf_types.specs.Inputs.{Inputs, Area, IsUp}
 use Rattle.lsdb.specs.Contents.{IsSound}
 pub use Rattle.lsdb.specs.Contents.{body_at}
-use Rattle.vertex_graph.specs.End.{End}
+use Rattle.vertex_graph.specs.LinkEnd.{LinkEnd}
 use Rattle.vertex_graph.specs.Up.{Up}
 use Rattle.vertex_graph.specs.Ends.{AreEnds}
 use Rattle.vertex_graph.specs.Link.{Link}
@@ -98,7 +98,7 @@ abbrev pub StandFor : Database → List Vertex → List (Vertex × Option (Bor C
 StandFor d vertices lsas = AreStanding d vertices (handed_of lsas)
 
 -- where the vertex leads by the body of its LSA
-abbrev pub LeadsBy : Vertex → Option Body → Option (List End) → Type 0
+abbrev pub LeadsBy : Vertex → Option Body → Option (List LinkEnd) → Type 0
 LeadsBy v (Some body) (Some ends) = AreEnds v body ends
 LeadsBy v (Some body) None = ⊥
 LeadsBy v None ends = ends ≡ None

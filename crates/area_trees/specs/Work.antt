@@ -6,7 +6,7 @@ use Rattle.ospf_types.specs.declared.hop.NextHop.{NextHop}
 use Rattle.ospf_types.specs.Distances.{Links, IsDistance, IsHop}
 use Rattle.vertex_graph.specs.Link.{Link}
 use Rattle.spf.specs.Changes.{Among, AreExactChanges}
-use Rattle.spf.specs.Members.{HasNoDoubles}
+use Rattle.spf.specs.VertexSet.{HasNoDoubles}
 use Rattle.spf.specs.Repairs.{AreOwed}
 
 -- a vertex other than the root, reached after at a distance that it hasn't before

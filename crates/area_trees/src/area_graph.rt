@@ -3,7 +3,7 @@ ghost use Rattle.std.specs.Prelude.{◌≡◌, ◌≤◌, [], Some, OnOk, IfOk, 
 ghost use Rattle.std.specs.FinMap as map;
 ghost use Rattle.lsdb.specs.Databases.{Database as Lsas};
 ghost use Rattle.ospf_types.specs.Lsa.{key_of};
-ghost use Rattle.vertex_graph.specs.Graphs.{AreLinkChanges, HasEnds, most_routers};
+ghost use Rattle.vertex_graph.specs.Graphs.{AreLinkChanges, HasEnds, max_routers};
 ghost use Rattle.area_trees.specs.Areas.{IsGraphBut, IsGraphOf, IsStanding, IsStandingKey, vertex_of};
 
 use crate::networks::Networks;
@@ -81,7 +81,7 @@ impl AreaGraph {
         keys: &[Key],
     ) -> Result<LinkChanges, Memory>
         requires before { IsGraphBut database.now.lsas keys.now self.old }
-        requires few { database.now.limit ≤ most_routers }
+        requires few { database.now.limit ≤ max_routers }
         ensures ends { HasEnds self.old.graph }
         ensures right { OnOk result (IsGraphOf database.now.lsas self.new) }
         ensures root { OnOk result (self.new.graph.root ≡ self.old.graph.root) }

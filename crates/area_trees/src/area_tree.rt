@@ -8,7 +8,7 @@ ghost use Rattle.ospf_types.specs.Hops.{hop_cmp};
 ghost use Rattle.spf.specs.Maps.{most_distance};
 ghost use Rattle.spf.specs.TreeValues.{AreOthersKept, listed_hops};
 ghost use Rattle.tree_paths.specs.LeastPaths.{IsPathOver, links_at};
-ghost use Rattle.vertex_graph.specs.Graphs.{AreLinksFrom, most_routers};
+ghost use Rattle.vertex_graph.specs.Graphs.{AreLinksFrom, max_routers};
 ghost use Rattle.area_trees.specs.Areas.{FollowsInterfaces, FollowsLsas, HasBoundedWork, IsBuiltByWork, IsBuiltFor, IsStanding, IsStandingKey, IsTreeBut, IsTreeIn, IsTreeOfSome, IsWorkBetween, NamesChanged, vertex_of};
 
 use crate::area_graph::AreaGraph;
@@ -23,7 +23,7 @@ use std::alloc::Global;
 use std::hash::RandomState;
 use std::marker::Model;
 use vertex_graph::{Link, LinkChanges, Up};
-use vertex_map::Placed;
+use vertex_map::HintedVertex;
 
 /// The graph of an area and its shortest-path tree.
 pub struct AreaTree {
@@ -70,7 +70,7 @@ impl AreaTree {
         interfaces: &[Up],
         hashing: RandomState,
     ) -> Result<(AreaTree, Touched), Memory>
-        requires few { database.now.limit ≤ most_routers }
+        requires few { database.now.limit ≤ max_routers }
         ensures right { IfOk result (IsBuiltFor root database.now.lsas interfaces.now) }
         ensures changed { IfOk result (λ built. built.0.tree.changed ≡ []) }
         ensures work { IfOk result IsBuiltByWork }
@@ -92,7 +92,7 @@ impl AreaTree {
         keys: &[Key],
     ) -> Result<Touched, Memory>
         requires before { IsTreeBut database.now.lsas keys.now self.old }
-        requires few { database.now.limit ≤ most_routers }
+        requires few { database.now.limit ≤ max_routers }
         ensures right { OnOk result (FollowsLsas database.now.lsas self.old self.new) }
         ensures changed { OnOk result (NamesChanged self.old self.new) }
         ensures others { OnOk result (AreOthersKept self.old.tree self.new.tree) }
@@ -132,7 +132,7 @@ impl AreaTree {
     }
 
     /// The vertex with the place that it has in the area's graph. Layers above keep it, and look it up without a hash.
-    pub fn placed(&self, vertex: Vertex) -> Placed
+    pub fn placed(&self, vertex: Vertex) -> HintedVertex
         ensures { result ≡ vertex }
     {
         self.area.graph().placed(vertex)
@@ -155,7 +155,7 @@ impl AreaTree {
     }
 
     /// The distance of a vertex that comes with its place, as `placed` gives it. Mostly nothing is hashed.
-    pub fn distance_at(&self, vertex: &Placed) -> Option<u32>
+    pub fn distance_at(&self, vertex: &HintedVertex) -> Option<u32>
         ensures value { result ≡ map.get self.now.tree.distances vertex.now }
         ensures bounded { IfSome result (λ distance. distance < most_distance) }
     {
@@ -163,7 +163,7 @@ impl AreaTree {
     }
 
     /// The next hops of a vertex that comes with its place, ascending, each once.
-    pub fn hops_at(&self, vertex: &Placed) -> &[NextHop]
+    pub fn hops_at(&self, vertex: &HintedVertex) -> &[NextHop]
         ensures value { result.now ≡ listed_hops (map.get self.now.tree.hops vertex.now) }
         ensures in_order { IsStrictlySortedBy hop_cmp result.now }
     {
@@ -217,7 +217,7 @@ impl AreaTree {
         keys: &[Key],
     ) -> Result<Touched, Memory>
         requires before { IsTreeBut database.now.lsas keys.now self.old }
-        requires few { database.now.limit ≤ most_routers }
+        requires few { database.now.limit ≤ max_routers }
         ensures right { OnOk result (FollowsLsas database.now.lsas self.old self.new) }
         ensures changed { OnOk result (NamesChanged self.old self.new) }
         ensures others { OnOk result (AreOthersKept self.old.tree self.new.tree) }

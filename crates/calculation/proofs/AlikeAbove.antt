@@ -24,7 +24,7 @@ use Rattle.ospf_types.specs.Ranges.{IsExamined}
 use Rattle.lsdb.specs.Databases.{Database}
 use Rattle.lsdb.specs.Contents.{body_at}
 use Rattle.intra.specs.Intras.{IntraValue}
-use Rattle.offer_index.specs.Advertised.{advertised_at}
+use Rattle.offer_index.specs.AdvertisedRoute.{advertised_at}
 use Rattle.offer_index.specs.Indexes.{OfferIndexValue}
 use Rattle.active_ranges.specs.Active.{ActiveValue}
 use Rattle.inter.specs.Inputs.{ExaminedValue, InterInputsValue}

@@ -23,7 +23,7 @@ use Rattle.intra.specs.Changes.{DiffersAt}
 use Rattle.intra.specs.Intras.{AreaIntraValue, IntraValue, EntriesByPrefix, IsIntraOf, reached_at}
 use Rattle.active_ranges.proofs.Reconfigured.{active_alike, members_stay}
 use Rattle.active_ranges.specs.Active.{ActiveValue, AreRangesOf, EntriesDifferAmong, IsActiveIn, IsMemberWithin, IsRangeNamed, RangesDifferAt, DiffersAt as RangeDiffers}
-use Rattle.active_ranges.specs.declared.member.Member.{Member}
+use Rattle.active_ranges.specs.declared.member.RangeMember.{RangeMember}
 use Rattle.inter.specs.Changes.{InputsDifferAmong as InterInputsDiffer, DiffersAt as InterDiffers}
 use Rattle.inter.specs.Inputs.{ExaminedValue, InterInputsValue}
 use Rattle.inter.specs.Inters.{InterValue, IsInterOf}
@@ -136,10 +136,10 @@ module _ (s t : State) (keys : List (Scope × Key)) (ids : List ℕ) (range : Op
               let both = ranges p not_below in
               item_same (entry_at c p) (entry_at now p) (IsActiveIn c.active p) (IsActiveIn active p) (λ i. entry_else (first i) (entry_else (second i) (third i))) both.1 both.0 item
 
-          module _ (within : List Member) (told : List Dest) (told_is : told ≡ over ++ map (λ (m : Member). Net m.network) within)
-              (all_within : (id : ℕ) (prefix : Prefix) → range ≡ Some (id, prefix) → (m : Member) → IsMemberWithin c.intra.entries id prefix m → Contains within m) where
+          module _ (within : List RangeMember) (told : List Dest) (told_is : told ≡ over ++ map (λ (m : RangeMember). Net m.network) within)
+              (all_within : (id : ℕ) (prefix : Prefix) → range ≡ Some (id, prefix) → (m : RangeMember) → IsMemberWithin c.intra.entries id prefix m → Contains within m) where
             over_told : (d : Dest) → Contains over d → Contains told d
-            over_told d named = subst (λ (list : List Dest). Contains list d) (sym told_is) (Contains-append_left over (map (λ (m : Member). Net m.network) within) d named)
+            over_told d named = subst (λ (list : List Dest). Contains list d) (sym told_is) (Contains-append_left over (map (λ (m : RangeMember). Net m.network) within) d named)
 
             below_told : (d : Dest) → Contains below d → Contains told d
             below_told d named =
@@ -150,9 +150,9 @@ module _ (s t : State) (keys : List (Scope × Key)) (ids : List ℕ) (range : Op
             range_named area prefix e = (
               below_told (Net prefix) (prefix_named area prefix e),
               λ network w.
-                  let m : Member = record { range = prefix; area = area; network = network } in
+                  let m : RangeMember = record { range = prefix; area = area; network = network } in
                   subst (λ (list : List Dest). Contains list (Net network)) (sym told_is)
-                  (Contains-append_right over (map (λ (x : Member). Net x.network) within) (Net network) (mapped_element (λ (x : Member). Net x.network) within m (all_within area prefix e m (refl, refl, w)))),
+                  (Contains-append_right over (map (λ (x : RangeMember). Net x.network) within) (Net network) (mapped_element (λ (x : RangeMember). Net x.network) within m (all_within area prefix e m (refl, refl, w)))),
             )
 
             pub routes_kept : AreRangesOf t.config.areas intra.entries active → RoutesDifferAmong told c now

@@ -15,14 +15,14 @@ use Rattle.ospf_types.specs.declared.key.Dest.TheVariants.{Net, Router}
 use Rattle.ospf_types.specs.declared.prefix.Prefix.{Prefix}
 use Rattle.intra.specs.Changes.{DiffersAt, HasOtherRouter}
 use Rattle.intra.specs.Intras.{AreaIntraValue, IntraValue, reached_at}
-use Rattle.intra.specs.Reached.{ReachedValue}
+use Rattle.intra.specs.ReachedRouter.{ReachedValue}
 use Rattle.active_ranges.specs.Active.{ActiveValue, IsActiveIn, DiffersAt as RangeDiffers}
 use Rattle.inter.specs.Changes.{DiffersAt as InterDiffers}
 use Rattle.inter.specs.Inters.{InterValue}
 use Rattle.external.specs.Changes.{DiffersAt as ExternalDiffers}
 use Rattle.external.specs.Externals.{ExternalValue}
-use Rattle.external.specs.Preferred.{PreferredValue}
-use Rattle.external.specs.contracts.preferred.Preferred as preferred_row
+use Rattle.external.specs.AsbrRoute.{PreferredValue}
+use Rattle.external.specs.contracts.preferred.AsbrRoute as preferred_row
 use Rattle.calculation.proofs.Activity.{active_or_not}
 use Rattle.ospf_types.proofs.Stable.{same_value}
 

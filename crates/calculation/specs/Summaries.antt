@@ -7,7 +7,7 @@ use Rattle.ospf_types.specs.declared.key.Dest.{Dest}
 use Rattle.ospf_types.specs.declared.key.Dest.TheVariants.{Net, Router}
 use Rattle.ospf_types.specs.declared.prefix.Prefix.{Prefix}
 use Rattle.active_ranges.specs.Active.{IsRangeNamed, RangesDifferAt}
-use Rattle.active_ranges.specs.declared.member.Member.{Member}
+use Rattle.active_ranges.specs.declared.member.RangeMember.{RangeMember}
 use Rattle.summaries.specs.DueSummaries.{DueSummariesValue, AreSummariesOf}
 use Rattle.summaries.specs.Inputs.{SummaryInputsValue}
 use Rattle.event_state.specs.States.{State}
@@ -25,7 +25,7 @@ AreSummariesFor s c w = (active : List ℕ) × AreActive s active × AreSummarie
 -- the routes that summaries tell of differ in no more than is named
 pub record RoutesDifferAmong (dests : List Dest) (old new : CalculationValue) : Type 0 where
   pub intra : (p : Prefix) → (Contains dests (Net p) → ⊥) → get new.intra.entries p ≡ get old.intra.entries p
-  pub members : (m : Member) → (Contains dests (Net m.network) → Covers m.range m.network → ⊥) → get new.active.members m ≡ get old.active.members m
+  pub members : (m : RangeMember) → (Contains dests (Net m.network) → Covers m.range m.network → ⊥) → get new.active.members m ≡ get old.active.members m
   pub inter : (p : Prefix) → (Contains dests (Net p) → ⊥) → get new.inter.entries (Net p) ≡ get old.inter.entries (Net p)
   pub preferred : (r : ℕ) → (Contains dests (Router r) → ⊥) → get new.external.preferred r ≡ get old.external.preferred r
 

@@ -9,13 +9,13 @@ ghost use Rattle.ospf_types.specs.Inputs.{Inputs as Definitions};
 ghost use Rattle.ospf_types.specs.Keys.{dest_cmp};
 ghost use Rattle.ospf_types.specs.Network.{network_cmp};
 ghost use Rattle.spf.specs.Touched.{Touched as TouchedValue};
-ghost use Rattle.vertex_graph.specs.Graphs.{most_routers};
+ghost use Rattle.vertex_graph.specs.Graphs.{max_routers};
 ghost use Rattle.intra.specs.Changes.{InputsDifferAmong, DiffersAt};
 ghost use Rattle.intra.specs.Inputs.{InputsValue};
 ghost use Rattle.intra.specs.Intras.{IsIntraOf};
 ghost use Rattle.intra.specs.Right.{IsRightFor};
 ghost use Rattle.active_ranges.specs.Active.{AreRangesOf, IsMemberWithin, IsRangeNamed, RangesDifferAt};
-ghost use Rattle.active_ranges.specs.declared.member.Member.{Member as MemberValue};
+ghost use Rattle.active_ranges.specs.declared.member.RangeMember.{RangeMember as MemberValue};
 ghost use Rattle.summaries.specs.Carrying.{IsCarriedOut, IsReady, MakesChangesFrom};
 ghost use Rattle.summaries.specs.DueSummaries.{DueSummariesValue, lists_of};
 ghost use Rattle.route_table.specs.declared.table.Item.{Item as ItemValue};
@@ -24,10 +24,10 @@ ghost use Rattle.event_state.specs.States.{AreApart, State as StateValue, inputs
 ghost use Rattle.calculation.specs.Calculations.{CalculationValue, IsCalculationOf, IsItemOf, IsNewItemOf, IsTableOf, AreItemsKept, entry_at, entry_else};
 ghost use Rattle.state_trees.specs.Trees.{AreTreesOf, inputs_with};
 ghost use Rattle.calculation.specs.Summaries.{AreSummariesFor, SummariesDifferAmong, RoutesDifferAmong, summary_inputs};
-ghost use Rattle.calculation.specs.Followed.{IsStateBehind, IsWorkSince, AreLayersBehind, range_dests, routers_in};
+ghost use Rattle.calculation.specs.Followed.{IsOutOfDateBy, IsWorkSince, AreLayersOutOfDateBy, range_dests, routers_in};
 ghost use Rattle.calculation.specs.Totals.{IsWorkOfTrees};
 
-use active_ranges::{ActiveRanges, Member};
+use active_ranges::{ActiveRanges, RangeMember};
 use area_trees::AreaTree;
 use event_state::State;
 use external::External;
@@ -114,7 +114,7 @@ impl Calculation {
         state: &State,
         hashing: RandomState,
     ) -> Result<(Calculation, Touched), Memory>
-        requires few { state.now.limits.area_lsas ≤ most_routers }
+        requires few { state.now.limits.area_lsas ≤ max_routers }
         requires apart { AreApart state.now.config.areas }
         ensures right { IfOk result (λ built. IsCalculationOf state.now built.0) }
         ensures work { IfOk result (λ built. IsWorkOfTrees built.0.trees built.1) }
@@ -149,8 +149,8 @@ impl Calculation {
         ids: Vec<u8>,
         range: Option<(u32, Prefix)>,
     ) -> Result<Changed, Memory>
-        requires few { state.now.limits.area_lsas ≤ most_routers }
-        requires before { IsStateBehind keys.items ids.items range self.old state.now }
+        requires few { state.now.limits.area_lsas ≤ max_routers }
+        requires before { IsOutOfDateBy keys.items ids.items range self.old state.now }
         ensures right { OnOk result (IsCalculationOf state.now self.new) }
         ensures in_order { IfOk result (λ out. IsStrictlySortedBy network_cmp out.networks.items) }
         ensures items { IfOk result (λ out. AreItemsKept out.networks.items self.old self.new) }
@@ -320,7 +320,7 @@ impl Calculation {
         range: Option<(u32, Prefix)>,
     ) -> Result<Vec<Prefix>, Memory>
         requires trees { AreTreesOf state.now state.now.config.areas self.old.trees }
-        requires before { AreLayersBehind state.now dirty.old range self.old }
+        requires before { AreLayersOutOfDateBy state.now dirty.old range self.old }
         ensures right { OnOk result (IsCalculationOf state.now self.new) }
         ensures in_order { IfOk result (λ networks. IsStrictlySortedBy network_cmp networks.items) }
         ensures items { IfOk result (λ networks. AreItemsKept networks.items self.old self.new) }
@@ -370,7 +370,7 @@ impl Calculation {
     fn entry_next(&self, network: Prefix, next: &mut usize) -> Option<&Entry>
         ensures { option_copied result ≡ entry_at self.now network }
     {
-        if let Some(entry) = self.intra.get_next(network, next) {
+        if let Some(entry) = self.intra.get_with_hint(network, next) {
             return Some(entry);
         }
         self.outer_entry(network)
@@ -438,7 +438,7 @@ fn follow_range(
     areas: &[AreaConfig],
     intra: &Intra,
     range: &Option<(u32, Prefix)>,
-) -> Result<Vec<Member>, Memory>
+) -> Result<Vec<RangeMember>, Memory>
     requires before { (before : List AreaConfigValue)
         × AreRangesOf before intra.now.entries active.old
         × RangesDifferAt range.now before areas.now × (range.now ≡ None → areas.now ≡ before) }
@@ -486,7 +486,7 @@ fn push_range(range: &Option<(u32, Prefix)>, dests: &mut Vec<Dest>) -> Result<()
 }
 
 // Adds the networks of the members.
-fn push_members(members: &[Member], dests: &mut Vec<Dest>) -> Result<(), Memory>
+fn push_members(members: &[RangeMember], dests: &mut Vec<Dest>) -> Result<(), Memory>
     ensures { OnOk result (dests.new.items
         ≡ dests.old.items ++ list_map (λ m. dest_value.Net m.network) members.now) }
 {

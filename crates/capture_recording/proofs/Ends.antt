@@ -12,8 +12,8 @@ use Rattle.capture_recording.specs.Rules.{Rules}
 use Rattle.recording.specs.Recordings.{IsText}
 use Rattle.replay.specs.Writing.{AppendsPart}
 use Rattle.replay.proofs.Written.{appends_none, appends_more}
-use Rattle.capture_recording.specs.declared.capturing.Beginning.{Beginning}
-use Rattle.capture_recording.specs.declared.capturing.Beginning.TheVariants.{Given, Router}
+use Rattle.capture_recording.specs.declared.capturing.Preamble.{Preamble}
+use Rattle.capture_recording.specs.declared.capturing.Preamble.TheVariants.{Given, Router}
 use Rattle.capture_recording.specs.declared.fault.CapturingFault.{CapturingFault}
 use Rattle.capture_recording.specs.declared.fault.CapturingFault.TheVariants.{Capture, Read, Line, Config, Unsaid, Write, Closed, Memory}
 use Rattle.capture_recording.specs.declared.gathered.Gathered.{Gathered}
@@ -33,7 +33,7 @@ use Rattle.capture_recording.proofs.Said.{up_to_all, up_to_behind, up_to_more, p
 
 -- ---- what is said at the end
 
-unknown_is : (beginning : Beginning) (steps : List Step) → unknown_if (config_of (router_of beginning) steps) (areas_of steps) ≡ unknown_of beginning steps
+unknown_is : (beginning : Preamble) (steps : List Step) → unknown_if (config_of (router_of beginning) steps) (areas_of steps) ≡ unknown_of beginning steps
 unknown_is (Given bytes) steps = refl
 unknown_is (Router router) steps = refl
 
@@ -44,7 +44,7 @@ module _ (rules : Rules) (router : Option ℕ) (steps : List Step) (g : Gathered
   unknown_are : unknown_if (config_of router steps) g.areas ≡ unknown_if (config_of router steps) (areas_of steps)
   unknown_are = ap (unknown_if (config_of router steps)) are.areas
 
-ends_are : (rules : Rules) (beginning : Beginning) (steps : List Step) (g : Gathered) → AreGathered rules (router_of beginning) steps g
+ends_are : (rules : Rules) (beginning : Preamble) (steps : List Step) (g : Gathered) → AreGathered rules (router_of beginning) steps g
     → unknown_if (config_of (router_of beginning) steps) g.areas ++ counts_line g.counts (length g.areas) ≡ unknown_of beginning steps ++ counts_text steps
 ends_are rules beginning steps g are =
     ap (λ l. l ++ counts_line g.counts (length g.areas)) (unknown_are rules (router_of beginning) steps g are ∙ unknown_is beginning steps)
@@ -52,7 +52,7 @@ ends_are rules beginning steps g are =
 
 -- ---- a front was written
 
-module _ (rules : Rules) (beginning : Beginning) (before after old now told_before told : Option (List ℕ)) (ended : Ended) (is : IsBegun rules beginning before after old now told_before told ended) where
+module _ (rules : Rules) (beginning : Preamble) (before after old now told_before told : Option (List ℕ)) (ended : Ended) (is : IsBegun rules beginning before after old now told_before told ended) where
   -- the lines that are left could not be written
   pub lines_unwritten : (new : Option (List ℕ)) (fault : CapturingFault) → (fault ≡ Write) ⊎ (fault ≡ Closed) → AppendsPart now new (string_bytes ended.session.lines)
       → FaultOutcome rules beginning before after old new told_before told fault
@@ -75,7 +75,7 @@ module _ (rules : Rules) (beginning : Beginning) (before after old now told_befo
 
 -- ---- all was written
 
-module _ (rules : Rules) (beginning : Beginning) (before after old new told_before told : Option (List ℕ)) (ended : Ended) (is : IsWhollyWritten rules beginning before after old new told_before told ended) where
+module _ (rules : Rules) (beginning : Preamble) (before after old new told_before told : Option (List ℕ)) (ended : Ended) (is : IsWhollyWritten rules beginning before after old new told_before told ended) where
   -- memory ran out
   pub end_unsaid : IsRecordedUpTo rules beginning before old new told_before told
   end_unsaid = (
@@ -97,7 +97,7 @@ module _ (rules : Rules) (beginning : Beginning) (before after old new told_befo
 
 -- ---- the front is not written yet
 
-pub front_unwritten : (rules : Rules) (beginning : Beginning) (before after told_before told old new : Option (List ℕ)) (kept : Kept) (front : List ℕ) → IsBehind rules beginning before after told_before told kept front
+pub front_unwritten : (rules : Rules) (beginning : Preamble) (before after told_before told old new : Option (List ℕ)) (kept : Kept) (front : List ℕ) → IsBehind rules beginning before after told_before told kept front
     → (fault : CapturingFault) → (fault ≡ Write) ⊎ (fault ≡ Closed) → AppendsPart old new front → FaultOutcome rules beginning before after old new told_before told fault
 front_unwritten rules beginning before after told_before told old new kept front is fault kind part =
     outcome_part rules beginning before after old new told_before told fault kind
@@ -106,7 +106,7 @@ front_unwritten rules beginning before after told_before told old new kept front
 
 -- ---- the front was written, and the lines are not yet
 
-module _ (rules : Rules) (beginning : Beginning) (before after told_before told old mid : Option (List ℕ)) (kept : Kept) (front : List ℕ)
+module _ (rules : Rules) (beginning : Preamble) (before after told_before told old mid : Option (List ℕ)) (kept : Kept) (front : List ℕ)
     (is : IsBehind rules beginning before after told_before told kept front) (begun : Appends old mid front) where
   pub packed_begun : (now : Option (List ℕ)) → Appends mid now kept.packed → IsBegun rules beginning before after old now told_before told kept.ended
   packed_begun now written = record {
@@ -154,13 +154,13 @@ module _ (rules : Rules) (beginning : Beginning) (before after told_before told 
   packed_unwritten new Memory part = packed_up_to new part
 
 -- memory ran out before anything was written
-pub nothing_written : (rules : Rules) (router : Option ℕ) (beginning : Beginning) (before after told_before told old : Option (List ℕ)) (ended : Ended) (packed : List ℕ) → GoesThrough rules router before told_before after told ended packed
+pub nothing_written : (rules : Rules) (router : Option ℕ) (beginning : Preamble) (before after told_before told old : Option (List ℕ)) (ended : Ended) (packed : List ℕ) → GoesThrough rules router before told_before after told ended packed
     → IsRecordedUpTo rules beginning before old old told_before told
 nothing_written rules router beginning before after told_before told old ended packed through =
     (after, of_taken rules router before told_before through.to after told ended.session packed through.recorded _ (inl (appends_none old), through.recorded.said.begun))
 
 -- nor a packet was read
-pub none_recorded : (rules : Rules) (beginning : Beginning) (before told old : Option (List ℕ)) → IsRecordedUpTo rules beginning before old old told told
+pub none_recorded : (rules : Rules) (beginning : Preamble) (before told old : Option (List ℕ)) → IsRecordedUpTo rules beginning before old old told told
 none_recorded rules beginning before told old = (before, of_none rules before _ (inl (appends_none old), up_to_all told told [] (appends_none told)))
 
 pub lacking_said : (rules : Rules) (router : ℕ) (before after told_before told now old : Option (List ℕ)) (ended : Ended) (packed : List ℕ) (fault : ConfigFault) (is : IsLacking rules router before after told_before told ended packed fault)
@@ -198,7 +198,7 @@ module _ (rules : Rules) (router : ℕ) (before after told_before told : Option 
 
 -- ---- a front that is given
 
-module _ (rules : Rules) (beginning : Beginning) (front : List ℕ) (is : (steps : List Step) → IsFront beginning steps front) where
+module _ (rules : Rules) (beginning : Preamble) (front : List ℕ) (is : (steps : List Step) → IsFront beginning steps front) where
   -- the front could not be written
   pub given_unwritten : (before old new told : Option (List ℕ)) (fault : CapturingFault) → (fault ≡ Write) ⊎ (fault ≡ Closed) → AppendsPart old new front → FaultOutcome rules beginning before before old new told told fault
   given_unwritten before old new told fault kind part =

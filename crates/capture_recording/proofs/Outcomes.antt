@@ -8,7 +8,7 @@ use Rattle.capture_reader.specs.Positions.{Position}
 use Rattle.capture_recording.proofs.Gaining.{appended_none}
 use Rattle.replay.specs.Writing.{AppendsPart}
 use Rattle.replay.proofs.Written.{appends_none}
-use Rattle.capture_recording.specs.declared.capturing.Beginning.{Beginning}
+use Rattle.capture_recording.specs.declared.capturing.Preamble.{Preamble}
 use Rattle.capture_recording.specs.declared.ending.Ending.{Ending}
 use Rattle.capture_recording.specs.declared.ending.Ending.TheVariants.{Whole, Fault, Unread}
 use Rattle.capture_recording.specs.declared.fault.CapturingFault.{CapturingFault}
@@ -99,7 +99,7 @@ streams_part rules before after old new told_before told fault (inr is) part = s
 
 -- ---- outcomes
 
-module _ (rules : Rules) (beginning : Beginning) (before after old new told_before told : Option (List ℕ)) where
+module _ (rules : Rules) (beginning : Preamble) (before after old new told_before told : Option (List ℕ)) where
   pub outcome_part : (fault : CapturingFault) → (fault ≡ Write) ⊎ (fault ≡ Closed) → IsRecordedPart rules beginning before after old new told_before told
       → FaultOutcome rules beginning before after old new told_before told fault
   outcome_part fault (inl is) part = subst (FaultOutcome rules beginning before after old new told_before told) (sym is) part

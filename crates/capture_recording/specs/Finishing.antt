@@ -2,27 +2,27 @@
 use Rattle.std.specs.Prelude.{ℕ, ◌≡◌, ◌++◌, List, [], Option, Some, None, string_bytes}
 use Rattle.std.specs.Io.KnownBytes.{Appends}
 use Rattle.captured_config.specs.Configs.{config_of}
-use Rattle.captured_config.specs.declared.fault.FrontFault.{FrontFault}
-use Rattle.captured_config.specs.declared.fault.FrontFault.TheVariants as front_fault
+use Rattle.captured_config.specs.declared.fault.PreambleFault.{PreambleFault}
+use Rattle.captured_config.specs.declared.fault.PreambleFault.TheVariants as front_fault
 use Rattle.captured_config.specs.Lsas.{Captured}
 use Rattle.captured_config.specs.Unknown.{unknown_text}
 use Rattle.capture_recording.specs.Rules.{Rules}
 use Rattle.config_faults.specs.Configs.{config_fault_of}
 use Rattle.config_faults.specs.declared.fault.ConfigFault.{ConfigFault}
-use Rattle.capture_recording.specs.declared.capturing.Beginning.{Beginning}
-use Rattle.capture_recording.specs.declared.capturing.Beginning.TheVariants.{Given, Router}
+use Rattle.capture_recording.specs.declared.capturing.Preamble.{Preamble}
+use Rattle.capture_recording.specs.declared.capturing.Preamble.TheVariants.{Given, Router}
 use Rattle.capture_recording.specs.declared.going.Ended.{Ended}
 use Rattle.capture_recording.specs.declared.going.Kept.{Kept}
 use Rattle.capture_recording.specs.Going.{GoesThrough}
 use Rattle.capture_recording.specs.Outputs.{HasConfigFault, IsFront, IsWritten}
 
 -- the router that the recording begins with
-abbrev pub router_of : Beginning → Option ℕ
+abbrev pub router_of : Preamble → Option ℕ
 router_of (Given bytes) = None
 router_of (Router router) = Some router
 
 -- a capture was gone through, and its front and some of the lines were written
-pub record IsBegun (rules : Rules) (beginning : Beginning) (before after old now told_before told : Option (List ℕ)) (ended : Ended) : Type 0 where
+pub record IsBegun (rules : Rules) (beginning : Preamble) (before after old now told_before told : Option (List ℕ)) (ended : Ended) : Type 0 where
   pub written : List ℕ
   pub through : GoesThrough rules (router_of beginning) before told_before after told ended written
   pub front : List ℕ
@@ -30,7 +30,7 @@ pub record IsBegun (rules : Rules) (beginning : Beginning) (before after old now
   pub begun : Appends old now (front ++ written)
 
 -- a capture was gone through, and this is to stand before its lines
-pub record IsBehind (rules : Rules) (beginning : Beginning) (before after told_before told : Option (List ℕ)) (kept : Kept) (front : List ℕ) : Type 0 where
+pub record IsBehind (rules : Rules) (beginning : Preamble) (before after told_before told : Option (List ℕ)) (kept : Kept) (front : List ℕ) : Type 0 where
   pub through : GoesThrough rules (router_of beginning) before told_before after told kept.ended kept.packed
   pub is : IsFront beginning through.recorded.steps front
 
@@ -40,7 +40,7 @@ pub record IsLacking (rules : Rules) (router : ℕ) (before after told_before to
   pub has : HasConfigFault (Router router) through.recorded.steps fault
 
 -- all of it was written
-pub record IsWhollyWritten (rules : Rules) (beginning : Beginning) (before after old new told_before told : Option (List ℕ)) (ended : Ended) : Type 0 where
+pub record IsWhollyWritten (rules : Rules) (beginning : Preamble) (before after old new told_before told : Option (List ℕ)) (ended : Ended) : Type 0 where
   pub written : List ℕ
   pub through : GoesThrough rules (router_of beginning) before told_before after told ended written
   pub all : IsWritten beginning old new through.recorded.steps (written ++ string_bytes ended.session.lines)
@@ -48,7 +48,7 @@ pub record IsWhollyWritten (rules : Rules) (beginning : Beginning) (before after
 -- ---- what is known of the router
 
 -- the configuration is at fault, or memory ran out
-abbrev pub IsNoFront : Captured → (areas : List ℕ) → FrontFault → Type 0
+abbrev pub IsNoFront : Captured → (areas : List ℕ) → PreambleFault → Type 0
 IsNoFront known areas (front_fault.Config fault) = config_fault_of (config_of known areas) ≡ Some fault
 IsNoFront known areas front_fault.Memory = Unit {0}
 

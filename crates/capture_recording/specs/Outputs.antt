@@ -15,8 +15,8 @@ use Rattle.recording.specs.Faults.{IsFaultOf}
 use Rattle.recording.specs.Recordings.{RecordingValue, IsText}
 use Rattle.recording.specs.declared.fault.LineFault.{LineFault}
 use Rattle.replay.specs.Writing.{AppendsPart}
-use Rattle.capture_recording.specs.declared.capturing.Beginning.{Beginning}
-use Rattle.capture_recording.specs.declared.capturing.Beginning.TheVariants.{Given, Router}
+use Rattle.capture_recording.specs.declared.capturing.Preamble.{Preamble}
+use Rattle.capture_recording.specs.declared.capturing.Preamble.TheVariants.{Given, Router}
 use Rattle.capture_recording.specs.declared.fault.CapturingFault.{CapturingFault}
 use Rattle.capture_recording.specs.declared.fault.CapturingFault.TheVariants.{Capture, Read, Line, Config, Unsaid, Write, Closed, Memory}
 use Rattle.capture_recording.specs.Ending.{IsSomeEnding}
@@ -33,7 +33,7 @@ abbrev pub IsRecordingText : List ℕ → Type 0
 IsRecordingText bytes = (recording : RecordingValue) × IsText bytes recording
 
 -- what the recording begins with: bytes that are a recording, or what the packets tell of a router
-abbrev pub IsFront : Beginning → List Step → List ℕ → Type 0
+abbrev pub IsFront : Preamble → List Step → List ℕ → Type 0
 IsFront (Given bytes) steps front = (front ≡ bytes.now) × IsRecordingText bytes.now
 IsFront (Router router) steps front = IsText front (captured_recording (captured_of router steps) (areas_of steps))
 
@@ -46,24 +46,24 @@ abbrev pub IsOnly : List ℕ → RecordingValue → Type 0
 IsOnly bytes recording = (other : RecordingValue) → IsText bytes other → recording ≡ other
 
 -- behind a beginning that is given, only LSAs of its areas are recorded
-abbrev pub IsLimit : Beginning → (areas : Option (List ℕ)) → Type 0
+abbrev pub IsLimit : Preamble → (areas : Option (List ℕ)) → Type 0
 IsLimit (Given bytes) areas = (recording : RecordingValue) → IsText bytes.now recording → areas ≡ Some (areas_in recording)
 IsLimit (Router router) areas = areas ≡ None
 
 -- the beginning and the lines were written
-pub record IsWritten (beginning : Beginning) (old new : Option (List ℕ)) (steps : List Step) (lines : List ℕ) : Type 0 where
+pub record IsWritten (beginning : Preamble) (old new : Option (List ℕ)) (steps : List Step) (lines : List ℕ) : Type 0 where
   pub front : List ℕ
   pub is : IsFront beginning steps front
   pub written : Appends old new (front ++ lines)
 
 -- a part of them was written, and not all
-pub record IsWrittenPart (beginning : Beginning) (old new : Option (List ℕ)) (steps : List Step) (lines : List ℕ) : Type 0 where
+pub record IsWrittenPart (beginning : Preamble) (old new : Option (List ℕ)) (steps : List Step) (lines : List ℕ) : Type 0 where
   pub front : List ℕ
   pub is : IsFront beginning steps front
   pub written : AppendsPart old new (front ++ lines)
 
 -- nothing was written, or a beginning of them
-pub record IsWrittenUpTo (beginning : Beginning) (old new : Option (List ℕ)) (steps : List Step) (lines : List ℕ) : Type 0 where
+pub record IsWrittenUpTo (beginning : Preamble) (old new : Option (List ℕ)) (steps : List Step) (lines : List ℕ) : Type 0 where
   pub front : List ℕ
   pub is : IsFront beginning steps front
   pub written : AppendsUpTo old new (front ++ lines)
@@ -75,53 +75,53 @@ abbrev pub counts_text : List Step → List ℕ
 counts_text steps = counts_line (counts_of steps) (length (areas_of steps))
 
 -- what the packets do not tell of the router
-abbrev pub unknown_of : Beginning → List Step → List ℕ
+abbrev pub unknown_of : Preamble → List Step → List ℕ
 unknown_of (Given bytes) steps = []
 unknown_of (Router router) steps = unknown_text (captured_of router steps) (areas_of steps)
 
-abbrev pub all_notes : Beginning → List Step → List ℕ
+abbrev pub all_notes : Preamble → List Step → List ℕ
 all_notes beginning steps = notes_of steps ++ (unknown_of beginning steps ++ counts_text steps)
 
 -- ---- the outcome
 
 -- all that came is recorded; E holds of where it ended, and S of what there was to say
-abbrev pub IsRecorded : Rules → Beginning → (before after old new : Option (List ℕ)) → (E : Position → Type 0) → (S : List ℕ → Type 0) → Type 0
+abbrev pub IsRecorded : Rules → Preamble → (before after old new : Option (List ℕ)) → (E : Position → Type 0) → (S : List ℕ → Type 0) → Type 0
 IsRecorded rules beginning before after old new E S = FirstPackets rules before after (λ at steps lines.
     E at × IsWritten beginning old new steps lines × S (all_notes beginning steps))
 
 -- the packets tell of no configuration of the router but one with this fault
-abbrev pub HasConfigFault : Beginning → List Step → ConfigFault → Type 0
+abbrev pub HasConfigFault : Preamble → List Step → ConfigFault → Type 0
 HasConfigFault (Given bytes) steps fault = ⊥
 HasConfigFault (Router router) steps fault = config_fault_of (config_of (captured_of router steps) (areas_of steps)) ≡ Some fault
 
 -- nothing is recorded, for this fault of the configuration
-abbrev pub Lacks : Rules → Beginning → (before after old new : Option (List ℕ)) → (E : Position → Type 0) → (S : List ℕ → Type 0) → ConfigFault → Type 0
+abbrev pub Lacks : Rules → Preamble → (before after old new : Option (List ℕ)) → (E : Position → Type 0) → (S : List ℕ → Type 0) → ConfigFault → Type 0
 Lacks rules beginning before after old new E S fault = FirstPackets rules before after (λ at steps lines.
     E at × HasConfigFault beginning steps fault × Appends old new [] × S (notes_of steps ++ counts_text steps))
 
 -- all that came is recorded, unless the configuration is at fault
-abbrev pub IsRecordedOrLacks : Rules → Beginning → (before after old new : Option (List ℕ)) → (E : Position → Type 0) → (S : List ℕ → Type 0) → Type 0
+abbrev pub IsRecordedOrLacks : Rules → Preamble → (before after old new : Option (List ℕ)) → (E : Position → Type 0) → (S : List ℕ → Type 0) → Type 0
 IsRecordedOrLacks rules beginning before after old new E S =
     IsRecorded rules beginning before after old new E S
     ⊎ ((fault : ConfigFault) × Lacks rules beginning before after old new E S fault)
 
 -- the given beginning has this fault
-abbrev pub IsGivenFault : Beginning → LineFault → Type 0
+abbrev pub IsGivenFault : Preamble → LineFault → Type 0
 IsGivenFault (Given bytes) fault = IsFaultOf bytes.now fault
 IsGivenFault (Router router) fault = ⊥
 
 -- the writing failed: a part was written, and not all
-abbrev pub IsRecordedPart : Rules → Beginning → (before after old new told_before told : Option (List ℕ)) → Type 0
+abbrev pub IsRecordedPart : Rules → Preamble → (before after old new told_before told : Option (List ℕ)) → Type 0
 IsRecordedPart rules beginning before after old new told_before told = FirstPackets rules before after (λ at steps lines.
     IsWrittenPart beginning old new steps lines × AppendsUpTo told_before told (notes_of steps))
 
 -- memory ran out behind some of the packets
-abbrev pub IsRecordedUpTo : Rules → Beginning → (before old new told_before told : Option (List ℕ)) → Type 0
+abbrev pub IsRecordedUpTo : Rules → Preamble → (before old new told_before told : Option (List ℕ)) → Type 0
 IsRecordedUpTo rules beginning before old new told_before told = (left : Option (List ℕ)) × FirstPackets rules before left (λ at steps lines.
     (Appends old new [] ⊎ IsWrittenUpTo beginning old new steps lines) × AppendsUpTo told_before told (notes_of steps))
 
 -- what is answered, if not that all is recorded and said
-abbrev pub FaultOutcome : Rules → Beginning → (before after old new told_before told : Option (List ℕ)) → CapturingFault → Type 0
+abbrev pub FaultOutcome : Rules → Preamble → (before after old new told_before told : Option (List ℕ)) → CapturingFault → Type 0
 FaultOutcome rules beginning before after old new told_before told (Capture kind place) =
     IsRecordedOrLacks rules beginning before after old new (λ at. Stops (error.Fault kind place) at after) (Appends told_before told)
 FaultOutcome rules beginning before after old new told_before told Read =
@@ -136,7 +136,7 @@ FaultOutcome rules beginning before after old new told_before told Closed = IsRe
 FaultOutcome rules beginning before after old new told_before told Memory = IsRecordedUpTo rules beginning before old new told_before told
 
 -- what each answer means, by these rules
-abbrev pub RuledOutcome : Rules → Beginning → (before after old new told_before told : Option (List ℕ)) → Result (Unit {0}) CapturingFault → Type 0
+abbrev pub RuledOutcome : Rules → Preamble → (before after old new told_before told : Option (List ℕ)) → Result (Unit {0}) CapturingFault → Type 0
 RuledOutcome rules beginning before after old new told_before told result =
     MatchResult result (λ _. IsRecorded rules beginning before after old new (λ at. IsWhole at after) (Appends told_before told))
     (FaultOutcome rules beginning before after old new told_before told)
@@ -153,7 +153,7 @@ IsLine Closed = ⊥
 IsLine Memory = ⊥
 
 -- what each answer means; the rules do not count where the beginning has a fault
-abbrev pub Outcome : Options → Beginning → (before after old new told_before told : Option (List ℕ)) → Result (Unit {0}) CapturingFault → Type 0
+abbrev pub Outcome : Options → Preamble → (before after old new told_before told : Option (List ℕ)) → Result (Unit {0}) CapturingFault → Type 0
 Outcome options beginning before after old new told_before told result =
     (areas : Option (List ℕ))
     × (IsLimit beginning areas ⊎ MatchResult result (λ _. ⊥) IsLine)

@@ -1,7 +1,7 @@
 //! A capture, recorded.
 ghost use Rattle.std.specs.Prelude.{◌≡◌, IfOk};
 ghost use Rattle.recording.specs.Recordings.{IsText};
-ghost use Rattle.capture_recording.specs.declared.capturing.Beginning.TheVariants.{Given, Router};
+ghost use Rattle.capture_recording.specs.declared.capturing.Preamble.TheVariants.{Given, Router};
 ghost use Rattle.capture_recording.specs.Outputs.{areas_in, IsOnly, IsRecordingText, Outcome, RuledOutcome};
 
 use crate::fault::CapturingFault;
@@ -19,12 +19,12 @@ use std::io;
 #[derive(Clone, Copy)]
 pub struct Capturing<'a> {
     pub options: Options,
-    pub beginning: Beginning<'a>,
+    pub beginning: Preamble<'a>,
 }
 
 /// What a recording begins with.
 #[derive(Clone, Copy)]
-pub enum Beginning<'a> {
+pub enum Preamble<'a> {
     /// These bytes, which are a recording.
     Given(&'a [u8]),
     /// What the capture tells of the router with this Router ID.
@@ -58,8 +58,8 @@ pub fn record_capture<R: io::Read, W: io::Write, F: io::Write>(
         areas: None,
     };
     match capturing.beginning {
-        Beginning::Given(bytes) => record_given(alloc, start, bytes, input, out, faults),
-        Beginning::Router(router) => record_router(alloc, start, router, input, out, faults),
+        Preamble::Given(bytes) => record_given(alloc, start, bytes, input, out, faults),
+        Preamble::Router(router) => record_router(alloc, start, router, input, out, faults),
     }
 }
 

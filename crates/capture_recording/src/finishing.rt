@@ -7,8 +7,8 @@ ghost use Rattle.captured_config.specs.Lsas.{Captured};
 ghost use Rattle.capture_recording.specs.Rules.{Rules};
 ghost use Rattle.capture_lines.specs.Counts.{counts_line};
 ghost use Rattle.recording.specs.Recordings.{IsText};
-ghost use Rattle.capture_recording.specs.declared.capturing.Beginning.{Beginning};
-ghost use Rattle.capture_recording.specs.declared.capturing.Beginning.TheVariants.{Router};
+ghost use Rattle.capture_recording.specs.declared.capturing.Preamble.{Preamble};
+ghost use Rattle.capture_recording.specs.declared.capturing.Preamble.TheVariants.{Router};
 ghost use Rattle.capture_recording.specs.Going.{GoesThrough};
 ghost use Rattle.capture_recording.specs.Finishing.{IsBegun, IsBehind, IsLacking, IsNoFront, IsWhollyWritten, unknown_if};
 ghost use Rattle.capture_recording.specs.Gathering.{AreFactsOf};
@@ -19,7 +19,7 @@ use crate::gathered::Gathered;
 use crate::going::{Ended, Kept};
 use crate::writing::write_out;
 use capture_lines::put_counts;
-use captured_config::FrontFault;
+use captured_config::PreambleFault;
 use config_faults::ConfigFault;
 use ospf_types::memory::Memory;
 use std::alloc::Global;
@@ -41,8 +41,8 @@ impl Kept {
     {
         match front_of(alloc, &self.ended.session.gathered) {
             Ok(front) => self.finish_behind(&front, out, faults),
-            Err(FrontFault::Config(fault)) => self.ended.finish_without(fault, faults),
-            Err(FrontFault::Memory) => Err(CapturingFault::Memory),
+            Err(PreambleFault::Config(fault)) => self.ended.finish_without(fault, faults),
+            Err(PreambleFault::Memory) => Err(CapturingFault::Memory),
         }
     }
 
@@ -53,7 +53,7 @@ impl Kept {
         out: &mut W,
         faults: &mut F,
     ) -> Result<(), CapturingFault>
-        ensures { (rules : Rules) (beginning : Beginning)
+        ensures { (rules : Rules) (beginning : Preamble)
             (before after told : Option (List ℕ))
             → IsBehind rules beginning before after told (F.contents faults.old) self front.now
             → RuledOutcome rules beginning before after
@@ -71,7 +71,7 @@ impl Kept {
         out: &mut W,
         faults: &mut F,
     ) -> Result<(), CapturingFault>
-        ensures { (rules : Rules) (beginning : Beginning)
+        ensures { (rules : Rules) (beginning : Preamble)
             (before after first told : Option (List ℕ)) (front : List ℕ)
             → IsBehind rules beginning before after told (F.contents faults.old) self front
             → Appends first (W.contents out.old) front
@@ -92,7 +92,7 @@ impl Ended {
         out: &mut W,
         faults: &mut F,
     ) -> Result<(), CapturingFault>
-        ensures { (rules : Rules) (beginning : Beginning)
+        ensures { (rules : Rules) (beginning : Preamble)
             (before after first told : Option (List ℕ))
             → IsBegun rules beginning before after first (W.contents out.old)
             told (F.contents faults.old) self
@@ -107,7 +107,7 @@ impl Ended {
 
     // Says what the capture does not tell of the router, and how much was found.
     fn say_end<F: io::Write>(mut self, faults: &mut F) -> Result<(), CapturingFault>
-        ensures { (rules : Rules) (beginning : Beginning)
+        ensures { (rules : Rules) (beginning : Preamble)
             (before after first new told : Option (List ℕ))
             → IsWhollyWritten rules beginning before after first new
             told (F.contents faults.old) self
@@ -148,7 +148,7 @@ impl Ended {
 }
 
 // What a recording begins with, by what is known of the router.
-fn front_of(alloc: Global, gathered: &Gathered) -> Result<String, FrontFault>
+fn front_of(alloc: Global, gathered: &Gathered) -> Result<String, PreambleFault>
     ensures ok { (known : Captured) → gathered.now.config ≡ Some (facts_of known)
         → IfOk result (λ front.
         IsText (string_bytes front) (captured_recording known gathered.now.areas)) }
@@ -159,7 +159,7 @@ fn front_of(alloc: Global, gathered: &Gathered) -> Result<String, FrontFault>
     let Some(config) = &gathered.config else {
         return Ok(front);
     };
-    match config.put_front(alloc, &gathered.areas, &mut front) {
+    match config.put_preamble(alloc, &gathered.areas, &mut front) {
         Ok(()) => Ok(front),
         Err(fault) => Err(fault),
     }

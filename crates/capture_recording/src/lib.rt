@@ -20,5 +20,5 @@ mod writing;
 
 pub use captured_lsas::Options;
 pub use captures::FaultKind;
-pub use capturing::{Beginning, Capturing, record_capture};
+pub use capturing::{Preamble, Capturing, record_capture};
 pub use fault::CapturingFault;

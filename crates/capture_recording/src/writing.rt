@@ -8,7 +8,7 @@ ghost use Rattle.capture_recording.specs.declared.fault.CapturingFault.TheVarian
 use crate::fault::CapturingFault;
 use crate::packed_text::PackedText;
 use ospf_types::memory::Memory;
-use replay::{CannotWrite, write_whole};
+use replay::{WriteError, write_whole};
 use std::io;
 
 /// So many bytes of lines are written even where the next packet is at hand.
@@ -23,8 +23,8 @@ pub(crate) fn write_out<W: io::Write>(bytes: &[u8], out: &mut W) -> Result<(), C
 {
     match write_whole(out, bytes) {
         Ok(()) => Ok(()),
-        Err(CannotWrite::Failed) => Err(CapturingFault::Write),
-        Err(CannotWrite::Closed) => Err(CapturingFault::Closed),
+        Err(WriteError::Failed) => Err(CapturingFault::Write),
+        Err(WriteError::Closed) => Err(CapturingFault::Closed),
     }
 }
 

@@ -4,20 +4,20 @@ use Rattle.ospf_types.specs.declared.config.Config.{Config}
 use Rattle.ospf_types.specs.Text.{memory_text}
 use Rattle.config_faults.specs.Configs.{config_fault_of}
 use Rattle.config_faults.specs.Texts.{config_fault_text}
-use Rattle.captured_config.specs.declared.fault.FrontFault.{FrontFault}
-use Rattle.captured_config.specs.declared.fault.FrontFault.TheVariants as fault
+use Rattle.captured_config.specs.declared.fault.PreambleFault.{PreambleFault}
+use Rattle.captured_config.specs.declared.fault.PreambleFault.TheVariants as fault
 
 -- its number and its name
-abbrev pub front_fault_text : FrontFault → List ℕ
+abbrev pub front_fault_text : PreambleFault → List ℕ
 front_fault_text (fault.Config f) = config_fault_text f
 front_fault_text fault.Memory = memory_text
 
 -- the configuration has this fault, or memory ran out
-abbrev pub IsFaultIn : Config → FrontFault → Type 0
+abbrev pub IsFaultIn : Config → PreambleFault → Type 0
 IsFaultIn config (fault.Config f) = config_fault_of config ≡ Some f
 IsFaultIn config fault.Memory = Unit {0}
 
 -- where the configuration is at fault, the text is as before
-abbrev pub IsRefused : {Z : Type 0} → Config → (old new : String Z) → FrontFault → Type 0
+abbrev pub IsRefused : {Z : Type 0} → Config → (old new : String Z) → PreambleFault → Type 0
 IsRefused {Z} config old new (fault.Config f) = (config_fault_of config ≡ Some f) × (string_bytes new ≡ string_bytes old)
 IsRefused {Z} config old new fault.Memory = Unit {0}

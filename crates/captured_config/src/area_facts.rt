@@ -85,7 +85,7 @@ impl<'a> AreaFacts<'a> {
         let area = self.area;
         self.told
             .iter()
-            .any(|told| told.area == area && told.has_other)
+            .any(|told| told.area == area && told.has_other_active_area)
     }
 }
 

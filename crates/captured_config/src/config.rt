@@ -9,11 +9,11 @@ ghost use Rattle.captured_config.specs.Faults.{IsFaultIn};
 
 use crate::area_facts::AreaFacts;
 use crate::facts::FactLists;
-use crate::fault::FrontFault;
+use crate::fault::PreambleFault;
 use crate::finding::find_interfaces;
 use crate::found::Found;
 use crate::telling::is_counted;
-use config_faults::{ConfigFault, MOST_AREAS, fault_in};
+use config_faults::{ConfigFault, MAX_AREAS, fault_in};
 use lsa_codec::Checked;
 use ospf_types::config::{AreaConfig, Areas, Config, Ranges};
 use ospf_types::memory::Memory;
@@ -71,18 +71,18 @@ impl CapturedConfig {
     }
 
     /// The configuration with these areas, if it has no fault.
-    pub(crate) fn config(&self, alloc: Global, ids: &[u32]) -> Result<Config, FrontFault>
+    pub(crate) fn config(&self, alloc: Global, ids: &[u32]) -> Result<Config, PreambleFault>
         ensures config { IfOk result (λ config. config ≡ config_by self.now ids.now) }
         ensures sound { OnOk result (config_fault_of (config_by self.now ids.now) ≡ None) }
         ensures fault { IfErr result (IsFaultIn (config_by self.now ids.now)) }
     {
         // (a capture may name so many areas that each is better not looked at)
         if has_wrong_count(ids) {
-            return Err(FrontFault::Config(ConfigFault::Areas));
+            return Err(PreambleFault::Config(ConfigFault::Areas));
         }
         let config = self.config_with(alloc, ids)?;
         match fault_in(&config) {
-            Some(fault) => Err(FrontFault::Config(fault)),
+            Some(fault) => Err(PreambleFault::Config(fault)),
             None => Ok(config),
         }
     }
@@ -140,5 +140,5 @@ impl CapturedConfig {
 fn has_wrong_count(ids: &[u32]) -> bool
     ensures { result ≡ has_wrong_count_test ids.now }
 {
-    ids.is_empty() || ids.len() > MOST_AREAS
+    ids.is_empty() || ids.len() > MAX_AREAS
 }

@@ -8,7 +8,7 @@ use thiserror::Error;
 
 /// Why there is no beginning of a recording.
 #[derive(Clone, Copy, Debug, PartialEq, Eq, Error)]
-pub enum FrontFault {
+pub enum PreambleFault {
     /// The areas are none, or too many.
     Config(ConfigFault),
     /// Memory ran out.
@@ -16,24 +16,24 @@ pub enum FrontFault {
 }
 
 /// The number and the name, as `40 Areas`.
-impl fmt::Display for FrontFault {
+impl fmt::Display for PreambleFault {
     ghost output = { λ fault. Some (front_fault_text fault) };
 
     fn fmt<W: fmt::Write>(&self, f: &mut fmt::Formatter<W>) -> fmt::Result {
         match self {
-            FrontFault::Config(fault) => fault.fmt(f),
-            FrontFault::Memory => Memory.fmt(f),
+            PreambleFault::Config(fault) => fault.fmt(f),
+            PreambleFault::Memory => Memory.fmt(f),
         }
     }
 }
 
-impl From<Memory> for FrontFault {
+impl From<Memory> for PreambleFault {
     ghost use Rattle.std.specs.Prelude.{◌≡◌};
-    ghost use Rattle.captured_config.specs.declared.fault.FrontFault.TheVariants as front_fault;
+    ghost use Rattle.captured_config.specs.declared.fault.PreambleFault.TheVariants as front_fault;
 
     ghost from_gives = { λ _ given. given ≡ front_fault.Memory };
 
-    fn from(_e: Memory) -> FrontFault {
-        FrontFault::Memory
+    fn from(_e: Memory) -> PreambleFault {
+        PreambleFault::Memory
     }
 }

@@ -98,7 +98,7 @@ pub(crate) fn told_from(router: u32, area: u32, lsa: &Checked) -> Option<Told>
 fn tells(told: &Told) -> bool
     ensures { result ≡ tells_anything told.now }
 {
-    told.is_own || told.lacks_externals || told.default.is_some() || told.has_other
+    told.is_own || told.lacks_externals || told.default.is_some() || told.has_other_active_area
 }
 
 fn told_of(router: u32, area: u32, lsa: &Checked) -> Told
@@ -109,7 +109,7 @@ fn told_of(router: u32, area: u32, lsa: &Checked) -> Told
         is_own: is_own_router_lsa(router, lsa),
         lacks_externals: lacks_externals(lsa),
         default: default_route(router, lsa),
-        has_other: other_network(router, lsa).is_some(),
+        has_other_active_area: other_network(router, lsa).is_some(),
     }
 }
 

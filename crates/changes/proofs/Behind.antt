@@ -7,15 +7,15 @@ use Rattle.line_reader.specs.Taking.{TakesWhole}
 use Rattle.recording.specs.declared.fault.Fault.{Fault}
 use Rattle.recording.specs.declared.fault.Fault.TheVariants as fault
 use Rattle.replay.specs.Stops.{AreWhole}
-use Rattle.replay.specs.declared.page.Stop.{Stop}
+use Rattle.replay.specs.declared.buffer.PrintError.{PrintError}
 use Rattle.changes.specs.Changes.{Give}
 use Rattle.changes.specs.Following.{Ends, EndsBehind, IsLeft, IsTaken, StopsBehind, StopsIn, StopsTaking}
 use Rattle.changes.specs.Lines.{Change}
 use Rattle.changes.specs.declared.following.End.{End}
 use Rattle.changes.specs.declared.following.End.TheVariants as end
 use Rattle.changes.specs.declared.following.Run.{Run}
-use Rattle.changes.specs.declared.opening.FrontEnd.{FrontEnd}
-use Rattle.changes.specs.declared.opening.FrontEnd.TheVariants as front_end
+use Rattle.changes.specs.declared.opening.PreambleEnd.{PreambleEnd}
+use Rattle.changes.specs.declared.opening.PreambleEnd.TheVariants as front_end
 use Rattle.recording.specs.declared.fault.LineFault.{LineFault}
 use Rattle.replay.specs.Advance.{IsProgress, Shows}
 use Rattle.replay.specs.declared.progress.Progress.{Progress}
@@ -52,31 +52,31 @@ module _ (old : Run) (kept : List ℕ) (left : Option (List ℕ)) (from : Option
       (mid, rest, read, fault_next before old old mid mid rest rest from from given (so_far_none before old mid rest from) old refl refl refl refl refl refl refl refl kept left w at new on x)
 
   -- it stops at that line
-  pub line_stops : (why : Stop) (on : Option (List ℕ)) → AreWhole (string_bytes old.page) → StopsTaking why old from on → StopsBehind front_end.Line why old kept left left from on
-  line_stops why on page x = λ text held known whole (mid, rest, read, w) before given.
-      (mid, rest, read, stops_next before old old mid mid rest rest from from given (so_far_none before old mid rest from) old refl refl refl refl refl refl refl refl kept left w why on page x)
+  pub line_stops : (why : PrintError) (on : Option (List ℕ)) → AreWhole (string_bytes old.buffer) → StopsTaking why old from on → StopsBehind front_end.Line why old kept left left from on
+  line_stops why on buffer x = λ text held known whole (mid, rest, read, w) before given.
+      (mid, rest, read, stops_next before old old mid mid rest rest from from given (so_far_none before old mid rest from) old refl refl refl refl refl refl refl refl kept left w why on buffer x)
 
 -- the line that ended the front was taken
 module _ (old mid new : Run) (kept : List ℕ) (left further : Option (List ℕ)) (from on to : Option (List ℕ)) (x : IsTaken old mid from on × (mid.at.number ≡ old.at.number + 1)) where
   first : (held : List ℕ) (known : Option (List ℕ)) → TakesWhole held known kept left old.line.items → (before : List Change) → Give before old.core → SoFar before old mid held kept known left from on
   first held known w before given = so_far_more before old old held held known known from from given (so_far_none before old held known from) old refl refl refl refl refl refl refl refl kept left w mid on x
 
-  pub lines_end : (r : Result End Stop) → ((before : List Change) → Give before mid.core → IfOk r (λ e. Ends e before mid new kept left further on to)) → IfOk r (λ e. EndsBehind front_end.Line e old new kept left further from to)
+  pub lines_end : (r : Result End PrintError) → ((before : List Change) → Give before mid.core → IfOk r (λ e. Ends e before mid new kept left further on to)) → IfOk r (λ e. EndsBehind front_end.Line e old new kept left further from to)
   lines_end (Ok e) f = λ text held known whole (m, rest, read, w) before given.
       let h = first m rest w before given in
       (m, rest, read, ends_on before old mid m kept rest left from on given h further e new to (f h.followed.told.after (given_on before old mid m kept rest left from on given h further)))
   lines_end (Err why) f = tt
 
-  pub lines_stop : (r : Result End Stop) → AreWhole (string_bytes old.page) → ((before : List Change) → Give before mid.core → AreWhole (string_bytes mid.page) → IfErr r (λ why. StopsIn why before mid kept left further on to))
+  pub lines_stop : (r : Result End PrintError) → AreWhole (string_bytes old.buffer) → ((before : List Change) → Give before mid.core → AreWhole (string_bytes mid.buffer) → IfErr r (λ why. StopsIn why before mid kept left further on to))
       → IfErr r (λ why. StopsBehind front_end.Line why old kept left further from to)
-  lines_stop (Ok e) page f = tt
-  lines_stop (Err why) page f = λ text held known whole (m, rest, read, w) before given.
+  lines_stop (Ok e) buffer f = tt
+  lines_stop (Err why) buffer f = λ text held known whole (m, rest, read, w) before given.
       let h = first m rest w before given in (
         m,
         rest,
         read,
-        stops_on before old mid m kept rest left from on given h further why to page
-            (f h.followed.told.after (given_on before old mid m kept rest left from on given h further) (so_far_page before old mid m kept rest left from on given h page)),
+        stops_on before old mid m kept rest left from on given h further why to buffer
+            (f h.followed.told.after (given_on before old mid m kept rest left from on given h further) (so_far_page before old mid m kept rest left from on given h buffer)),
       )
 
 -- ---- how much is done
@@ -89,14 +89,14 @@ shown_as p now a b same shown = subst (λ (q : Progress). IsProgress q a b) same
 
 -- ---- the end of the front, by its name
 
-pub ends_as : (front named : FrontEnd) (e : End) (old new : Run) (kept : List ℕ) (left further : Option (List ℕ)) (from to : Option (List ℕ)) → front ≡ named → EndsBehind named e old new kept left further from to
+pub ends_as : (front named : PreambleEnd) (e : End) (old new : Run) (kept : List ℕ) (left further : Option (List ℕ)) (from to : Option (List ℕ)) → front ≡ named → EndsBehind named e old new kept left further from to
     → EndsBehind front e old new kept left further from to
 ends_as front named e old new kept left further from to is h = subst (λ f. EndsBehind f e old new kept left further from to) (sym is) h
 
-pub all_end_as : (front named : FrontEnd) (r : Result End Stop) (old new : Run) (kept : List ℕ) (left further : Option (List ℕ)) (from to : Option (List ℕ)) → front ≡ named
+pub all_end_as : (front named : PreambleEnd) (r : Result End PrintError) (old new : Run) (kept : List ℕ) (left further : Option (List ℕ)) (from to : Option (List ℕ)) → front ≡ named
     → IfOk r (λ e. EndsBehind named e old new kept left further from to) → IfOk r (λ e. EndsBehind front e old new kept left further from to)
 all_end_as front named r old new kept left further from to is h = subst (λ f. IfOk r (λ e. EndsBehind f e old new kept left further from to)) (sym is) h
 
-pub all_stop_as : (front named : FrontEnd) (r : Result End Stop) (old : Run) (kept : List ℕ) (left further : Option (List ℕ)) (from to : Option (List ℕ)) → front ≡ named
+pub all_stop_as : (front named : PreambleEnd) (r : Result End PrintError) (old : Run) (kept : List ℕ) (left further : Option (List ℕ)) (from to : Option (List ℕ)) → front ≡ named
     → IfErr r (λ why. StopsBehind named why old kept left further from to) → IfErr r (λ why. StopsBehind front why old kept left further from to)
 all_stop_as front named r old kept left further from to is h = subst (λ f. IfErr r (λ why. StopsBehind f why old kept left further from to)) (sym is) h

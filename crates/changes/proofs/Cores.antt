@@ -18,7 +18,7 @@ use Rattle.event_state.specs.Steps.{run_of}
 use Rattle.event_state.proofs.Configs.{sound_apart}
 use Rattle.event_state.proofs.Faultless.{faultless}
 use Rattle.event_state.proofs.KeptConfigs.{kept_since}
-use Rattle.event_core.specs.Cores.{CoreValue, Applies, IsCore, IsCurrent, Stands, built_state, state_of}
+use Rattle.event_core.specs.Cores.{CoreValue, Applies, IsCore, IsCurrent, MatchesStatus, built_state, state_of}
 use Rattle.event_core.specs.Right.{AreDue, AreListsDue}
 use Rattle.event_core.specs.declared.reply.Reply.{Reply}
 use Rattle.event_core.specs.declared.reply.Status.{Status}
@@ -84,7 +84,7 @@ distinct_lists c core =
 
 -- ---- one line
 
-taken_right : (old new : CoreValue) (status : Status) → Stands old status new → IsCurrent new → AreDue (state_of new) new.summaries
+taken_right : (old new : CoreValue) (status : Status) → MatchesStatus old status new → IsCurrent new → AreDue (state_of new) new.summaries
 taken_right old new Current stands current = stands.2
 taken_right old new Behind stands current = let less = stands.3 in absurd (omega (arith, current, less))
 

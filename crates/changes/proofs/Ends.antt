@@ -8,8 +8,8 @@ use Rattle.recording.specs.declared.line.Line.{Line}
 use Rattle.replay.specs.Lines.{first_number}
 use Rattle.replay.specs.Pages.{Adds, AddsPart}
 use Rattle.replay.specs.Runs.{IsOpened}
-use Rattle.replay.specs.declared.page.Stop.{Stop}
-use Rattle.replay.specs.declared.page.Stop.TheVariants as stop
+use Rattle.replay.specs.declared.buffer.PrintError.{PrintError}
+use Rattle.replay.specs.declared.buffer.PrintError.TheVariants as stop
 use Rattle.replay.proofs.Paging.{adds_more, part_more}
 use Rattle.replay.proofs.Wholes.{none_whole}
 use Rattle.replay.proofs.Written.{appends_none}
@@ -19,17 +19,17 @@ use Rattle.changes.specs.Changes.{all_of}
 use Rattle.changes.specs.Outputs.{IsTelling, base_lines}
 use Rattle.changes.specs.Runs.{Says, Taken, TellsLines, Told, ToldPart}
 use Rattle.changes.specs.declared.following.Run.{Run}
-use Rattle.changes.specs.declared.telling.Telling.{Telling}
+use Rattle.changes.specs.declared.printing.ChangeOptions.{ChangeOptions}
 use Rattle.changes.proofs.RunSteps.{given_first}
 
 pub opened_current : (c : CoreValue) → IsOpened c.base c → IsCurrent c
 opened_current c h = h.opening.built ∙ sym (ap length h.opening.journal)
 
--- all that is on the page was written
+-- all that is on the buffer was written
 pub all_out : (a b : Option (List ℕ)) (text : List ℕ) → Adds a b [] [] text → Appends a b text
 all_out a b text h = subst (Appends a b) (sym (append-nil h.written) ∙ sym h.joined) h.appended
 
-module _ (t : Telling) (r : RecordingValue) (opened : CoreValue) (opening : IsOpened r.base opened) where
+module _ (t : ChangeOptions) (r : RecordingValue) (opened : CoreValue) (opening : IsOpened r.base opened) where
   abbrev first : ℕ
   first = first_number r.version r.base
 
@@ -50,7 +50,7 @@ module _ (t : Telling) (r : RecordingValue) (opened : CoreValue) (opening : IsOp
     is = refl;
   }
 
-  cut : (why : Stop) (a b : Option (List ℕ)) (count : ℕ) (text : List ℕ) (after : List Change) (now : CoreValue) → TellsLines t.wanted t.answers opened first (map Says (take count r.lines)) (all_of opened) text after now
+  cut : (why : PrintError) (a b : Option (List ℕ)) (count : ℕ) (text : List ℕ) (after : List Change) (now : CoreValue) → TellsLines t.wanted t.answers opened first (map Says (take count r.lines)) (all_of opened) text after now
       → AddsPart why a b (base ++ text) → StopsAtBase why t r a b
   cut why a b count text after now run part = record {
     count = count;
@@ -61,40 +61,40 @@ module _ (t : Telling) (r : RecordingValue) (opened : CoreValue) (opening : IsOp
     written = part.appended;
   }
 
-  shown_at : (number : ℕ) (a b : Option (List ℕ)) (page put : List ℕ) → number ≡ first → Adds a b page put (lines_of (number - 1) t.wanted (all_of opened)) → Adds a b page put base
-  shown_at number a b page put counted h = subst (λ n. Adds a b page put (lines_of (n - 1) t.wanted (all_of opened))) counted h
+  shown_at : (number : ℕ) (a b : Option (List ℕ)) (buffer put : List ℕ) → number ≡ first → Adds a b buffer put (lines_of (number - 1) t.wanted (all_of opened)) → Adds a b buffer put base
+  shown_at number a b buffer put counted h = subst (λ n. Adds a b buffer put (lines_of (n - 1) t.wanted (all_of opened))) counted h
 
   -- memory ran out before anything was written
   pub not_begun : (a : Option (List ℕ)) → StopsAtBase stop.Memory t r a a
   not_begun a = cut stop.Memory a a 0 [] (all_of opened) opened (refl, refl, refl) (record { part = []; beginning = record { rest = base ++ []; joined = refl; left = none_whole }; appended = appends_none a })
 
   -- it stops in what the base gives
-  pub base_cut : (number : ℕ) (why : Stop) (a b : Option (List ℕ)) (page : List ℕ) → number ≡ first → page ≡ [] → AddsPart why a b (page ++ lines_of (number - 1) t.wanted (all_of opened)) → StopsAtBase why t r a b
-  base_cut number why a b page counted none part =
+  pub base_cut : (number : ℕ) (why : PrintError) (a b : Option (List ℕ)) (buffer : List ℕ) → number ≡ first → buffer ≡ [] → AddsPart why a b (buffer ++ lines_of (number - 1) t.wanted (all_of opened)) → StopsAtBase why t r a b
+  base_cut number why a b buffer counted none part =
       cut why a b 0 [] (all_of opened) opened (refl, refl, refl)
-      (subst (AddsPart why a b) (ap (λ l. l ++ base) none ∙ sym (append-nil base)) (subst (λ n. AddsPart why a b (page ++ lines_of (n - 1) t.wanted (all_of opened))) counted part))
+      (subst (AddsPart why a b) (ap (λ l. l ++ base) none ∙ sym (append-nil base)) (subst (λ n. AddsPart why a b (buffer ++ lines_of (n - 1) t.wanted (all_of opened))) counted part))
 
   -- it stops in the lines
-  pub lines_cut : (number : ℕ) (why : Stop) (a b c : Option (List ℕ)) (page put : List ℕ) → number ≡ first → page ≡ [] → Adds a b page put (lines_of (number - 1) t.wanted (all_of opened))
+  pub lines_cut : (number : ℕ) (why : PrintError) (a b c : Option (List ℕ)) (buffer put : List ℕ) → number ≡ first → buffer ≡ [] → Adds a b buffer put (lines_of (number - 1) t.wanted (all_of opened))
       → (count : ℕ) × ToldPart why t.wanted t.answers opened number (map Says (take count r.lines)) (all_of opened) b c put → StopsAtBase why t r a c
-  lines_cut number why a b c page put counted none shown (count, part) =
-      let printed : Adds a b [] put base = subst (λ l. Adds a b l put base) none (shown_at number a b page put counted shown) in
+  lines_cut number why a b c buffer put counted none shown (count, part) =
+      let printed : Adds a b [] put base = subst (λ l. Adds a b l put base) none (shown_at number a b buffer put counted shown) in
       let h : ToldPart why t.wanted t.answers opened first (map Says (take count r.lines)) (all_of opened) b c put =
       subst (λ n. ToldPart why t.wanted t.answers opened n (map Says (take count r.lines)) (all_of opened) b c put) counted part in
       cut why a c count h.text h.after h.now h.run (part_more why a b c [] put base h.text none_whole printed h.part)
 
   -- all of them are told
-  pub begun : (run : Run) (number : ℕ) (a b c : Option (List ℕ)) (page put moved : List ℕ) → number ≡ first → page ≡ [] → Adds a b page put (lines_of (number - 1) t.wanted (all_of opened))
+  pub begun : (run : Run) (number : ℕ) (a b c : Option (List ℕ)) (buffer put moved : List ℕ) → number ≡ first → buffer ≡ [] → Adds a b buffer put (lines_of (number - 1) t.wanted (all_of opened))
       → Told t.wanted t.answers opened number (map Says r.lines) (all_of opened) run.core b c put moved → IsCore run.core → IsCurrent run.core
-      → run.version ≡ r.version → run.skips ≡ t.skips → run.at.wanted ≡ t.wanted → run.at.answers ≡ t.answers → run.at.number ≡ number + length r.lines → string_bytes run.page ≡ moved
+      → run.version ≡ r.version → run.skips_faults ≡ t.skips_faults → run.at.wanted ≡ t.wanted → run.at.answers ≡ t.answers → run.at.number ≡ number + length r.lines → string_bytes run.buffer ≡ moved
       → IsBegun t r run a c
-  begun run number a b c page put moved counted none shown told core current version skips wanted answers next is =
-      let printed : Adds a b [] put base = subst (λ l. Adds a b l put base) none (shown_at number a b page put counted shown) in
+  begun run number a b c buffer put moved counted none shown told core current version skips_faults wanted answers next is =
+      let printed : Adds a b [] put base = subst (λ l. Adds a b l put base) none (shown_at number a b buffer put counted shown) in
       let h : Told t.wanted t.answers opened first (map Says r.lines) (all_of opened) run.core b c put moved =
       subst (λ n. Told t.wanted t.answers opened n (map Says r.lines) (all_of opened) run.core b c put moved) counted told in
       record {
         version = version;
-        skips = skips;
+        skips_faults = skips_faults;
         wanted = wanted;
         answers = answers;
         number = next ∙ ap (λ n. n + length r.lines) counted;

@@ -9,14 +9,14 @@ use Rattle.line_reader.specs.Shortened.{shortened}
 use Rattle.line_reader.specs.Tails.{HasNoLineFeed}
 use Rattle.line_reader.specs.Taking.{Loses, TakesLast, TakesNone, TakesWhole}
 use Rattle.line_reader.specs.Taking as input
-use Rattle.changes.specs.declared.telling.Wanted.{Wanted}
+use Rattle.changes.specs.declared.printing.ChangeFilter.{ChangeFilter}
 use Rattle.recording.specs.declared.fault.Fault.{Fault}
 use Rattle.recording.specs.declared.fault.Fault.TheVariants as fault
 use Rattle.recording.specs.declared.version.Version.{Version}
 use Rattle.replay.specs.Pages.{Adds, AddsPart}
 use Rattle.replay.specs.Stops.{AreWhole}
-use Rattle.replay.specs.declared.page.Stop.{Stop}
-use Rattle.replay.specs.declared.page.Stop.TheVariants as stop
+use Rattle.replay.specs.declared.buffer.PrintError.{PrintError}
+use Rattle.replay.specs.declared.buffer.PrintError.TheVariants as stop
 use Rattle.replay.proofs.Paging.{adds_more, adds_moved, adds_none, page_whole, part_more, part_moved, part_now}
 use Rattle.changes.specs.Changes.{Give}
 use Rattle.changes.specs.Following.{Ends, IsAtFault, IsFirst, IsFollowed, IsLeft, IsTaken, StopsIn, StopsTaking, Takes, Tells}
@@ -54,11 +54,11 @@ say_more (Fails f ∷ taken) more all behind = absurd all
 
 -- ---- one line
 
-module _ (old : Run) (t : Taken) (reads : IsReadAs old.version old.line.items t) (said : old.skips ≡ false → AllSay (t ∷ [])) (whole : AreWhole (string_bytes old.page)) where
-  abbrev wanted : Wanted
+module _ (old : Run) (t : Taken) (reads : IsReadAs old.version old.line.items t) (said : old.skips_faults ≡ false → AllSay (t ∷ [])) (whole : AreWhole (string_bytes old.buffer)) where
+  abbrev wanted : ChangeFilter
   wanted = old.at.wanted
 
-  told_first : (why : Stop) (from to : Option (List ℕ)) (new : CoreValue) (told : List Change) → TellsTaken old.at.answers old.core t new told → AddsPart why from to (string_bytes old.page ++ lines_of old.at.number wanted told)
+  told_first : (why : PrintError) (from to : Option (List ℕ)) (new : CoreValue) (told : List Change) → TellsTaken old.at.answers old.core t new told → AddsPart why from to (string_bytes old.buffer ++ lines_of old.at.number wanted told)
       → StopsTaking why old from to
   told_first why from to new told tells part = record {
     taken = t ∷ [];
@@ -74,26 +74,26 @@ module _ (old : Run) (t : Taken) (reads : IsReadAs old.version old.line.items t)
   }
 
   -- what is told of it was not written whole
-  pub stops_behind : (why : Stop) (from to on : Option (List ℕ)) (new : CoreValue) (put : List ℕ) → ToldTaken wanted old.at.answers old.core old.at.number t new from to (string_bytes old.page) put → AddsPart why to on put → StopsTaking why old from on
+  pub stops_behind : (why : PrintError) (from to on : Option (List ℕ)) (new : CoreValue) (put : List ℕ) → ToldTaken wanted old.at.answers old.core old.at.number t new from to (string_bytes old.buffer) put → AddsPart why to on put → StopsTaking why old from on
   stops_behind why from to on new put h part =
-      told_first why from on new h.told h.tells (part_moved why from to on (string_bytes old.page) put (lines_of old.at.number wanted h.told) whole h.printed part)
+      told_first why from on new h.told h.tells (part_moved why from to on (string_bytes old.buffer) put (lines_of old.at.number wanted h.told) whole h.printed part)
 
   -- memory ran out behind it
-  pub stops_after : (from to : Option (List ℕ)) (new : CoreValue) (put : List ℕ) → ToldTaken wanted old.at.answers old.core old.at.number t new from to (string_bytes old.page) put → StopsTaking stop.Memory old from to
-  stops_after from to new put h = told_first stop.Memory from to new h.told h.tells (part_now from to (string_bytes old.page) put (lines_of old.at.number wanted h.told) whole h.printed)
+  pub stops_after : (from to : Option (List ℕ)) (new : CoreValue) (put : List ℕ) → ToldTaken wanted old.at.answers old.core old.at.number t new from to (string_bytes old.buffer) put → StopsTaking stop.Memory old from to
+  stops_after from to new put h = told_first stop.Memory from to new h.told h.tells (part_now from to (string_bytes old.buffer) put (lines_of old.at.number wanted h.told) whole h.printed)
 
 -- a fault that is told of
-pub fault_tells : (old : Run) (at : Fault) (from to : Option (List ℕ)) (put : List ℕ) → Adds from to (string_bytes old.page) put (lines_of old.at.number old.at.wanted (AtFault at ∷ []))
-    → ToldTaken old.at.wanted old.at.answers old.core old.at.number (Fails at) old.core from to (string_bytes old.page) put
+pub fault_tells : (old : Run) (at : Fault) (from to : Option (List ℕ)) (put : List ℕ) → Adds from to (string_bytes old.buffer) put (lines_of old.at.number old.at.wanted (AtFault at ∷ []))
+    → ToldTaken old.at.wanted old.at.answers old.core old.at.number (Fails at) old.core from to (string_bytes old.buffer) put
 fault_tells old at from to put printed = record { told = AtFault at ∷ []; tells = (refl, refl); printed = printed }
 
-pub fault_stops : (why : Stop) (old : Run) (at : Fault) (from to : Option (List ℕ)) → AddsPart why from to (string_bytes old.page ++ lines_of old.at.number old.at.wanted (AtFault at ∷ []))
-    → StopsAtTaken why old.at.wanted old.at.answers old.core old.at.number (Fails at) old.core from to (string_bytes old.page)
+pub fault_stops : (why : PrintError) (old : Run) (at : Fault) (from to : Option (List ℕ)) → AddsPart why from to (string_bytes old.buffer ++ lines_of old.at.number old.at.wanted (AtFault at ∷ []))
+    → StopsAtTaken why old.at.wanted old.at.answers old.core old.at.number (Fails at) old.core from to (string_bytes old.buffer)
 fault_stops why old at from to part = inl (AtFault at ∷ [], (refl, refl), part)
 
 -- lines at fault are skipped
-pub skipped : (skips : Bool) → skips ≡ true → skips ≡ false → ⊥
-skipped skips is none = apart (sym is ∙ none)
+pub skipped : (skips_faults : Bool) → skips_faults ≡ true → skips_faults ≡ false → ⊥
+skipped skips_faults is none = apart (sym is ∙ none)
   where
     apart : true ≡ false → ⊥
     apart e = cc
@@ -103,19 +103,19 @@ pub read_as : (v : Version) (line given : List ℕ) (t : Taken) → given ≡ li
 read_as v line given t is reads = subst (λ (l : List ℕ). IsReadAs v l t) is reads
 
 -- what is told of the line was handed on, and the next has the number behind it
-pub settled : (old mid new : Run) (from to on : Option (List ℕ)) → IsTaken old mid from to × (mid.at.number ≡ old.at.number) → Adds to on (string_bytes mid.page) (string_bytes new.page) [] → new.at.number ≡ mid.at.number + 1
-    → new.version ≡ mid.version → new.skips ≡ mid.skips → new.progress ≡ mid.progress → new.at.wanted ≡ mid.at.wanted → new.at.answers ≡ mid.at.answers → new.core ≡ mid.core
+pub settled : (old mid new : Run) (from to on : Option (List ℕ)) → IsTaken old mid from to × (mid.at.number ≡ old.at.number) → Adds to on (string_bytes mid.buffer) (string_bytes new.buffer) [] → new.at.number ≡ mid.at.number + 1
+    → new.version ≡ mid.version → new.skips_faults ≡ mid.skips_faults → new.progress ≡ mid.progress → new.at.wanted ≡ mid.at.wanted → new.at.answers ≡ mid.at.answers → new.core ≡ mid.core
     → IsTaken old new from on × (new.at.number ≡ old.at.number + 1)
-settled old mid new from to on (h, counted) moved next version skips progress wanted answers core = (
+settled old mid new from to on (h, counted) moved next version skips_faults progress wanted answers core = (
   record {
-    same = record { version = version ∙ h.same.version; skips = skips ∙ h.same.skips; progress = progress ∙ h.same.progress; wanted = wanted ∙ h.same.wanted; answers = answers ∙ h.same.answers };
+    same = record { version = version ∙ h.same.version; skips_faults = skips_faults ∙ h.same.skips_faults; progress = progress ∙ h.same.progress; wanted = wanted ∙ h.same.wanted; answers = answers ∙ h.same.answers };
     taken = h.taken;
     reads = h.reads;
     said = h.said;
     told = record {
       told = h.told.told;
       tells = subst (λ (c : CoreValue). TellsTaken old.at.answers old.core h.taken c h.told.told) (sym core) h.told.tells;
-      printed = adds_moved from to on (string_bytes old.page) (string_bytes mid.page) (string_bytes new.page) (lines_of old.at.number old.at.wanted h.told.told) h.told.printed moved;
+      printed = adds_moved from to on (string_bytes old.buffer) (string_bytes mid.buffer) (string_bytes new.buffer) (lines_of old.at.number old.at.wanted h.told.told) h.told.printed moved;
     };
     core = subst IsCore (sym core) h.core;
     current = subst IsCurrent (sym core) h.current;
@@ -123,8 +123,8 @@ settled old mid new from to on (h, counted) moved next version skips progress wa
   next ∙ ap (λ n. n + 1) counted,
 )
 
-pub told_page : (old mid : Run) (from to : Option (List ℕ)) → IsTaken old mid from to → AreWhole (string_bytes old.page) → AreWhole (string_bytes mid.page)
-told_page old mid from to h whole = page_whole from to (string_bytes old.page) (string_bytes mid.page) (lines_of old.at.number old.at.wanted h.told.told) h.told.printed whole
+pub told_page : (old mid : Run) (from to : Option (List ℕ)) → IsTaken old mid from to → AreWhole (string_bytes old.buffer) → AreWhole (string_bytes mid.buffer)
+told_page old mid from to h whole = page_whole from to (string_bytes old.buffer) (string_bytes mid.buffer) (lines_of old.at.number old.at.wanted h.told.told) h.told.printed whole
 
 pub takes_none : (left : Option Fault) (old new : Run) (from to : Option (List ℕ)) → left ≡ None → Takes left old new from to → IsTaken old new from to × (new.at.number ≡ old.at.number + 1)
 takes_none left old new from to is h = subst (λ (l : Option Fault). Takes l old new from to) is h
@@ -136,7 +136,7 @@ pub tells_none : (left : Option Fault) (old new : Run) (from to : Option (List �
 tells_none left old new from to is h = subst (λ (l : Option Fault). Tells l old new from to) is h
 
 -- memory ran out before it was taken
-pub stops_before : (old : Run) (from : Option (List ℕ)) → AreWhole (string_bytes old.page) → StopsTaking stop.Memory old from from
+pub stops_before : (old : Run) (from : Option (List ℕ)) → AreWhole (string_bytes old.buffer) → StopsTaking stop.Memory old from from
 stops_before old from whole = record {
   taken = [];
   reads = tt;
@@ -146,27 +146,27 @@ stops_before old from whole = record {
     after = before;
     now = old.core;
     run = (refl, refl, refl);
-    part = part_now from from (string_bytes old.page) (string_bytes old.page) [] whole (adds_none from (string_bytes old.page));
+    part = part_now from from (string_bytes old.buffer) (string_bytes old.buffer) [] whole (adds_none from (string_bytes old.buffer));
   };
 }
 
 -- it stops at the line
-pub stops_at : (why : Stop) (old : Run) (t : Taken) (new : CoreValue) (from to : Option (List ℕ)) → IsReadAs old.version old.line.items t → (old.skips ≡ false → AllSay (t ∷ [])) → AreWhole (string_bytes old.page)
-    → StopsAtTaken why old.at.wanted old.at.answers old.core old.at.number t new from to (string_bytes old.page) → StopsTaking why old from to
+pub stops_at : (why : PrintError) (old : Run) (t : Taken) (new : CoreValue) (from to : Option (List ℕ)) → IsReadAs old.version old.line.items t → (old.skips_faults ≡ false → AllSay (t ∷ [])) → AreWhole (string_bytes old.buffer)
+    → StopsAtTaken why old.at.wanted old.at.answers old.core old.at.number t new from to (string_bytes old.buffer) → StopsTaking why old from to
 stops_at why old t new from to reads said whole (inl (told, tells, part)) = told_first old t reads said whole why from to new told tells part
 stops_at why old t new from to reads said whole (inr (is, same)) =
-    subst (λ (w : Stop). StopsTaking w old from to) (sym is) (subst (λ (o : Option (List ℕ)). StopsTaking stop.Memory old from o) (sym same) (stops_before old from whole))
+    subst (λ (w : PrintError). StopsTaking w old from to) (sym is) (subst (λ (o : Option (List ℕ)). StopsTaking stop.Memory old from o) (sym same) (stops_before old from whole))
 
 -- what was told was not handed on whole
-pub told_stops : (why : Stop) (old mid : Run) (from to on : Option (List ℕ)) → IsTaken old mid from to → AreWhole (string_bytes old.page) → AddsPart why to on (string_bytes mid.page) → StopsTaking why old from on
-told_stops why old mid from to on h whole part = stops_behind old h.taken h.reads h.said whole why from to on mid.core (string_bytes mid.page) h.told part
+pub told_stops : (why : PrintError) (old mid : Run) (from to on : Option (List ℕ)) → IsTaken old mid from to → AreWhole (string_bytes old.buffer) → AddsPart why to on (string_bytes mid.buffer) → StopsTaking why old from on
+told_stops why old mid from to on h whole part = stops_behind old h.taken h.reads h.said whole why from to on mid.core (string_bytes mid.buffer) h.told part
 
 -- memory ran out behind it
-pub told_memory : (old mid : Run) (from to on : Option (List ℕ)) (page : List ℕ) → IsTaken old mid from to → Adds to on (string_bytes mid.page) page [] → AreWhole (string_bytes old.page) → StopsTaking stop.Memory old from on
-told_memory old mid from to on page h moved whole =
+pub told_memory : (old mid : Run) (from to on : Option (List ℕ)) (buffer : List ℕ) → IsTaken old mid from to → Adds to on (string_bytes mid.buffer) buffer [] → AreWhole (string_bytes old.buffer) → StopsTaking stop.Memory old from on
+told_memory old mid from to on buffer h moved whole =
     let told : List ℕ = lines_of old.at.number old.at.wanted h.told.told in
-    let all : Adds from on (string_bytes old.page) page told = adds_moved from to on (string_bytes old.page) (string_bytes mid.page) page told h.told.printed moved in
-    stops_after old h.taken h.reads h.said whole from on mid.core page (record { told = h.told.told; tells = h.told.tells; printed = all })
+    let all : Adds from on (string_bytes old.buffer) buffer told = adds_moved from to on (string_bytes old.buffer) (string_bytes mid.buffer) buffer told h.told.printed moved in
+    stops_after old h.taken h.reads h.said whole from on mid.core buffer (record { told = h.told.told; tells = h.told.tells; printed = all })
 
 -- ---- lines, one after the other
 
@@ -178,12 +178,12 @@ pub record SoFar (before : List Change) (old new : Run) (held kept : List ℕ) (
 
 pub followed_none : (before : List Change) (old : Run) (from : Option (List ℕ)) → IsFollowed before [] old old from from
 followed_none before old from = record {
-  same = record { version = refl; skips = refl; progress = refl; wanted = refl; answers = refl };
+  same = record { version = refl; skips_faults = refl; progress = refl; wanted = refl; answers = refl };
   taken = [];
   lines = refl;
   said = λ no. tt;
   counted = omega arith;
-  told = record { text = []; after = before; run = (refl, refl, refl); printed = adds_none from (string_bytes old.page) };
+  told = record { text = []; after = before; run = (refl, refl, refl); printed = adds_none from (string_bytes old.buffer) };
 }
 
 pub so_far_none : (before : List Change) (old : Run) (held : List ℕ) (known : Option (List ℕ)) (from : Option (List ℕ)) → SoFar before old old held held known known from from
@@ -196,20 +196,20 @@ module _ (before : List Change) (old mid : Run) (held kept : List ℕ) (known le
 
   -- ---- a line more, which stands in this run
 
-  module _ (came : Run) (version : came.version ≡ mid.version) (skips : came.skips ≡ mid.skips) (progress : came.progress ≡ mid.progress) (number : came.at.number ≡ mid.at.number) (wanted : came.at.wanted ≡ mid.at.wanted) (answers : came.at.answers ≡ mid.at.answers)
-      (core : came.core ≡ mid.core) (page : string_bytes came.page ≡ string_bytes mid.page) where
+  module _ (came : Run) (version : came.version ≡ mid.version) (skips_faults : came.skips_faults ≡ mid.skips_faults) (progress : came.progress ≡ mid.progress) (number : came.at.number ≡ mid.at.number) (wanted : came.at.wanted ≡ mid.at.wanted) (answers : came.at.answers ≡ mid.at.answers)
+      (core : came.core ≡ mid.core) (buffer : string_bytes came.buffer ≡ string_bytes mid.buffer) where
     version_is : came.version ≡ old.version
     version_is = version ∙ f.same.version
 
-    skips_is : came.skips ≡ old.skips
-    skips_is = skips ∙ f.same.skips
+    skips_is : came.skips_faults ≡ old.skips_faults
+    skips_is = skips_faults ∙ f.same.skips_faults
 
     -- the lines of before, and these
     run_more : (more : List Taken) (text : List ℕ) (after : List Change) (now : CoreValue) → TellsLines came.at.wanted came.at.answers came.core came.at.number more f.told.after text after now
         → TellsLines old.at.wanted old.at.answers old.core old.at.number (f.taken ++ more) before (f.told.text ++ text) after now
     run_more more text after now lines =
         let a : TellsLines old.at.wanted came.at.answers came.core came.at.number more f.told.after text after now =
-        subst (λ (o : Wanted). TellsLines o came.at.answers came.core came.at.number more f.told.after text after now) (wanted ∙ f.same.wanted) lines in
+        subst (λ (o : ChangeFilter). TellsLines o came.at.answers came.core came.at.number more f.told.after text after now) (wanted ∙ f.same.wanted) lines in
         let b : TellsLines old.at.wanted old.at.answers came.core came.at.number more f.told.after text after now =
         subst (λ x. TellsLines old.at.wanted x came.core came.at.number more f.told.after text after now) (answers ∙ f.same.answers) a in
         let c : TellsLines old.at.wanted old.at.answers mid.core came.at.number more f.told.after text after now =
@@ -224,7 +224,7 @@ module _ (before : List Change) (old mid : Run) (held kept : List ℕ) (known le
     -- the lines of before, to this run
     pub followed_as : IsFollowed before h.bytes old came from to
     followed_as = record {
-      same = record { version = version_is; skips = skips_is; progress = progress ∙ f.same.progress; wanted = wanted ∙ f.same.wanted; answers = answers ∙ f.same.answers };
+      same = record { version = version_is; skips_faults = skips_is; progress = progress ∙ f.same.progress; wanted = wanted ∙ f.same.wanted; answers = answers ∙ f.same.answers };
       taken = f.taken;
       lines = f.lines;
       said = f.said;
@@ -233,7 +233,7 @@ module _ (before : List Change) (old mid : Run) (held kept : List ℕ) (known le
         text = f.told.text;
         after = f.told.after;
         run = subst (λ (c : CoreValue). TellsLines old.at.wanted old.at.answers old.core old.at.number f.taken before f.told.text f.told.after c) (sym core) f.told.run;
-        printed = subst (λ (l : List ℕ). Adds from to (string_bytes old.page) l f.told.text) (sym page) f.told.printed;
+        printed = subst (λ (l : List ℕ). Adds from to (string_bytes old.buffer) l f.told.text) (sym buffer) f.told.printed;
       };
     }
 
@@ -256,7 +256,7 @@ module _ (before : List Change) (old mid : Run) (held kept : List ℕ) (known le
             bytes = longer;
             read = read_more;
             followed = record {
-              same = record { version = x.same.version ∙ version_is; skips = x.same.skips ∙ skips_is; progress = x.same.progress ∙ progress ∙ f.same.progress; wanted = x.same.wanted ∙ wanted ∙ f.same.wanted; answers = x.same.answers ∙ answers ∙ f.same.answers };
+              same = record { version = x.same.version ∙ version_is; skips_faults = x.same.skips_faults ∙ skips_is; progress = x.same.progress ∙ progress ∙ f.same.progress; wanted = x.same.wanted ∙ wanted ∙ f.same.wanted; answers = x.same.answers ∙ answers ∙ f.same.answers };
               taken = f.taken ++ x.taken ∷ [];
               lines = taken_more old.version h.bytes w.raw f.taken x.taken f.lines w.one (reads_as x.taken x.reads);
               said = λ no. say_more f.taken (x.taken ∷ []) (f.said no) (x.said (skips_is ∙ no));
@@ -265,8 +265,8 @@ module _ (before : List Change) (old mid : Run) (held kept : List ℕ) (known le
                 text = f.told.text ++ text;
                 after = f.told.after ++ x.told.told;
                 run = run_more (x.taken ∷ []) text (f.told.after ++ x.told.told) new.core line;
-                printed = adds_more from to on (string_bytes old.page) (string_bytes mid.page) (string_bytes new.page) f.told.text text f.told.printed
-                    (subst (λ (l : List ℕ). Adds to on l (string_bytes new.page) text) page x.told.printed);
+                printed = adds_more from to on (string_bytes old.buffer) (string_bytes mid.buffer) (string_bytes new.buffer) f.told.text text f.told.printed
+                    (subst (λ (l : List ℕ). Adds to on l (string_bytes new.buffer) text) buffer x.told.printed);
               };
             };
           }
@@ -276,7 +276,7 @@ module _ (before : List Change) (old mid : Run) (held kept : List ℕ) (known le
       fault_next at new on x = record {
         bytes = h.bytes;
         followed = record {
-          same = record { version = x.same.version ∙ version_is; skips = x.same.skips ∙ skips_is; progress = x.same.progress ∙ progress ∙ f.same.progress; wanted = x.same.wanted ∙ wanted ∙ f.same.wanted; answers = x.same.answers ∙ answers ∙ f.same.answers };
+          same = record { version = x.same.version ∙ version_is; skips_faults = x.same.skips_faults ∙ skips_is; progress = x.same.progress ∙ progress ∙ f.same.progress; wanted = x.same.wanted ∙ wanted ∙ f.same.wanted; answers = x.same.answers ∙ answers ∙ f.same.answers };
           taken = f.taken;
           lines = f.lines;
           said = f.said;
@@ -285,7 +285,7 @@ module _ (before : List Change) (old mid : Run) (held kept : List ℕ) (known le
             text = f.told.text;
             after = f.told.after;
             run = subst (λ (c : CoreValue). TellsLines old.at.wanted old.at.answers old.core old.at.number f.taken before f.told.text f.told.after c) (sym (x.core ∙ core)) f.told.run;
-            printed = subst (λ (l : List ℕ). Adds from on (string_bytes old.page) l f.told.text) (sym (x.page ∙ page)) (subst (λ (o : Option (List ℕ)). Adds from o (string_bytes old.page) (string_bytes mid.page) f.told.text) (sym x.out) f.told.printed);
+            printed = subst (λ (l : List ℕ). Adds from on (string_bytes old.buffer) l f.told.text) (sym (x.buffer ∙ buffer)) (subst (λ (o : Option (List ℕ)). Adds from o (string_bytes old.buffer) (string_bytes mid.buffer) f.told.text) (sym x.out) f.told.printed);
           };
         };
         raw = w.raw;
@@ -303,16 +303,16 @@ module _ (before : List Change) (old mid : Run) (held kept : List ℕ) (known le
               }
 
       -- it stops at the line
-      pub stops_next : (why : Stop) (on : Option (List ℕ)) → AreWhole (string_bytes old.page) → StopsTaking why came to on → StopsIn why before old held known further from on
+      pub stops_next : (why : PrintError) (on : Option (List ℕ)) → AreWhole (string_bytes old.buffer) → StopsTaking why came to on → StopsIn why before old held known further from on
       stops_next why on whole x = elim x.taken as (λ (ts : List Taken). ts ≡ x.taken → StopsIn why before old held known further from on) [
         | [] ↦ λ is. nothing_more is
         | t ∷ ts ↦ λ is. one_more t ts is
       ] refl
         where
-          part : ToldPart why came.at.wanted came.at.answers came.core came.at.number x.taken f.told.after to on (string_bytes came.page)
+          part : ToldPart why came.at.wanted came.at.answers came.core came.at.number x.taken f.told.after to on (string_bytes came.buffer)
           part = x.part f.told.after given_now
 
-          stopped : (taken : List Taken) → taken ≡ x.taken → (bytes : List ℕ) → ComesFrom (prepend_known held known) further bytes → AreTaken old.version bytes (f.taken ++ taken) → (old.skips ≡ false → AllSay (f.taken ++ taken))
+          stopped : (taken : List Taken) → taken ≡ x.taken → (bytes : List ℕ) → ComesFrom (prepend_known held known) further bytes → AreTaken old.version bytes (f.taken ++ taken) → (old.skips_faults ≡ false → AllSay (f.taken ++ taken))
               → StopsIn why before old held known further from on
           stopped taken is bytes comes lines said = record {
             bytes = bytes;
@@ -325,8 +325,8 @@ module _ (before : List Change) (old mid : Run) (held kept : List ℕ) (known le
               after = part.after;
               now = part.now;
               run = subst (λ (ts : List Taken). TellsLines old.at.wanted old.at.answers old.core old.at.number (f.taken ++ ts) before (f.told.text ++ part.text) part.after part.now) (sym is) (run_more x.taken part.text part.after part.now part.run);
-              part = part_more why from to on (string_bytes old.page) (string_bytes mid.page) f.told.text part.text whole f.told.printed
-                  (subst (λ (l : List ℕ). AddsPart why to on (l ++ part.text)) page part.part);
+              part = part_more why from to on (string_bytes old.buffer) (string_bytes mid.buffer) f.told.text part.text whole f.told.printed
+                  (subst (λ (l : List ℕ). AddsPart why to on (l ++ part.text)) buffer part.part);
             };
           }
 
@@ -361,20 +361,20 @@ module _ (before : List Change) (old mid : Run) (held kept : List ℕ) (known le
     followed_on new on bytes g = record {
       same = record {
         version = g.same.version ∙ f.same.version;
-        skips = g.same.skips ∙ f.same.skips;
+        skips_faults = g.same.skips_faults ∙ f.same.skips_faults;
         progress = g.same.progress ∙ f.same.progress;
         wanted = g.same.wanted ∙ f.same.wanted;
         answers = g.same.answers ∙ f.same.answers;
       };
       taken = f.taken ++ g.taken;
       lines = lines_on bytes g.taken g.lines;
-      said = λ no. say_more f.taken g.taken (f.said no) (g.said (f.same.skips ∙ no));
+      said = λ no. say_more f.taken g.taken (f.said no) (g.said (f.same.skips_faults ∙ no));
       counted = omega (arith, g.counted, f.counted, length-append f.taken g.taken);
       told = record {
         text = f.told.text ++ g.told.text;
         after = g.told.after;
         run = run_on g.taken g.told.text g.told.after new.core g.told.run;
-        printed = adds_more from to on (string_bytes old.page) (string_bytes mid.page) (string_bytes new.page) f.told.text g.told.text f.told.printed g.told.printed;
+        printed = adds_more from to on (string_bytes old.buffer) (string_bytes mid.buffer) (string_bytes new.buffer) f.told.text g.told.text f.told.printed g.told.printed;
       };
     }
 
@@ -396,27 +396,27 @@ module _ (before : List Change) (old mid : Run) (held kept : List ℕ) (known le
         read_on (inl reads) = inl (subst (λ v. IsReadAs v (shortened x.raw) (Fails at)) f.same.version reads)
         read_on (inr cut) = inr cut
 
-    pub stops_on : (why : Stop) (on : Option (List ℕ)) → AreWhole (string_bytes old.page) → StopsIn why f.told.after mid kept left further to on → StopsIn why before old held known further from on
+    pub stops_on : (why : PrintError) (on : Option (List ℕ)) → AreWhole (string_bytes old.buffer) → StopsIn why f.told.after mid kept left further to on → StopsIn why before old held known further from on
     stops_on why on whole x = record {
       bytes = h.bytes ++ x.bytes;
       comes = comes_on x.bytes x.comes;
       taken = f.taken ++ x.taken;
       lines = lines_on x.bytes x.taken x.lines;
-      said = λ no. say_more f.taken x.taken (f.said no) (x.said (f.same.skips ∙ no));
+      said = λ no. say_more f.taken x.taken (f.said no) (x.said (f.same.skips_faults ∙ no));
       part = record {
         text = f.told.text ++ x.part.text;
         after = x.part.after;
         now = x.part.now;
         run = run_on x.taken x.part.text x.part.after x.part.now x.part.run;
-        part = part_more why from to on (string_bytes old.page) (string_bytes mid.page) f.told.text x.part.text whole f.told.printed x.part.part;
+        part = part_more why from to on (string_bytes old.buffer) (string_bytes mid.buffer) f.told.text x.part.text whole f.told.printed x.part.part;
       };
     }
 
     pub given_on : Give f.told.after mid.core
     given_on = given_now mid refl refl refl refl refl refl refl refl
 
-  pub so_far_page : AreWhole (string_bytes old.page) → AreWhole (string_bytes mid.page)
-  so_far_page whole = page_whole from to (string_bytes old.page) (string_bytes mid.page) f.told.text f.told.printed whole
+  pub so_far_page : AreWhole (string_bytes old.buffer) → AreWhole (string_bytes mid.buffer)
+  so_far_page whole = page_whole from to (string_bytes old.buffer) (string_bytes mid.buffer) f.told.text f.told.printed whole
 
   -- ---- no line more
 
@@ -433,7 +433,7 @@ module _ (before : List Change) (old mid : Run) (held kept : List ℕ) (known le
       record { ahead = lost ++ all.ahead; read = subst (λ l. Consumes (prepend_known held known) further l) (append_assoc h.bytes lost all.ahead) all.read }
 
   -- memory ran out
-  pub stops_here : (why : Stop) (next : List ℕ) (further : Option (List ℕ)) → why ≡ stop.Memory → AreWhole (string_bytes old.page) → Loses kept left next further → StopsIn why before old held known further from to
+  pub stops_here : (why : PrintError) (next : List ℕ) (further : Option (List ℕ)) → why ≡ stop.Memory → AreWhole (string_bytes old.buffer) → Loses kept left next further → StopsIn why before old held known further from to
   stops_here why next further is whole lost = record {
     bytes = h.bytes;
     comes = unread next further lost;
@@ -445,7 +445,7 @@ module _ (before : List Change) (old mid : Run) (held kept : List ℕ) (known le
       after = f.told.after;
       now = mid.core;
       run = f.told.run;
-      part = subst (λ (w : Stop). AddsPart w from to (string_bytes old.page ++ f.told.text)) (sym is) (part_now from to (string_bytes old.page) (string_bytes mid.page) f.told.text whole f.told.printed);
+      part = subst (λ (w : PrintError). AddsPart w from to (string_bytes old.buffer ++ f.told.text)) (sym is) (part_now from to (string_bytes old.buffer) (string_bytes mid.buffer) f.told.text whole f.told.printed);
     };
   }
 

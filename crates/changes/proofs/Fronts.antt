@@ -14,8 +14,8 @@ use Rattle.recording.specs.declared.fault.Fault.TheVariants as fault
 use Rattle.recording.specs.declared.fault.LineFault.{LineFault}
 use Rattle.replay.specs.declared.fault.ReplayFault.{ReplayFault}
 use Rattle.replay.specs.declared.fault.ReplayFault.TheVariants as replay_fault
-use Rattle.replay.specs.declared.page.Stop.{Stop}
-use Rattle.replay.specs.declared.page.Stop.TheVariants as stop
+use Rattle.replay.specs.declared.buffer.PrintError.{PrintError}
+use Rattle.replay.specs.declared.buffer.PrintError.TheVariants as stop
 use Rattle.replay.proofs.Written.{err_as}
 use Rattle.changes.specs.Begun.{Closes, IsBegun}
 use Rattle.changes.specs.Changes.{Give}
@@ -25,10 +25,10 @@ use Rattle.changes.specs.Outputs.{FailsAtFront, FailsBehind, TellsAll, TellsPart
 use Rattle.changes.specs.Streams.{ComesFrom}
 use Rattle.changes.specs.declared.following.End.{End}
 use Rattle.changes.specs.declared.following.Run.{Run}
-use Rattle.changes.specs.declared.opening.FrontEnd.{FrontEnd}
-use Rattle.changes.specs.declared.opening.FrontEnd.TheVariants as front_end
+use Rattle.changes.specs.declared.opening.PreambleEnd.{PreambleEnd}
+use Rattle.changes.specs.declared.opening.PreambleEnd.TheVariants as front_end
 use Rattle.changes.specs.declared.opening.Opening.{Opening}
-use Rattle.changes.specs.declared.telling.Telling.{Telling}
+use Rattle.changes.specs.declared.printing.ChangeOptions.{ChangeOptions}
 use Rattle.changes.proofs.Comes.{comes_held, comes_less, held_none}
 use Rattle.changes.proofs.Feeds.{long_last}
 use Rattle.changes.proofs.OpeningSteps.{no_mark}
@@ -47,7 +47,7 @@ module _ (held kept front : List ℕ) (before left : Option (List ℕ)) (none : 
   came_behind mid rest bytes read more = comes_held before left (front ++ bytes) kept (Consumes-trans before (prepend_known mid rest) (prepend_known kept left) front bytes (at_once mid rest read) more)
 
   -- the front came
-  pub front_came : (line : List ℕ) (end : FrontEnd) → IsWhole end → Opens end front line held before kept left → ComesFrom before left front
+  pub front_came : (line : List ℕ) (end : PreambleEnd) → IsWhole end → Opens end front line held before kept left → ComesFrom before left front
   front_came line front_end.Over whole opens = came opens.0
   front_came line front_end.Line whole (mid, rest, read, w) = comes_less before left front (w.raw ++ 10 ∷ []) (came_behind mid rest (w.raw ++ 10 ∷ []) read w.taken)
   front_came line front_end.Cut whole (mid, rest, read, w) = comes_less before left front w.raw (came_behind mid rest w.raw read w.taken)
@@ -73,7 +73,7 @@ module _ (held kept front : List ℕ) (before left : Option (List ℕ)) (none : 
         | inr short ↦ plain (front ++ (raw ++ after)) f comes (subst (λ l. IsFaultOf (front ++ (l ++ after)) f) (is ∙ no_mark LONGEST raw short.1) has)
       ]
 
-  pub front_fails : (line : List ℕ) (end : FrontEnd) (f : LineFault) → Opens end front line held before kept left → HasFault end front line f → FailsAtFront before left f
+  pub front_fails : (line : List ℕ) (end : PreambleEnd) (f : LineFault) → Opens end front line held before kept left → HasFault end front line f → FailsAtFront before left f
   front_fails line front_end.Over f opens has = plain front f (came opens.0) has
   front_fails line front_end.Line f (mid, rest, read, w) (inl own) = plain front f (front_came line front_end.Line tt (mid, rest, read, w)) own
   front_fails line front_end.Line f (mid, rest, read, w) (inr all) = with_last mid rest w.raw line (10 ∷ []) f read w.taken w.one w.handed_on all
@@ -145,8 +145,8 @@ front_no_other {X} o e faulty r answer = (λ is. no_write faulty (answered repla
 
 -- ---- how all of it ends
 
-module _ (t : Telling) (before left after : Option (List ℕ)) (held kept front line : List ℕ) (r : RecordingValue) (run : Run) (from to : Option (List ℕ)) (h : IsBegun t r run from to) (text : IsText front r) (none : held ≡ [])
-    (end : FrontEnd) (whole : IsWhole end) (opens : Opens end front line held before kept left) (same : run.line.items ≡ line) where
+module _ (t : ChangeOptions) (before left after : Option (List ℕ)) (held kept front line : List ℕ) (r : RecordingValue) (run : Run) (from to : Option (List ℕ)) (h : IsBegun t r run from to) (text : IsText front r) (none : held ≡ [])
+    (end : PreambleEnd) (whole : IsWhole end) (opens : Opens end front line held before kept left) (same : run.line.items ≡ line) where
   opens_run : Opens end front run.line.items held before kept left
   opens_run = subst (λ l. Opens end front l held before kept left) (sym same) opens
 
@@ -154,7 +154,7 @@ module _ (t : Telling) (before left after : Option (List ℕ)) (held kept front 
   given = given_begun t r run from to h
 
   -- it stops behind the front
-  pub stopped_behind : (why : Stop) (on : Option (List ℕ)) → StopsBehind end why run kept left after to on → TellsPart why t before after from on
+  pub stopped_behind : (why : PrintError) (on : Option (List ℕ)) → StopsBehind end why run kept left after to on → TellsPart why t before after from on
   stopped_behind why on stops =
       let (mid, rest, read, stopped) = stops front held before whole opens_run h.after given in
       lines_part t before rest after mid front r run from to h (at_once held kept front before left none mid rest read) text why on stopped

@@ -12,8 +12,8 @@ use Rattle.recording.specs.Places.{is_front_word}
 use Rattle.recording.specs.Reading.{cut, first_word}
 use Rattle.recording.specs.declared.fault.LineFault.{LineFault}
 use Rattle.changes.specs.Openings.{IsLooked, Opens, ends_after, front_with}
-use Rattle.changes.specs.declared.opening.FrontEnd.{FrontEnd}
-use Rattle.changes.specs.declared.opening.FrontEnd.TheVariants as front_end
+use Rattle.changes.specs.declared.opening.PreambleEnd.{PreambleEnd}
+use Rattle.changes.specs.declared.opening.PreambleEnd.TheVariants as front_end
 
 -- ---- lines that are too long to be read whole
 
@@ -42,15 +42,15 @@ at_least limit raw long = elim (leb_tells limit (length raw)) [
 
 -- ---- what ends the front
 
-abbrev end_of : (of_front short : Bool) → FrontEnd → FrontEnd
+abbrev end_of : (of_front short : Bool) → PreambleEnd → PreambleEnd
 end_of of_front short other = if of_front then (if short then front_end.Over else front_end.LongLine) else other
 
-short_over : (of_front short : Bool) (other : FrontEnd) → end_of of_front short other ≡ front_end.Over → other ≢ front_end.Over → short ≡ true
+short_over : (of_front short : Bool) (other : PreambleEnd) → end_of of_front short other ≡ front_end.Over → other ≢ front_end.Over → short ≡ true
 short_over true true other h apart = refl
 short_over true false other h apart = absurd cc
 short_over false short other h apart = absurd (apart h)
 
-long_line : (of_front short : Bool) (other : FrontEnd) → end_of of_front short other ≡ front_end.LongLine → other ≢ front_end.LongLine → short ≡ false
+long_line : (of_front short : Bool) (other : PreambleEnd) → end_of of_front short other ≡ front_end.LongLine → other ≢ front_end.LongLine → short ≡ false
 long_line true true other h apart = absurd cc
 long_line true false other h apart = refl
 long_line false short other h apart = absurd (apart h)
@@ -82,12 +82,12 @@ abbrev short : List ℕ → Bool
 short line = nat_lt (length line) LONGEST
 
 -- a line of the front that is no longer came as it is
-whole_raw : (raw line : List ℕ) (other : FrontEnd) → line ≡ shortened raw → ends_after line other ≡ front_end.Over → other ≢ front_end.Over → line ≡ raw
+whole_raw : (raw line : List ℕ) (other : PreambleEnd) → line ≡ shortened raw → ends_after line other ≡ front_end.Over → other ≢ front_end.Over → line ≡ raw
 whole_raw raw line other is over apart =
     let within : short line ≡ true = short_over (of_front line) (short line) other over apart in
     is ∙ shortened_short raw (subst (λ l. length l < LONGEST) is (below (length line) LONGEST within))
 
-long_raw : (raw line : List ℕ) (other : FrontEnd) → line ≡ shortened raw → ends_after line other ≡ front_end.LongLine → other ≢ front_end.LongLine → LONGEST ≤ length raw
+long_raw : (raw line : List ℕ) (other : PreambleEnd) → line ≡ shortened raw → ends_after line other ≡ front_end.LongLine → other ≢ front_end.LongLine → LONGEST ≤ length raw
 long_raw raw line other is long apart =
     let beyond : short line ≡ false = long_line (of_front line) (short line) other long apart in
     at_least LONGEST raw (subst (λ l. LONGEST ≤ length l) is (from (length line) LONGEST beyond))
@@ -102,13 +102,13 @@ module _ (front held kept next : List ℕ) (known left further : Option (List �
   more bytes taken = Consumes-trans (prepend_known held known) (prepend_known kept left) (prepend_known next further) front bytes read taken
 
   -- nothing came any more
-  pub front_over : (end : FrontEnd) (line last : List ℕ) → end ≡ front_end.Over → TakesNone kept left next further line → Opens end front last held known next further
+  pub front_over : (end : PreambleEnd) (line last : List ℕ) → end ≡ front_end.Over → TakesNone kept left next further line → Opens end front last held known next further
   front_over end line last is w = subst (λ e. Opens e front last held known next further) (sym is) (subst (Takes held known next further) (append-nil front) (more [] w.taken), w.ended)
 
   -- a line more
   module _ (line : List ℕ) (w : TakesWhole kept left next further line) where
     -- it is one of the front
-    pub front_more : (end : FrontEnd) (grown : List ℕ) → end ≡ ends_after line front_end.Line → end ≡ front_end.Over → grown ≡ front_with (ends_after line front_end.Line) front (line ++ 10 ∷ []) → Takes held known next further grown
+    pub front_more : (end : PreambleEnd) (grown : List ℕ) → end ≡ ends_after line front_end.Line → end ≡ front_end.Over → grown ≡ front_with (ends_after line front_end.Line) front (line ++ 10 ∷ []) → Takes held known next further grown
     front_more end grown ends over is =
         let same : line ≡ w.raw = whole_raw w.raw line front_end.Line w.handed_on (sym ends ∙ over) (λ e. differ e) in
         let grew : grown ≡ front ++ (w.raw ++ 10 ∷ []) = is ∙ ap (λ e. front_with e front (line ++ 10 ∷ [])) (sym ends ∙ over) ∙ ap (λ l. front ++ (l ++ 10 ∷ [])) same in
@@ -118,7 +118,7 @@ module _ (front held kept next : List ℕ) (known left further : Option (List �
         differ e = cc
 
     -- it ends the front
-    ended : (end : FrontEnd) (grown last : List ℕ) → end ≡ ends_after line front_end.Line → end ≢ front_end.Over → grown ≡ front_with end front (line ++ 10 ∷ []) → last ≡ line → Opens end grown last held known next further
+    ended : (end : PreambleEnd) (grown last : List ℕ) → end ≡ ends_after line front_end.Line → end ≢ front_end.Over → grown ≡ front_with end front (line ++ 10 ∷ []) → last ≡ line → Opens end grown last held known next further
     ended front_end.Over grown last ends other is same = absurd (other refl)
     ended front_end.Line grown last ends other is same =
         (kept, left, subst (Takes held known kept left) (sym is) read, subst (TakesWhole kept left next further) (sym same) w)
@@ -138,13 +138,13 @@ module _ (front held kept next : List ℕ) (known left further : Option (List �
         differ e = cc
     ended (front_end.AtFault f) grown last ends other is same = absurd (no_fault (of_front line) (short line) f (sym ends))
 
-    pub front_ended : (end : FrontEnd) (grown last : List ℕ) → end ≡ ends_after line front_end.Line → end ≢ front_end.Over → grown ≡ front_with (ends_after line front_end.Line) front (line ++ 10 ∷ []) → last ≡ line
+    pub front_ended : (end : PreambleEnd) (grown last : List ℕ) → end ≡ ends_after line front_end.Line → end ≢ front_end.Over → grown ≡ front_with (ends_after line front_end.Line) front (line ++ 10 ∷ []) → last ≡ line
         → Opens end grown last held known next further
     front_ended end grown last ends other is same = ended end grown last ends other (is ∙ ap (λ e. front_with e front (line ++ 10 ∷ [])) (sym ends)) same
 
   -- the last line has no line feed
   module _ (line : List ℕ) (w : TakesLast kept left next further line) where
-    last_of : (end : FrontEnd) (grown last : List ℕ) → end ≡ ends_after line front_end.Cut → grown ≡ front_with end front (line ++ []) → last ≡ line → Opens end grown last held known next further
+    last_of : (end : PreambleEnd) (grown last : List ℕ) → end ≡ ends_after line front_end.Cut → grown ≡ front_with end front (line ++ []) → last ≡ line → Opens end grown last held known next further
     last_of front_end.Over grown last ends is same =
         let whole : line ≡ w.raw = whole_raw w.raw line front_end.Cut w.handed_on (sym ends) (λ e. differ e) in
         let grew : grown ≡ front ++ w.raw = is ∙ ap (λ l. front ++ l) (append-nil line ∙ whole) in
@@ -169,16 +169,16 @@ module _ (front held kept next : List ℕ) (known left further : Option (List �
         differ e = cc
     last_of (front_end.AtFault f) grown last ends is same = absurd (no_cut_fault (of_front line) (short line) f (sym ends))
 
-    pub front_cut : (end : FrontEnd) (grown last : List ℕ) → end ≡ ends_after line front_end.Cut → grown ≡ front_with (ends_after line front_end.Cut) front (line ++ []) → last ≡ line → Opens end grown last held known next further
+    pub front_cut : (end : PreambleEnd) (grown last : List ℕ) → end ≡ ends_after line front_end.Cut → grown ≡ front_with (ends_after line front_end.Cut) front (line ++ []) → last ≡ line → Opens end grown last held known next further
     front_cut end grown last ends is same = last_of end grown last ends (is ∙ ap (λ e. front_with e front (line ++ [])) (sym ends)) same
 
 -- a fault of the front was found
-pub front_looked : (front line held kept : List ℕ) (known left : Option (List ℕ)) (old new : FrontEnd) → Takes held known kept left front → IsLooked front old new → old ≡ front_end.Over → new ≢ front_end.Over
+pub front_looked : (front line held kept : List ℕ) (known left : Option (List ℕ)) (old new : PreambleEnd) → Takes held known kept left front → IsLooked front old new → old ≡ front_end.Over → new ≢ front_end.Over
     → Opens new front line held known kept left
 front_looked front line held kept known left old new read (inl same) over other = absurd (other (same ∙ over))
 front_looked front line held kept known left old new read (inr (f, is, has)) over other = subst (λ e. Opens e front line held known kept left) (sym is) (read, has)
 
-pub looked_as : (front named : List ℕ) (old new : FrontEnd) → front ≡ named → IsLooked front old new → IsLooked named old new
+pub looked_as : (front named : List ℕ) (old new : PreambleEnd) → front ≡ named → IsLooked front old new → IsLooked named old new
 looked_as front named old new is h = subst (λ l. IsLooked l old new) is h
 
 -- the front by another name

@@ -4,7 +4,7 @@ use Rattle.std.proofs.KnownBytes.{Consumes-trans}
 use Rattle.std.proofs.lemmas.List.{length-map, take_all}
 use Rattle.std.specs.Prelude.{string_bytes}
 use Rattle.std.specs.Io.KnownBytes.{Consumes, IsAtEnd, prepend_known}
-use Rattle.changes.specs.declared.telling.Wanted.{Wanted}
+use Rattle.changes.specs.declared.printing.ChangeFilter.{ChangeFilter}
 use Rattle.recording.specs.declared.line.Line.{Line}
 use Rattle.event_core.specs.Cores.{CoreValue}
 use Rattle.line_reader.specs.Shortened.{shortened}
@@ -17,13 +17,13 @@ use Rattle.recording.specs.declared.version.Version.{Version}
 use Rattle.replay.specs.Outputs.{recording_of}
 use Rattle.replay.specs.Lines.{first_number}
 use Rattle.replay.specs.Pages.{Adds, AddsPart}
-use Rattle.replay.specs.declared.page.Stop.{Stop}
+use Rattle.replay.specs.declared.buffer.PrintError.{PrintError}
 use Rattle.replay.proofs.Paging.{adds_more, adds_moved, page_whole, part_more, part_moved}
 use Rattle.replay.proofs.Wholes.{none_whole}
 use Rattle.replay.specs.Stops.{AreWhole, fault_of}
 use Rattle.replay.specs.declared.fault.ReplayFault.{ReplayFault}
 use Rattle.replay.specs.declared.fault.ReplayFault.TheVariants as replay_fault
-use Rattle.replay.specs.declared.page.Stop.TheVariants as stop
+use Rattle.replay.specs.declared.buffer.PrintError.TheVariants as stop
 use Rattle.changes.specs.Begun.{Closes, IsBegun, StopsAtBase}
 use Rattle.changes.specs.declared.following.End.{End}
 use Rattle.changes.specs.declared.following.End.TheVariants as end
@@ -37,7 +37,7 @@ use Rattle.recording.specs.Progress.{IsLineOf}
 use Rattle.recording.proofs.Growing.{text_grows}
 use Rattle.changes.specs.Streams.{AllSay, AreTaken, ComesFrom, IsReadAs, lines_in}
 use Rattle.changes.specs.declared.following.Run.{Run}
-use Rattle.changes.specs.declared.telling.Telling.{Telling}
+use Rattle.changes.specs.declared.printing.ChangeOptions.{ChangeOptions}
 use Rattle.changes.proofs.Comes.{comes_all, comes_behind, comes_less}
 use Rattle.changes.proofs.Ends.{all_out, telling}
 use Rattle.changes.proofs.RunSteps.{gives_after, given_first, tells_more}
@@ -61,7 +61,7 @@ text_and_lines r front behind (Comes l ∷ taken) text (raw, rest, one, (short, 
     (subst (λ (ls : List Line). IsText ((front ++ (raw ++ 10 ∷ [])) ++ rest) (record r { lines = ls })) (append_assoc r.lines (l ∷ []) (lines_in taken)) all_lines)
 text_and_lines r front behind (Fails f ∷ taken) text lines all = absurd all
 
-front_bytes : (t : Telling) (r : RecordingValue) (front : List ℕ) → IsText front r → AreBytes t front r []
+front_bytes : (t : ChangeOptions) (r : RecordingValue) (front : List ℕ) → IsText front r → AreBytes t front r []
 front_bytes t r front text = record {
   front = front;
   behind = [];
@@ -74,7 +74,7 @@ front_bytes t r front text = record {
 
 -- ---- what is told of the front and of what came behind it
 
-module _ (t : Telling) (r : RecordingValue) (run : Run) (from to : Option (List ℕ)) (h : IsBegun t r run from to) where
+module _ (t : ChangeOptions) (r : RecordingValue) (run : Run) (from to : Option (List ℕ)) (h : IsBegun t r run from to) where
   abbrev first : ℕ
   first = first_number r.version r.base
 
@@ -84,8 +84,8 @@ module _ (t : Telling) (r : RecordingValue) (run : Run) (from to : Option (List 
   pub given_begun : Give h.after run.core
   given_begun = gives_after t.wanted t.answers h.opened run.core first (map Says r.lines) (all_of h.opened) h.after h.told (given_first h.opened h.opening.core) h.lines
 
-  pub begun_page : AreWhole (string_bytes run.page)
-  begun_page = page_whole from to [] (string_bytes run.page) (base ++ h.told) h.printed none_whole
+  pub begun_page : AreWhole (string_bytes run.buffer)
+  begun_page = page_whole from to [] (string_bytes run.buffer) (base ++ h.told) h.printed none_whole
 
   -- the telling of the front and of these lines
   told_behind : (taken : List Taken) (text : List ℕ) (after : List Change) (now : CoreValue) → TellsLines run.at.wanted run.at.answers run.core run.at.number taken h.after text after now
@@ -95,49 +95,49 @@ module _ (t : Telling) (r : RecordingValue) (run : Run) (from to : Option (List 
       let numbered : TellsLines run.at.wanted run.at.answers run.core (first + length (map Says r.lines)) taken h.after text after now =
       subst (λ k. TellsLines run.at.wanted run.at.answers run.core k taken h.after text after now) n lines in
       let wanted : TellsLines t.wanted run.at.answers run.core (first + length (map Says r.lines)) taken h.after text after now =
-      subst (λ (o : Wanted). TellsLines o run.at.answers run.core (first + length (map Says r.lines)) taken h.after text after now) h.wanted numbered in
+      subst (λ (o : ChangeFilter). TellsLines o run.at.answers run.core (first + length (map Says r.lines)) taken h.after text after now) h.wanted numbered in
       let asked : TellsLines t.wanted t.answers run.core (first + length (map Says r.lines)) taken h.after text after now =
       subst (λ b. TellsLines t.wanted b run.core (first + length (map Says r.lines)) taken h.after text after now) h.answers wanted in
       telling t r h.opened h.opening r.lines taken (h.told ++ text) after now
       (tells_more t.wanted t.answers h.opened run.core now first (map Says r.lines) taken (all_of h.opened) h.after after h.told text h.lines asked)
 
-  are_all : (front behind : List ℕ) (taken : List Taken) → IsText front r → AreTaken run.version behind taken → (run.skips ≡ false → AllSay taken) → AreBytes t (front ++ behind) r taken
+  are_all : (front behind : List ℕ) (taken : List Taken) → IsText front r → AreTaken run.version behind taken → (run.skips_faults ≡ false → AllSay taken) → AreBytes t (front ++ behind) r taken
   are_all front behind taken is lines said = record {
     front = front;
     behind = behind;
     joined = refl;
     text = is;
     lines = subst (λ v. AreTaken v behind taken) h.version lines;
-    said = λ no. said (h.skips ∙ no);
-    whole = λ no. text_and_lines r front behind taken is (subst (λ v. AreTaken v behind taken) h.version lines) (said (h.skips ∙ no));
+    said = λ no. said (h.skips_faults ∙ no);
+    whole = λ no. text_and_lines r front behind taken is (subst (λ v. AreTaken v behind taken) h.version lines) (said (h.skips_faults ∙ no));
   }
 
--- all that came up to here is told: it was written, or stands on the page
-pub record Reached (t : Telling) (before after : Option (List ℕ)) (r : RecordingValue) (bytes : List ℕ) (page : List ℕ) (from to : Option (List ℕ)) : Type 0 where
+-- all that came up to here is told: it was written, or stands on the buffer
+pub record Reached (t : ChangeOptions) (before after : Option (List ℕ)) (r : RecordingValue) (bytes : List ℕ) (buffer : List ℕ) (from to : Option (List ℕ)) : Type 0 where
   pub comes : ComesFrom before after bytes
   pub taken : List Taken
   pub are : AreBytes t bytes r taken
   pub text : List ℕ
   pub telling : IsTelling t r taken text
-  pub printed : Adds from to [] page text
+  pub printed : Adds from to [] buffer text
 
-whole_lines : (t : Telling) (r : RecordingValue) (taken : List Taken) (text : List ℕ) → IsTelling t r taken text → IsTelling t (record r { lines = take (length r.lines) r.lines }) taken text
+whole_lines : (t : ChangeOptions) (r : RecordingValue) (taken : List Taken) (text : List ℕ) → IsTelling t r taken text → IsTelling t (record r { lines = take (length r.lines) r.lines }) taken text
 whole_lines t r taken text h = subst (λ (ls : List Line). IsTelling t (record r { lines = ls }) taken text) (sym (take_all (length r.lines) r.lines (omega arith))) h
 
-module _ (t : Telling) (before after : Option (List ℕ)) (r : RecordingValue) (bytes page : List ℕ) (from to last : Option (List ℕ)) (h : Reached t before after r bytes page from to) where
-  -- what stood on the page was written
-  pub reached_these : Adds to last page [] [] → TellsThese t before after bytes from last
+module _ (t : ChangeOptions) (before after : Option (List ℕ)) (r : RecordingValue) (bytes buffer : List ℕ) (from to last : Option (List ℕ)) (h : Reached t before after r bytes buffer from to) where
+  -- what stood on the buffer was written
+  pub reached_these : Adds to last buffer [] [] → TellsThese t before after bytes from last
   reached_these out = record {
     comes = h.comes;
     text = h.text;
     is = record { recording = r; taken = h.taken; are = h.are; telling = h.telling };
-    written = all_out from last h.text (adds_moved from to last [] page [] h.text h.printed out);
+    written = all_out from last h.text (adds_moved from to last [] buffer [] h.text h.printed out);
   }
 
   -- a part of it was
-  pub reached_part : (why : Stop) → AddsPart why to last page → TellsPart why t before after from last
+  pub reached_part : (why : PrintError) → AddsPart why to last buffer → TellsPart why t before after from last
   reached_part why part =
-      let all : AddsPart why from last h.text = part_moved why from to last [] page h.text none_whole h.printed part in
+      let all : AddsPart why from last h.text = part_moved why from to last [] buffer h.text none_whole h.printed part in
       record {
         bytes = bytes;
         comes = h.comes;
@@ -153,11 +153,11 @@ module _ (t : Telling) (before after : Option (List ℕ)) (r : RecordingValue) (
       }
 
 -- the input is over
-pub reached_all : (t : Telling) (before after : Option (List ℕ)) (bytes : List ℕ) (old new : Option (List ℕ)) → Consumes before after bytes → IsAtEnd after → TellsThese t before after bytes old new → TellsAll t before after old new
+pub reached_all : (t : ChangeOptions) (before after : Option (List ℕ)) (bytes : List ℕ) (old new : Option (List ℕ)) → Consumes before after bytes → IsAtEnd after → TellsThese t before after bytes old new → TellsAll t before after old new
 reached_all t before after bytes old new read end h = record { bytes = bytes; read = record { read = read; end = end }; text = h.text; is = h.is; written = h.written }
 
 -- a beginning of what the front gives was written
-pub base_part : (why : Stop) (t : Telling) (before after : Option (List ℕ)) (r : RecordingValue) (front : List ℕ) (from to : Option (List ℕ)) → ComesFrom before after front → IsText front r → StopsAtBase why t r from to
+pub base_part : (why : PrintError) (t : ChangeOptions) (before after : Option (List ℕ)) (r : RecordingValue) (front : List ℕ) (from to : Option (List ℕ)) → ComesFrom before after front → IsText front r → StopsAtBase why t r from to
     → TellsPart why t before after from to
 base_part why t before after r front from to comes text h = record {
   bytes = front;
@@ -173,18 +173,18 @@ base_part why t before after r front from to comes text h = record {
   written = h.written;
 }
 
-module _ (t : Telling) (before mid after : Option (List ℕ)) (held front : List ℕ) (r : RecordingValue) (run : Run) (from to : Option (List ℕ))
+module _ (t : ChangeOptions) (before mid after : Option (List ℕ)) (held front : List ℕ) (r : RecordingValue) (run : Run) (from to : Option (List ℕ))
     (h : IsBegun t r run from to) (read : Consumes before (prepend_known held mid) front) (text : IsText front r) where
   -- these bytes came
   module _ (new : Run) (on : Option (List ℕ)) (behind : List ℕ) (f : IsFollowed h.after behind run new to on) where
     abbrev text_behind : List ℕ
     text_behind = base t r run from to h ++ (h.told ++ f.told.text)
 
-    printed_behind : Adds from on [] (string_bytes new.page) text_behind
-    printed_behind = subst (Adds from on [] (string_bytes new.page)) (append_assoc (base t r run from to h) h.told f.told.text)
-        (adds_more from to on [] (string_bytes run.page) (string_bytes new.page) (base t r run from to h ++ h.told) f.told.text h.printed f.told.printed)
+    printed_behind : Adds from on [] (string_bytes new.buffer) text_behind
+    printed_behind = subst (Adds from on [] (string_bytes new.buffer)) (append_assoc (base t r run from to h) h.told f.told.text)
+        (adds_more from to on [] (string_bytes run.buffer) (string_bytes new.buffer) (base t r run from to h ++ h.told) f.told.text h.printed f.told.printed)
 
-    pub lines_reached : ComesFrom (prepend_known held mid) after behind → Reached t before after r (front ++ behind) (string_bytes new.page) from on
+    pub lines_reached : ComesFrom (prepend_known held mid) after behind → Reached t before after r (front ++ behind) (string_bytes new.buffer) from on
     lines_reached comes = record {
       comes = comes_behind before (prepend_known held mid) after front behind read comes;
       taken = f.taken;
@@ -195,7 +195,7 @@ module _ (t : Telling) (before mid after : Option (List ℕ)) (held front : List
     }
 
   -- a line of them is at fault
-  pub at_fault : (new : Run) (on last : Option (List ℕ)) (l : LineFault) (f : IsAtFault l.fault h.after run new held mid after to on) → l.line ≡ new.at.number → Adds on last (string_bytes new.page) [] []
+  pub at_fault : (new : Run) (on last : Option (List ℕ)) (l : LineFault) (f : IsAtFault l.fault h.after run new held mid after to on) → l.line ≡ new.at.number → Adds on last (string_bytes new.buffer) [] []
       → FailsBehind t before after l from last
   at_fault new on last l f numbered out =
       let g = f.followed in
@@ -206,7 +206,7 @@ module _ (t : Telling) (before mid after : Option (List ℕ)) (held front : List
         taken = g.taken;
         are = are_all t r run from to h front f.bytes g.taken text g.lines g.said;
         telling = told_behind t r run from to h g.taken g.told.text g.told.after new.core g.told.run;
-        written = all_out from last (text_behind new on f.bytes g) (adds_moved from on last [] (string_bytes new.page) [] (text_behind new on f.bytes g) (printed_behind new on f.bytes g) out);
+        written = all_out from last (text_behind new on f.bytes g) (adds_moved from on last [] (string_bytes new.buffer) [] (text_behind new on f.bytes g) (printed_behind new on f.bytes g) out);
         raw = f.raw;
         line = f.line;
         comes = subst (ComesFrom before after) (sym (append_assoc front f.bytes f.raw)) (comes_behind before (prepend_known held mid) after front (f.bytes ++ f.raw) read f.comes);
@@ -223,9 +223,9 @@ module _ (t : Telling) (before mid after : Option (List ℕ)) (held front : List
       assoc_number a b c = omega arith
 
   -- it stops in them
-  pub lines_part : (why : Stop) (on : Option (List ℕ)) → StopsIn why h.after run held mid after to on → TellsPart why t before after from on
+  pub lines_part : (why : PrintError) (on : Option (List ℕ)) → StopsIn why h.after run held mid after to on → TellsPart why t before after from on
   lines_part why on s =
-      let all : AddsPart why from on ((base t r run from to h ++ h.told) ++ s.part.text) = part_more why from to on [] (string_bytes run.page) (base t r run from to h ++ h.told) s.part.text none_whole h.printed s.part.part in
+      let all : AddsPart why from on ((base t r run from to h ++ h.told) ++ s.part.text) = part_more why from to on [] (string_bytes run.buffer) (base t r run from to h ++ h.told) s.part.text none_whole h.printed s.part.part in
       let whole : List ℕ = base t r run from to h ++ (h.told ++ s.part.text) in
       let part : AddsPart why from on whole = subst (AddsPart why from on) (append_assoc (base t r run from to h) h.told s.part.text) all in
       record {
@@ -245,27 +245,27 @@ module _ (t : Telling) (before mid after : Option (List ℕ)) (held front : List
   -- ---- how it ends
 
   module _ (new : Run) (on last : Option (List ℕ)) (e : End) (ends : Ends e h.after run new held mid after to on) (res : Result (Unit {0}) ReplayFault) (closes : Closes new e res on last) where
-    reached_end : (bytes : List ℕ) × Reached t before after r bytes (string_bytes new.page) from on
-    reached_end = elim e as (λ x. x ≡ e → (bytes : List ℕ) × Reached t before after r bytes (string_bytes new.page) from on) [
+    reached_end : (bytes : List ℕ) × Reached t before after r bytes (string_bytes new.buffer) from on
+    reached_end = elim e as (λ x. x ≡ e → (bytes : List ℕ) × Reached t before after r bytes (string_bytes new.buffer) from on) [
       | end.Over ↦ λ is. over (subst (λ x. Ends x h.after run new held mid after to on) (sym is) ends)
       | end.Unread ↦ λ is. unread (subst (λ x. Ends x h.after run new held mid after to on) (sym is) ends)
       | end.AtFault f ↦ λ is. at_line f (subst (λ x. Ends x h.after run new held mid after to on) (sym is) ends)
     ] refl
       where
-        over : Ends end.Over h.after run new held mid after to on → (bytes : List ℕ) × Reached t before after r bytes (string_bytes new.page) from on
+        over : Ends end.Over h.after run new held mid after to on → (bytes : List ℕ) × Reached t before after r bytes (string_bytes new.buffer) from on
         over (bytes, f, all, end) = (front ++ bytes, lines_reached new on bytes f (comes_all (prepend_known held mid) after bytes all))
 
-        unread : Ends end.Unread h.after run new held mid after to on → (bytes : List ℕ) × Reached t before after r bytes (string_bytes new.page) from on
+        unread : Ends end.Unread h.after run new held mid after to on → (bytes : List ℕ) × Reached t before after r bytes (string_bytes new.buffer) from on
         unread (bytes, f, comes) = (front ++ bytes, lines_reached new on bytes f comes)
 
-        at_line : (f : Fault) → Ends (end.AtFault f) h.after run new held mid after to on → (bytes : List ℕ) × Reached t before after r bytes (string_bytes new.page) from on
+        at_line : (f : Fault) → Ends (end.AtFault f) h.after run new held mid after to on → (bytes : List ℕ) × Reached t before after r bytes (string_bytes new.buffer) from on
         at_line f x = (front ++ x.bytes, lines_reached new on x.bytes x.followed (comes_less (prepend_known held mid) after x.bytes x.raw x.comes))
 
     all_told : Closes new e (Ok tt) on last → TellsAll t before after from last
     all_told (is, out) =
         let (bytes, f, all, at_end) = subst (λ x. Ends x h.after run new held mid after to on) is ends in
         reached_all t before after (front ++ bytes) from last (Consumes-trans before (prepend_known held mid) after front bytes read all) at_end
-        (reached_these t before after r (front ++ bytes) (string_bytes new.page) from on last (lines_reached new on bytes f (comes_all (prepend_known held mid) after bytes all)) out)
+        (reached_these t before after r (front ++ bytes) (string_bytes new.buffer) from on last (lines_reached new on bytes f (comes_all (prepend_known held mid) after bytes all)) out)
 
     pub ended_ok : OnOk res (TellsAll t before after from last)
     ended_ok = elim res as (λ x. x ≡ res → OnOk x (TellsAll t before after from last)) [ Ok u ↦ λ is. all_told (subst (λ x. Closes new e x on last) (sym is) closes) | Err f ↦ λ is. tt ] refl
@@ -274,7 +274,7 @@ module _ (t : Telling) (before mid after : Option (List ℕ)) (held front : List
     ended_read is =
         let (unread, out) = subst (λ x. Closes new e x on last) is closes in
         let (bytes, f, comes) = subst (λ x. Ends x h.after run new held mid after to on) unread ends in
-        (front ++ bytes, reached_these t before after r (front ++ bytes) (string_bytes new.page) from on last (lines_reached new on bytes f comes) out)
+        (front ++ bytes, reached_these t before after r (front ++ bytes) (string_bytes new.buffer) from on last (lines_reached new on bytes f comes) out)
 
     pub ended_line : (l : LineFault) → res ≡ Err (replay_fault.Line l) → FailsBehind t before after l from last
     ended_line l is =
@@ -284,32 +284,32 @@ module _ (t : Telling) (before mid after : Option (List ℕ)) (held front : List
     pub ended_write : res ≡ Err replay_fault.Write → TellsPart stop.Write t before after from last
     ended_write is =
         let (bytes, reached) = reached_end in
-        reached_part t before after r bytes (string_bytes new.page) from on last reached stop.Write (subst (λ x. Closes new e x on last) is closes)
+        reached_part t before after r bytes (string_bytes new.buffer) from on last reached stop.Write (subst (λ x. Closes new e x on last) is closes)
 
     pub ended_closed : res ≡ Err replay_fault.Closed → TellsPart stop.Closed t before after from last
     ended_closed is =
         let (bytes, reached) = reached_end in
-        reached_part t before after r bytes (string_bytes new.page) from on last reached stop.Closed (subst (λ x. Closes new e x on last) is closes)
+        reached_part t before after r bytes (string_bytes new.buffer) from on last reached stop.Closed (subst (λ x. Closes new e x on last) is closes)
 
     pub ended_memory : res ≡ Err replay_fault.Memory → ⊥
     ended_memory is = subst (λ x. Closes new e x on last) is closes
 
 -- ---- why a stop is no other fault
 
-apart_read : (why : Stop) → fault_of why ≡ replay_fault.Read → ⊥
+apart_read : (why : PrintError) → fault_of why ≡ replay_fault.Read → ⊥
 apart_read stop.Write e = cc
 apart_read stop.Closed e = cc
 apart_read stop.Memory e = cc
 
-apart_line : (why : Stop) (f : LineFault) → fault_of why ≡ replay_fault.Line f → ⊥
+apart_line : (why : PrintError) (f : LineFault) → fault_of why ≡ replay_fault.Line f → ⊥
 apart_line stop.Write f e = cc
 apart_line stop.Closed f e = cc
 apart_line stop.Memory f e = cc
 
-pub not_read : (why : Stop) (given : ReplayFault) → given ≡ fault_of why → given ≡ replay_fault.Read → ⊥
+pub not_read : (why : PrintError) (given : ReplayFault) → given ≡ fault_of why → given ≡ replay_fault.Read → ⊥
 not_read why given is read = apart_read why (sym is ∙ read)
 
-pub not_line : (why : Stop) (given : ReplayFault) (f : LineFault) → given ≡ fault_of why → given ≡ replay_fault.Line f → ⊥
+pub not_line : (why : PrintError) (given : ReplayFault) (f : LineFault) → given ≡ fault_of why → given ≡ replay_fault.Line f → ⊥
 not_line why given f is line = apart_line why f (sym is ∙ line)
 
 pub line_apart : (given : ReplayFault) (f : LineFault) → given ≡ replay_fault.Line f → (given ≡ replay_fault.Write → ⊥) × (given ≡ replay_fault.Closed → ⊥)
@@ -321,8 +321,8 @@ line_apart given f is = (λ write. write_apart (sym is ∙ write), λ closed. cl
     closed_apart : replay_fault.Line f ≡ replay_fault.Closed → ⊥
     closed_apart e = cc
 
-pub stopped_at : (why known : Stop) (t : Telling) (before after from to : Option (List ℕ)) → why ≡ known → TellsPart why t before after from to → TellsPart known t before after from to
-stopped_at why known t before after from to is h = subst (λ (w : Stop). TellsPart w t before after from to) is h
+pub stopped_at : (why known : PrintError) (t : ChangeOptions) (before after from to : Option (List ℕ)) → why ≡ known → TellsPart why t before after from to → TellsPart known t before after from to
+stopped_at why known t before after from to is h = subst (λ (w : PrintError). TellsPart w t before after from to) is h
 
 -- the text of the front, by the parts of its recording
 pub opened_text : (given front : List ℕ) (r : RecordingValue) (v : Version) (b : Base) (lines : List Line) → given ≡ front → v ≡ r.version → b ≡ r.base → lines ≡ r.lines → IsText given r → IsText front (recording_of v b lines)

@@ -1,7 +1,7 @@
 -- Runs of lines of which is told what they changed, and one line more.
 use Rattle.std.proofs.Common.{◌≡◌, ℕ, suc, ◌≤◌, ◌+◌, Bool, true, false, List, [], ◌∷◌, ◌++◌, length, map, take, Option, refl, sym, ap, subst, ◌∙◌, append_assoc, append-nil, arith, inl, inr}
 use Rattle.std.proofs.lemmas.List.{length-append, length-map, map-append, take-append-le, take_all}
-use Rattle.changes.specs.declared.telling.Wanted.{Wanted}
+use Rattle.changes.specs.declared.printing.ChangeFilter.{ChangeFilter}
 use Rattle.std.specs.Prelude.{Result, Ok, Err, IfOk}
 use Rattle.std.specs.List.{flat_map}
 use Rattle.event_state.specs.declared.event.Event.{Event}
@@ -9,13 +9,13 @@ use Rattle.event_state.specs.declared.refusal.Refusal.{Refusal}
 use Rattle.event_core.specs.declared.reply.Reply.{Reply}
 use Rattle.event_core.specs.declared.reply.Status.{Status}
 use Rattle.event_core.specs.declared.reply.Status.TheVariants.{Current}
-use Rattle.event_core.specs.Cores.{CoreValue, Applies, IsCore, IsCurrent, IsTaken, NamesChanges, Stands}
+use Rattle.event_core.specs.Cores.{CoreValue, Applies, IsCore, IsCurrent, IsTaken, NamesChanges, MatchesStatus}
 use Rattle.recording.specs.declared.line.Line.{Line}
 use Rattle.recording.specs.declared.line.Line.TheVariants as line
 use Rattle.replay.specs.Pages.{Adds, AddsPart}
 use Rattle.replay.specs.Stops.{AreWhole}
-use Rattle.replay.specs.declared.page.Stop.{Stop}
-use Rattle.replay.specs.declared.page.Stop.TheVariants as stop
+use Rattle.replay.specs.declared.buffer.PrintError.{PrintError}
+use Rattle.replay.specs.declared.buffer.PrintError.TheVariants as stop
 use Rattle.replay.proofs.Paging.{adds_none, adds_more, page_whole, part_now, part_more}
 use Rattle.route_table.specs.declared.table.Match.{Match}
 use Rattle.route_table.specs.Tables.{IsMatch}
@@ -30,7 +30,7 @@ use Rattle.changes.proofs.Cores.{current_taken, distinct_lists, give_taken, soun
 use Rattle.changes.proofs.Giving.{give_all}
 use Rattle.changes.proofs.Shown.{line_cut, line_shown}
 
-module _ (wanted : Wanted) (answers : Bool) where
+module _ (wanted : ChangeFilter) (answers : Bool) where
   pub one_line : (old new : CoreValue) (number : ℕ) (t : Taken) (before told : List Change) → TellsTaken answers old t new told → Give (before ++ told) new
       → TellsLines wanted answers old number (t ∷ []) before (lines_of number wanted told) (before ++ told) new
   one_line old new number t before told tells gives = (new, told, [], tells, gives, sym (append-nil (lines_of number wanted told)), (refl, refl, refl))
@@ -59,14 +59,14 @@ pub given_first : (c : CoreValue) → IsCore c → Give (all_of c) c
 given_first c core = give_all c (distinct_lists c core) (sound_lists c core)
 
 -- some of the lines were run and told of, and these are left
-pub record Telling (wanted : Wanted) (answers : Bool) (old : CoreValue) (first : ℕ) (lines rest : List Line) (number : ℕ) (now : CoreValue) (from to : Option (List ℕ)) (page put : List ℕ) : Type 0 where
+pub record ChangeOptions (wanted : ChangeFilter) (answers : Bool) (old : CoreValue) (first : ℕ) (lines rest : List Line) (number : ℕ) (now : CoreValue) (from to : Option (List ℕ)) (buffer put : List ℕ) : Type 0 where
   pub done : List Line
   pub left : lines ≡ done ++ rest
   pub counted : number ≡ first + length done
   pub text : List ℕ
   pub after : List Change
   pub run : TellsLines wanted answers old first (map Says done) (all_of old) text after now
-  pub printed : Adds from to page put text
+  pub printed : Adds from to buffer put text
   pub gives : Give after now
   pub core : IsCore now
   pub current : IsCurrent now
@@ -75,8 +75,8 @@ pub record Telling (wanted : Wanted) (answers : Bool) (old : CoreValue) (first :
 taken_line : (answers : Bool) (old new : CoreValue) (l : Line) (told : List Change) → IsCore old → TellsLine answers old l new told → TellsTaken answers old (Says l) new told
 taken_line answers old new l told core tells = (core, tells)
 
-module _ (wanted : Wanted) (answers : Bool) (old : CoreValue) (first : ℕ) (lines : List Line) (from : Option (List ℕ)) (page : List ℕ) where
-  pub telling_none : (number : ℕ) (rest : List Line) → IsCore old → IsCurrent old → number ≡ first → lines ≡ rest → Telling wanted answers old first lines rest number old from from page page
+module _ (wanted : ChangeFilter) (answers : Bool) (old : CoreValue) (first : ℕ) (lines : List Line) (from : Option (List ℕ)) (buffer : List ℕ) where
+  pub telling_none : (number : ℕ) (rest : List Line) → IsCore old → IsCurrent old → number ≡ first → lines ≡ rest → ChangeOptions wanted answers old first lines rest number old from from buffer buffer
   telling_none number rest core current counted is = record {
     done = [];
     left = is;
@@ -84,7 +84,7 @@ module _ (wanted : Wanted) (answers : Bool) (old : CoreValue) (first : ℕ) (lin
     text = [];
     after = all_of old;
     run = (refl, refl, refl);
-    printed = adds_none from page;
+    printed = adds_none from buffer;
     gives = given_first old core;
     core = core;
     current = current;
@@ -98,7 +98,7 @@ module _ (wanted : Wanted) (answers : Bool) (old : CoreValue) (first : ℕ) (lin
     gives : Give after new
 
   longer : (mid new : CoreValue) (number : ℕ) (rest more : List Line) (l : Line) (told : List Change) (to : Option (List ℕ)) (put : List ℕ)
-      → (h : Telling wanted answers old first lines rest number mid from to page put) → rest ≡ l ∷ more → TellsLine answers mid l new told
+      → (h : ChangeOptions wanted answers old first lines rest number mid from to buffer put) → rest ≡ l ∷ more → TellsLine answers mid l new told
       → Longer more (h.done ++ l ∷ []) (h.text ++ lines_of number wanted told) new
   longer mid new number rest more l told to put h next tells =
       let taken = taken_line answers mid new l told h.core tells in
@@ -115,8 +115,8 @@ module _ (wanted : Wanted) (answers : Bool) (old : CoreValue) (first : ℕ) (lin
       }
 
   pub telling_more : (mid new : CoreValue) (number : ℕ) (rest more : List Line) (l : Line) (to on : Option (List ℕ)) (put moved : List ℕ)
-      → Telling wanted answers old first lines rest number mid from to page put → rest ≡ l ∷ more → ToldLine wanted answers mid number l new to on put moved → IsCore new
-      → Telling wanted answers old first lines more (number + 1) new from on page moved
+      → ChangeOptions wanted answers old first lines rest number mid from to buffer put → rest ≡ l ∷ more → ToldLine wanted answers mid number l new to on put moved → IsCore new
+      → ChangeOptions wanted answers old first lines more (number + 1) new from on buffer moved
   telling_more mid new number rest more l to on put moved h next line core =
       let all = longer mid new number rest more l line.told to put h next line.tells in
       record {
@@ -126,21 +126,21 @@ module _ (wanted : Wanted) (answers : Bool) (old : CoreValue) (first : ℕ) (lin
         text = h.text ++ lines_of number wanted line.told;
         after = all.after;
         run = all.run;
-        printed = adds_more from to on page put moved h.text (lines_of number wanted line.told) h.printed line.printed;
+        printed = adds_more from to on buffer put moved h.text (lines_of number wanted line.told) h.printed line.printed;
         gives = all.gives;
         core = core;
         current = current_taken answers line.told mid new (Says l) h.current (taken_line answers mid new l line.told h.core line.tells);
       }
 
   -- the number of a line that is left is not the last of all numbers
-  pub telling_fits : (now : CoreValue) (number : ℕ) (rest more : List Line) (l : Line) (to : Option (List ℕ)) (put : List ℕ) → Telling wanted answers old first lines rest number now from to page put
+  pub telling_fits : (now : CoreValue) (number : ℕ) (rest more : List Line) (l : Line) (to : Option (List ℕ)) (put : List ℕ) → ChangeOptions wanted answers old first lines rest number now from to buffer put
       → rest ≡ l ∷ more → number + 1 ≤ first + length lines
   telling_fits now number rest more l to put h next =
       let whole : length lines ≡ length h.done + suc (length more) = ap length (h.left ∙ ap (λ w. h.done ++ w) next) ∙ length-append h.done (l ∷ more) in
       omega (arith, whole, h.counted)
 
-  pub telling_all : (now : CoreValue) (number : ℕ) (rest : List Line) (to : Option (List ℕ)) (put : List ℕ) → Telling wanted answers old first lines rest number now from to page put
-      → rest ≡ [] → Told wanted answers old first (map Says lines) (all_of old) now from to page put
+  pub telling_all : (now : CoreValue) (number : ℕ) (rest : List Line) (to : Option (List ℕ)) (put : List ℕ) → ChangeOptions wanted answers old first lines rest number now from to buffer put
+      → rest ≡ [] → Told wanted answers old first (map Says lines) (all_of old) now from to buffer put
   telling_all now number rest to put h none = record {
     text = h.text;
     after = h.after;
@@ -149,8 +149,8 @@ module _ (wanted : Wanted) (answers : Bool) (old : CoreValue) (first : ℕ) (lin
   }
 
   -- a run of the first of the lines
-  told_part : (why : Stop) (now : CoreValue) (done rest : List Line) (to : Option (List ℕ)) (text : List ℕ) (after : List Change) → lines ≡ done ++ rest
-      → TellsLines wanted answers old first (map Says done) (all_of old) text after now → AddsPart why from to (page ++ text) → (count : ℕ) × ToldPart why wanted answers old first (map Says (take count lines)) (all_of old) from to page
+  told_part : (why : PrintError) (now : CoreValue) (done rest : List Line) (to : Option (List ℕ)) (text : List ℕ) (after : List Change) → lines ≡ done ++ rest
+      → TellsLines wanted answers old first (map Says done) (all_of old) text after now → AddsPart why from to (buffer ++ text) → (count : ℕ) × ToldPart why wanted answers old first (map Says (take count lines)) (all_of old) from to buffer
   told_part why now done rest to text after left run part = (
     length done,
     record {
@@ -163,22 +163,22 @@ module _ (wanted : Wanted) (answers : Bool) (old : CoreValue) (first : ℕ) (lin
     },
   )
 
-  pub telling_page : (now : CoreValue) (number : ℕ) (rest : List Line) (to : Option (List ℕ)) (put : List ℕ) → Telling wanted answers old first lines rest number now from to page put → AreWhole page → AreWhole put
-  telling_page now number rest to put h whole = page_whole from to page put h.text h.printed whole
+  pub telling_page : (now : CoreValue) (number : ℕ) (rest : List Line) (to : Option (List ℕ)) (put : List ℕ) → ChangeOptions wanted answers old first lines rest number now from to buffer put → AreWhole buffer → AreWhole put
+  telling_page now number rest to put h whole = page_whole from to buffer put h.text h.printed whole
 
   -- the run stops at a line
-  pub telling_stopped : (why : Stop) (mid new : CoreValue) (number : ℕ) (rest more : List Line) (l : Line) (to on : Option (List ℕ)) (put : List ℕ) → AreWhole page
-      → Telling wanted answers old first lines rest number mid from to page put → rest ≡ l ∷ more → StopsAtLine why wanted answers mid number l new to on put
-      → (count : ℕ) × ToldPart why wanted answers old first (map Says (take count lines)) (all_of old) from on page
+  pub telling_stopped : (why : PrintError) (mid new : CoreValue) (number : ℕ) (rest more : List Line) (l : Line) (to on : Option (List ℕ)) (put : List ℕ) → AreWhole buffer
+      → ChangeOptions wanted answers old first lines rest number mid from to buffer put → rest ≡ l ∷ more → StopsAtLine why wanted answers mid number l new to on put
+      → (count : ℕ) × ToldPart why wanted answers old first (map Says (take count lines)) (all_of old) from on buffer
   telling_stopped why mid new number rest more l to on put whole h next (inl (told, tells, part)) =
       let all = longer mid new number rest more l told to put h next tells in
       told_part why new (h.done ++ l ∷ []) more on (h.text ++ lines_of number wanted told) all.after all.left all.run
-      (part_more why from to on page put h.text (lines_of number wanted told) whole h.printed part)
+      (part_more why from to on buffer put h.text (lines_of number wanted told) whole h.printed part)
   telling_stopped why mid new number rest more l to on put whole h next (inr (is, same)) =
-      let (count, part) = told_part stop.Memory mid h.done rest to h.text h.after h.left h.run (part_now from to page put h.text whole h.printed) in (
+      let (count, part) = told_part stop.Memory mid h.done rest to h.text h.after h.left h.run (part_now from to buffer put h.text whole h.printed) in (
         count,
-        subst (λ (w : Stop). ToldPart w wanted answers old first (map Says (take count lines)) (all_of old) from on page) (sym is)
-            (subst (λ (o : Option (List ℕ)). ToldPart stop.Memory wanted answers old first (map Says (take count lines)) (all_of old) from o page) (sym same) part),
+        subst (λ (w : PrintError). ToldPart w wanted answers old first (map Says (take count lines)) (all_of old) from on buffer) (sym is)
+            (subst (λ (o : Option (List ℕ)). ToldPart stop.Memory wanted answers old first (map Says (take count lines)) (all_of old) from o buffer) (sym same) part),
       )
 
 -- ---- one line
@@ -189,7 +189,7 @@ differs : (answers : Bool) (old new : CoreValue) (e : Event) (answer : Result Re
 differs answers old new e answer reply is current was applies named =
     let told : List Change = map (network_change new.table.items) new.changes ++ flat_map area_changes new.due_changes in
     let taken : IsTaken old e reply new = subst (λ (a : Result Reply Refusal). Applies old e a new) is applies in
-    let stands : Stands old Current new = subst (λ (s : Status). Stands old s new) current taken.stands in
+    let stands : MatchesStatus old Current new = subst (λ (s : Status). MatchesStatus old s new) current taken.stands in
     let names : NamesChanges old Current new = subst (λ (s : Status). NamesChanges old s new) current (subst (λ (a : Result Reply Refusal). IfOk a (λ r. NamesChanges old r.state new)) is named) in
     let all = names.0 was in
     subst (λ (a : Result Reply Refusal). IsToldOf answers old a new told) (sym is)
@@ -198,17 +198,17 @@ differs answers old new e answer reply is current was applies named =
 abbrev all_changes : CoreValue → List Change
 all_changes new = map (network_change new.table.items) new.changes ++ flat_map area_changes new.due_changes
 
-module _ (wanted : Wanted) (answers : Bool) (old : CoreValue) (number : ℕ) (from : Option (List ℕ)) (page : List ℕ) where
+module _ (wanted : ChangeFilter) (answers : Bool) (old : CoreValue) (number : ℕ) (from : Option (List ℕ)) (buffer : List ℕ) where
   module _ (e : Event) (new : CoreValue) (answer : Result Reply Refusal) (applies : Applies old e answer new) where
     -- a refused event
     module _ (refusal : Refusal) (is : answer ≡ Err refusal) (may : MayPass answers refusal) where
       refused_tells : TellsLine answers old (line.Event e) new (answered answers (Refused refusal))
       refused_tells = (answer, applies, subst (λ (a : Result Reply Refusal). IsToldOf answers old a new (answered answers (Refused refusal))) (sym is) (may, refl))
 
-      pub refused_told : (to : Option (List ℕ)) (put : List ℕ) → Adds from to page put (lines_of number wanted (answered answers (Refused refusal))) → ToldLine wanted answers old number (line.Event e) new from to page put
+      pub refused_told : (to : Option (List ℕ)) (put : List ℕ) → Adds from to buffer put (lines_of number wanted (answered answers (Refused refusal))) → ToldLine wanted answers old number (line.Event e) new from to buffer put
       refused_told to put printed = record { told = answered answers (Refused refusal); tells = refused_tells; printed = printed }
 
-      pub refused_cut : (why : Stop) (to : Option (List ℕ)) → AddsPart why from to (page ++ lines_of number wanted (answered answers (Refused refusal))) → StopsAtLine why wanted answers old number (line.Event e) new from to page
+      pub refused_cut : (why : PrintError) (to : Option (List ℕ)) → AddsPart why from to (buffer ++ lines_of number wanted (answered answers (Refused refusal))) → StopsAtLine why wanted answers old number (line.Event e) new from to buffer
       refused_cut why to part = inl (answered answers (Refused refusal), refused_tells, part)
 
     -- one that was taken
@@ -216,15 +216,15 @@ module _ (wanted : Wanted) (answers : Bool) (old : CoreValue) (number : ℕ) (fr
       changed_tells : TellsLine answers old (line.Event e) new (all_changes new)
       changed_tells = (answer, applies, differs answers old new e answer reply is current was applies named)
 
-      pub changed_told : (to : Option (List ℕ)) (put : List ℕ) → Adds from to page put (lines_of number wanted (all_changes new)) → ToldLine wanted answers old number (line.Event e) new from to page put
+      pub changed_told : (to : Option (List ℕ)) (put : List ℕ) → Adds from to buffer put (lines_of number wanted (all_changes new)) → ToldLine wanted answers old number (line.Event e) new from to buffer put
       changed_told to put printed = record { told = all_changes new; tells = changed_tells; printed = printed }
 
-      pub changed_cut : (why : Stop) (to : Option (List ℕ)) → AddsPart why from to (page ++ lines_of number wanted (all_changes new)) → StopsAtLine why wanted answers old number (line.Event e) new from to page
+      pub changed_cut : (why : PrintError) (to : Option (List ℕ)) → AddsPart why from to (buffer ++ lines_of number wanted (all_changes new)) → StopsAtLine why wanted answers old number (line.Event e) new from to buffer
       changed_cut why to part = inl (all_changes new, changed_tells, part)
 
   -- a look-up
-  pub lookup_silent : (address : ℕ) → answers ≡ false → ToldLine wanted answers old number (line.Lookup address) old from from page page
-  lookup_silent address silent = record { told = []; tells = (subst (λ b. IsFoundIn b old address []) (sym silent) refl, refl); printed = adds_none from page }
+  pub lookup_silent : (address : ℕ) → answers ≡ false → ToldLine wanted answers old number (line.Lookup address) old from from buffer buffer
+  lookup_silent address silent = record { told = []; tells = (subst (λ b. IsFoundIn b old address []) (sym silent) refl, refl); printed = adds_none from buffer }
 
   module _ (address : ℕ) (found : Match) (asked : answers ≡ true) (is : IsMatch old.table.items address found) where
     abbrev told_found : List Change
@@ -233,82 +233,82 @@ module _ (wanted : Wanted) (answers : Bool) (old : CoreValue) (number : ℕ) (fr
     found_tells : TellsLine answers old (line.Lookup address) old told_found
     found_tells = (subst (λ b. IsFoundIn b old address told_found) (sym asked) (found, is, refl), refl)
 
-    pub lookup_told : (to : Option (List ℕ)) (put moved : List ℕ) → put ≡ page ++ change_line wanted.format number (Found address old.table.serial found) → Adds from to put moved [] → ToldLine wanted answers old number (line.Lookup address) old from to page moved
+    pub lookup_told : (to : Option (List ℕ)) (put moved : List ℕ) → put ≡ buffer ++ change_line wanted.format number (Found address old.table.serial found) → Adds from to put moved [] → ToldLine wanted answers old number (line.Lookup address) old from to buffer moved
     lookup_told to put moved is spilled = record {
       told = told_found;
       tells = found_tells;
-      printed = line_shown page (change_line wanted.format number (Found address old.table.serial found)) from to put moved (change_whole wanted.format number (Found address old.table.serial found)) is spilled;
+      printed = line_shown buffer (change_line wanted.format number (Found address old.table.serial found)) from to put moved (change_whole wanted.format number (Found address old.table.serial found)) is spilled;
     }
 
-    pub lookup_cut : (why : Stop) (to : Option (List ℕ)) (put : List ℕ) → put ≡ page ++ change_line wanted.format number (Found address old.table.serial found) → AddsPart why from to put → StopsAtLine why wanted answers old number (line.Lookup address) old from to page
-    lookup_cut why to put is part = inl (told_found, found_tells, line_cut page (change_line wanted.format number (Found address old.table.serial found)) why from to put is part)
+    pub lookup_cut : (why : PrintError) (to : Option (List ℕ)) (put : List ℕ) → put ≡ buffer ++ change_line wanted.format number (Found address old.table.serial found) → AddsPart why from to put → StopsAtLine why wanted answers old number (line.Lookup address) old from to buffer
+    lookup_cut why to put is part = inl (told_found, found_tells, line_cut buffer (change_line wanted.format number (Found address old.table.serial found)) why from to put is part)
 
   -- what a table, which is that of the core, has for an address
   module _ (address : ℕ) (table : TableValue) (same : table ≡ old.table) (put : List ℕ) (asked : answers ≡ true)
-      (h : (found : Match) × IsMatch table.items address found × (put ≡ page ++ lookup_line wanted.format number address table.serial found)) where
-    put_here : (found : Match) × IsMatch old.table.items address found × (put ≡ page ++ lookup_line wanted.format number address old.table.serial found)
-    put_here = subst (λ (t : TableValue). (found : Match) × IsMatch t.items address found × (put ≡ page ++ lookup_line wanted.format number address t.serial found)) same h
+      (h : (found : Match) × IsMatch table.items address found × (put ≡ buffer ++ lookup_line wanted.format number address table.serial found)) where
+    put_here : (found : Match) × IsMatch old.table.items address found × (put ≡ buffer ++ lookup_line wanted.format number address old.table.serial found)
+    put_here = subst (λ (t : TableValue). (found : Match) × IsMatch t.items address found × (put ≡ buffer ++ lookup_line wanted.format number address t.serial found)) same h
 
-    put_found : (found : Match) × IsMatch old.table.items address found × (put ≡ page ++ change_line wanted.format number (Found address old.table.serial found))
-    put_found = let (found, is, text) = put_here in (found, is, text ∙ ap (λ l. page ++ l) (found_line wanted.format number address old.table.serial found))
+    put_found : (found : Match) × IsMatch old.table.items address found × (put ≡ buffer ++ change_line wanted.format number (Found address old.table.serial found))
+    put_found = let (found, is, text) = put_here in (found, is, text ∙ ap (λ l. buffer ++ l) (found_line wanted.format number address old.table.serial found))
 
-    pub found_told : (to : Option (List ℕ)) (moved : List ℕ) → Adds from to put moved [] → ToldLine wanted answers old number (line.Lookup address) old from to page moved
+    pub found_told : (to : Option (List ℕ)) (moved : List ℕ) → Adds from to put moved [] → ToldLine wanted answers old number (line.Lookup address) old from to buffer moved
     found_told to moved spilled = let (found, is, text) = put_found in lookup_told address found asked is to put moved text spilled
 
-    pub found_cut : (why : Stop) (to : Option (List ℕ)) → AddsPart why from to put → StopsAtLine why wanted answers old number (line.Lookup address) old from to page
+    pub found_cut : (why : PrintError) (to : Option (List ℕ)) → AddsPart why from to put → StopsAtLine why wanted answers old number (line.Lookup address) old from to buffer
     found_cut why to part = let (found, is, text) = put_found in lookup_cut address found asked is why to put text part
 
   -- a roll
   module _ (new : CoreValue) (answer : Result ℕ Refusal) (rolls : RollsBy old answer new) where
-    pub roll_silent : (serial : ℕ) → answer ≡ Ok serial → ToldLine wanted answers old number line.Roll new from from page page
-    roll_silent serial is = record { told = []; tells = (answer, rolls, sym (ap (told_of_roll answers) is)); printed = adds_none from page }
+    pub roll_silent : (serial : ℕ) → answer ≡ Ok serial → ToldLine wanted answers old number line.Roll new from from buffer buffer
+    roll_silent serial is = record { told = []; tells = (answer, rolls, sym (ap (told_of_roll answers) is)); printed = adds_none from buffer }
 
     module _ (refusal : Refusal) (is : answer ≡ Err refusal) where
       roll_tells : TellsLine answers old line.Roll new (answered answers (Refused refusal))
       roll_tells = (answer, rolls, sym (ap (told_of_roll answers) is))
 
-      pub roll_told : (to : Option (List ℕ)) (put : List ℕ) → Adds from to page put (lines_of number wanted (answered answers (Refused refusal))) → ToldLine wanted answers old number line.Roll new from to page put
+      pub roll_told : (to : Option (List ℕ)) (put : List ℕ) → Adds from to buffer put (lines_of number wanted (answered answers (Refused refusal))) → ToldLine wanted answers old number line.Roll new from to buffer put
       roll_told to put printed = record { told = answered answers (Refused refusal); tells = roll_tells; printed = printed }
 
-      pub roll_cut : (why : Stop) (to : Option (List ℕ)) → AddsPart why from to (page ++ lines_of number wanted (answered answers (Refused refusal))) → StopsAtLine why wanted answers old number line.Roll new from to page
+      pub roll_cut : (why : PrintError) (to : Option (List ℕ)) → AddsPart why from to (buffer ++ lines_of number wanted (answered answers (Refused refusal))) → StopsAtLine why wanted answers old number line.Roll new from to buffer
       roll_cut why to part = inl (answered answers (Refused refusal), roll_tells, part)
 
   -- under other names
-  pub told_as : (l same : Line) (new other : CoreValue) (to on : Option (List ℕ)) (put moved : List ℕ) → l ≡ same → new ≡ other → to ≡ on → put ≡ moved → ToldLine wanted answers old number same other from on page moved
-      → ToldLine wanted answers old number l new from to page put
+  pub told_as : (l same : Line) (new other : CoreValue) (to on : Option (List ℕ)) (put moved : List ℕ) → l ≡ same → new ≡ other → to ≡ on → put ≡ moved → ToldLine wanted answers old number same other from on buffer moved
+      → ToldLine wanted answers old number l new from to buffer put
   told_as l same new other to on put moved is core written shown h =
-      subst (λ (x : Line). ToldLine wanted answers old number x new from to page put) (sym is)
-      (subst (λ (c : CoreValue). ToldLine wanted answers old number same c from to page put) (sym core)
-      (subst (λ (o : Option (List ℕ)). ToldLine wanted answers old number same other from o page put) (sym written) (subst (λ (w : List ℕ). ToldLine wanted answers old number same other from on page w) (sym shown) h)))
+      subst (λ (x : Line). ToldLine wanted answers old number x new from to buffer put) (sym is)
+      (subst (λ (c : CoreValue). ToldLine wanted answers old number same c from to buffer put) (sym core)
+      (subst (λ (o : Option (List ℕ)). ToldLine wanted answers old number same other from o buffer put) (sym written) (subst (λ (w : List ℕ). ToldLine wanted answers old number same other from on buffer w) (sym shown) h)))
 
-  pub stopped_as : (why : Stop) (l same : Line) (new : CoreValue) (to : Option (List ℕ)) → l ≡ same → StopsAtLine why wanted answers old number same new from to page → StopsAtLine why wanted answers old number l new from to page
-  stopped_as why l same new to is h = subst (λ (x : Line). StopsAtLine why wanted answers old number x new from to page) (sym is) h
+  pub stopped_as : (why : PrintError) (l same : Line) (new : CoreValue) (to : Option (List ℕ)) → l ≡ same → StopsAtLine why wanted answers old number same new from to buffer → StopsAtLine why wanted answers old number l new from to buffer
+  stopped_as why l same new to is h = subst (λ (x : Line). StopsAtLine why wanted answers old number x new from to buffer) (sym is) h
 
 -- what is asked for stays
 
-pub asked_line : (now wanted : Wanted) (answer answers : Bool) (old : CoreValue) (number : ℕ) (l : Line) (new : CoreValue) (from to : Option (List ℕ)) (page put : List ℕ) → now ≡ wanted → answer ≡ answers
-    → ToldLine now answer old number l new from to page put → ToldLine wanted answers old number l new from to page put
-asked_line now wanted answer answers old number l new from to page put is asks h =
-    subst (λ b. ToldLine wanted b old number l new from to page put) asks (subst (λ (o : Wanted). ToldLine o answer old number l new from to page put) is h)
+pub asked_line : (now wanted : ChangeFilter) (answer answers : Bool) (old : CoreValue) (number : ℕ) (l : Line) (new : CoreValue) (from to : Option (List ℕ)) (buffer put : List ℕ) → now ≡ wanted → answer ≡ answers
+    → ToldLine now answer old number l new from to buffer put → ToldLine wanted answers old number l new from to buffer put
+asked_line now wanted answer answers old number l new from to buffer put is asks h =
+    subst (λ b. ToldLine wanted b old number l new from to buffer put) asks (subst (λ (o : ChangeFilter). ToldLine o answer old number l new from to buffer put) is h)
 
-pub asked_stop : (why : Stop) (now wanted : Wanted) (answer answers : Bool) (old : CoreValue) (number : ℕ) (l : Line) (new : CoreValue) (from to : Option (List ℕ)) (page : List ℕ) → now ≡ wanted → answer ≡ answers
-    → StopsAtLine why now answer old number l new from to page → StopsAtLine why wanted answers old number l new from to page
-asked_stop why now wanted answer answers old number l new from to page is asks h =
-    subst (λ b. StopsAtLine why wanted b old number l new from to page) asks (subst (λ (o : Wanted). StopsAtLine why o answer old number l new from to page) is h)
+pub asked_stop : (why : PrintError) (now wanted : ChangeFilter) (answer answers : Bool) (old : CoreValue) (number : ℕ) (l : Line) (new : CoreValue) (from to : Option (List ℕ)) (buffer : List ℕ) → now ≡ wanted → answer ≡ answers
+    → StopsAtLine why now answer old number l new from to buffer → StopsAtLine why wanted answers old number l new from to buffer
+asked_stop why now wanted answer answers old number l new from to buffer is asks h =
+    subst (λ b. StopsAtLine why wanted b old number l new from to buffer) asks (subst (λ (o : ChangeFilter). StopsAtLine why o answer old number l new from to buffer) is h)
 
 -- the journal may be rolled before the line
 
-pub taken_told : (wanted : Wanted) (answers : Bool) (old ready new : CoreValue) (number : ℕ) (l : Line) (from to : Option (List ℕ)) (page put : List ℕ) → IsCore ready → KeepsShort old ready → ToldLine wanted answers ready number l new from to page put
-    → ToldTaken wanted answers old number (Comes l) new from to page put
-taken_told wanted answers old ready new number l from to page put core short h = record { told = h.told; tells = (ready, core, short, h.tells); printed = h.printed }
+pub taken_told : (wanted : ChangeFilter) (answers : Bool) (old ready new : CoreValue) (number : ℕ) (l : Line) (from to : Option (List ℕ)) (buffer put : List ℕ) → IsCore ready → KeepsShort old ready → ToldLine wanted answers ready number l new from to buffer put
+    → ToldTaken wanted answers old number (Comes l) new from to buffer put
+taken_told wanted answers old ready new number l from to buffer put core short h = record { told = h.told; tells = (ready, core, short, h.tells); printed = h.printed }
 
-pub taken_stops : (why : Stop) (wanted : Wanted) (answers : Bool) (old ready new : CoreValue) (number : ℕ) (l : Line) (from to : Option (List ℕ)) (page : List ℕ) → IsCore ready → KeepsShort old ready → StopsAtLine why wanted answers ready number l new from to page
-    → StopsAtTaken why wanted answers old number (Comes l) new from to page
-taken_stops why wanted answers old ready new number l from to page core short (inl (told, tells, part)) = inl (told, (ready, core, short, tells), part)
-taken_stops why wanted answers old ready new number l from to page core short (inr before) = inr before
+pub taken_stops : (why : PrintError) (wanted : ChangeFilter) (answers : Bool) (old ready new : CoreValue) (number : ℕ) (l : Line) (from to : Option (List ℕ)) (buffer : List ℕ) → IsCore ready → KeepsShort old ready → StopsAtLine why wanted answers ready number l new from to buffer
+    → StopsAtTaken why wanted answers old number (Comes l) new from to buffer
+taken_stops why wanted answers old ready new number l from to buffer core short (inl (told, tells, part)) = inl (told, (ready, core, short, tells), part)
+taken_stops why wanted answers old ready new number l from to buffer core short (inr before) = inr before
 
--- it was refused, and this was put on the page
-pub refusal_told : (wanted : Wanted) (answers : Bool) (number : ℕ) (from to : Option (List ℕ)) (page put moved : List ℕ) (refusal : Refusal) → answers ≡ true → put ≡ page ++ change_line wanted.format number (Refused refusal) → Adds from to put moved []
-    → Adds from to page moved (lines_of number wanted (answered answers (Refused refusal)))
-refusal_told wanted answers number from to page put moved refusal asked is spilled =
-    subst (λ b. Adds from to page moved (lines_of number wanted (answered b (Refused refusal)))) (sym asked) (line_shown page (change_line wanted.format number (Refused refusal)) from to put moved (change_whole wanted.format number (Refused refusal)) is spilled)
+-- it was refused, and this was put on the buffer
+pub refusal_told : (wanted : ChangeFilter) (answers : Bool) (number : ℕ) (from to : Option (List ℕ)) (buffer put moved : List ℕ) (refusal : Refusal) → answers ≡ true → put ≡ buffer ++ change_line wanted.format number (Refused refusal) → Adds from to put moved []
+    → Adds from to buffer moved (lines_of number wanted (answered answers (Refused refusal)))
+refusal_told wanted answers number from to buffer put moved refusal asked is spilled =
+    subst (λ b. Adds from to buffer moved (lines_of number wanted (answered b (Refused refusal)))) (sym asked) (line_shown buffer (change_line wanted.format number (Refused refusal)) from to put moved (change_whole wanted.format number (Refused refusal)) is spilled)

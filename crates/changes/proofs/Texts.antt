@@ -5,7 +5,7 @@ use Rattle.std.proofs.lemmas.List.{drop_more}
 use Rattle.std.proofs.lemmas.Option.{get_or_from_slice_get, slice_get_within}
 use Rattle.std.specs.List.{flat_map}
 use Rattle.ospf_types.specs.declared.key.Dest.{Dest}
-use Rattle.changes.specs.declared.telling.Wanted.{Wanted}
+use Rattle.changes.specs.declared.printing.ChangeFilter.{ChangeFilter}
 use Rattle.ospf_types.specs.Text.{address_text, prefix_text}
 use Rattle.event_core.specs.DueSummaries.{listed}
 use Rattle.event_core.specs.Lists.{AreaSummariesValue}
@@ -54,7 +54,7 @@ pub change_whole : (fm : Format) (number : ℕ) (change : Change) → AreWhole (
 change_whole format.Text number change = words_whole number change
 change_whole format.Json number change = object_whole number change
 
-pub line_whole : (number : ℕ) (wanted : Wanted) (change : Change) → AreWhole (line_of number wanted change)
+pub line_whole : (number : ℕ) (wanted : ChangeFilter) (change : Change) → AreWhole (line_of number wanted change)
 line_whole number wanted change = elim (is_told wanted.only change) as (λ b. AreWhole (cond b (change_line wanted.format number change) (codes ""))) [ true ↦ change_whole wanted.format number change | false ↦ none_whole ]
 
 -- what a look-up prints is a line of this kind
@@ -70,35 +70,35 @@ refusal_line format.Json number refusal = refl
 -- ---- lists
 
 -- the lines of mapped items
-pub mapped_lines : {A : Type 0} (number : ℕ) (wanted : Wanted) (change : A → Change) (items : List A) → lines_of number wanted (map change items) ≡ flat_map (λ x. line_of number wanted (change x)) items
+pub mapped_lines : {A : Type 0} (number : ℕ) (wanted : ChangeFilter) (change : A → Change) (items : List A) → lines_of number wanted (map change items) ≡ flat_map (λ x. line_of number wanted (change x)) items
 mapped_lines number wanted change [] = refl
 mapped_lines number wanted change (x ∷ items) = ap (λ l. line_of number wanted (change x) ++ l) (mapped_lines number wanted change items)
 
-pub lines_both : (number : ℕ) (wanted : Wanted) (xs ys : List Change) → lines_of number wanted (xs ++ ys) ≡ lines_of number wanted xs ++ lines_of number wanted ys
+pub lines_both : (number : ℕ) (wanted : ChangeFilter) (xs ys : List Change) → lines_of number wanted (xs ++ ys) ≡ lines_of number wanted xs ++ lines_of number wanted ys
 lines_both number wanted [] ys = refl
 lines_both number wanted (x ∷ xs) ys = ap (λ l. line_of number wanted x ++ l) (lines_both number wanted xs ys) ∙ sym (append_assoc (line_of number wanted x) (lines_of number wanted xs) (lines_of number wanted ys))
 
 -- the lines of several lists
-pub listed_lines : {A : Type 0} (number : ℕ) (wanted : Wanted) (changes : A → List Change) (items : List A) → lines_of number wanted (flat_map changes items) ≡ flat_map (λ x. lines_of number wanted (changes x)) items
+pub listed_lines : {A : Type 0} (number : ℕ) (wanted : ChangeFilter) (changes : A → List Change) (items : List A) → lines_of number wanted (flat_map changes items) ≡ flat_map (λ x. lines_of number wanted (changes x)) items
 listed_lines number wanted changes [] = refl
 listed_lines number wanted changes (x ∷ items) = lines_both number wanted (changes x) (flat_map changes items) ∙ ap (λ l. lines_of number wanted (changes x) ++ l) (listed_lines number wanted changes items)
 
 -- ---- the areas, each with the lines of what is due in it
 
-abbrev pub listed_in : ℕ → Wanted → AreaSummariesValue → List ℕ
+abbrev pub listed_in : ℕ → ChangeFilter → AreaSummariesValue → List ℕ
 listed_in number wanted w = lines_of number wanted (area_due (w.area, w.list))
 
-abbrev pub all_listed : ℕ → Wanted → List AreaSummariesValue → List ℕ
+abbrev pub all_listed : ℕ → ChangeFilter → List AreaSummariesValue → List ℕ
 all_listed number wanted areas = flat_map (listed_in number wanted) areas
 
-pub listed_is : (number : ℕ) (wanted : Wanted) (areas : List AreaSummariesValue) → all_listed number wanted areas ≡ lines_of number wanted (flat_map area_due (listed areas))
+pub listed_is : (number : ℕ) (wanted : ChangeFilter) (areas : List AreaSummariesValue) → all_listed number wanted areas ≡ lines_of number wanted (flat_map area_due (listed areas))
 listed_is number wanted [] = refl
 listed_is number wanted (w ∷ areas) =
     ap (λ l. listed_in number wanted w ++ l) (listed_is number wanted areas) ∙ sym (lines_both number wanted (area_due (w.area, w.list)) (flat_map area_due (listed areas)))
 
 -- ---- what changed in the areas
 
-abbrev pub changed_in : ℕ → Wanted → ℕ × Metrics → List ℕ
+abbrev pub changed_in : ℕ → ChangeFilter → ℕ × Metrics → List ℕ
 changed_in number wanted e = lines_of number wanted (area_changes e)
 
 -- the lines of the area at a place, and those of the areas behind it

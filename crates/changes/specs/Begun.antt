@@ -9,8 +9,8 @@ use Rattle.replay.specs.Runs.{IsOpened}
 use Rattle.replay.specs.Stops.{IsBeginning}
 use Rattle.replay.specs.declared.fault.ReplayFault.{ReplayFault}
 use Rattle.replay.specs.declared.fault.ReplayFault.TheVariants as replay_fault
-use Rattle.replay.specs.declared.page.Stop.{Stop}
-use Rattle.replay.specs.declared.page.Stop.TheVariants as stop
+use Rattle.replay.specs.declared.buffer.PrintError.{PrintError}
+use Rattle.replay.specs.declared.buffer.PrintError.TheVariants as stop
 use Rattle.changes.specs.Lines.{Change}
 use Rattle.changes.specs.Changes.{all_of}
 use Rattle.changes.specs.Runs.{Says, TellsLines}
@@ -18,12 +18,12 @@ use Rattle.changes.specs.Outputs.{IsTelling, base_lines}
 use Rattle.changes.specs.declared.following.End.{End}
 use Rattle.changes.specs.declared.following.End.TheVariants as end
 use Rattle.changes.specs.declared.following.Run.{Run}
-use Rattle.changes.specs.declared.telling.Telling.{Telling}
+use Rattle.changes.specs.declared.printing.ChangeOptions.{ChangeOptions}
 
 -- what the base gives was told, and what came of the lines of the recording
-pub record IsBegun (t : Telling) (r : RecordingValue) (run : Run) (from to : Option (List ℕ)) : Type 0 where
+pub record IsBegun (t : ChangeOptions) (r : RecordingValue) (run : Run) (from to : Option (List ℕ)) : Type 0 where
   pub version : run.version ≡ r.version
-  pub skips : run.skips ≡ t.skips
+  pub skips_faults : run.skips_faults ≡ t.skips_faults
   pub wanted : run.at.wanted ≡ t.wanted
   pub answers : run.at.answers ≡ t.answers
   pub number : run.at.number ≡ first_number r.version r.base + length r.lines
@@ -34,10 +34,10 @@ pub record IsBegun (t : Telling) (r : RecordingValue) (run : Run) (from to : Opt
   pub told : List ℕ
   pub after : List Change
   pub lines : TellsLines t.wanted t.answers opened (first_number r.version r.base) (map Says r.lines) (all_of opened) told after run.core
-  pub printed : Adds from to [] (string_bytes run.page) (base_lines t.wanted r opened ++ told)
+  pub printed : Adds from to [] (string_bytes run.buffer) (base_lines t.wanted r opened ++ told)
 
 -- a beginning of it was written
-pub record StopsAtBase (why : Stop) (t : Telling) (r : RecordingValue) (from to : Option (List ℕ)) : Type 0 where
+pub record StopsAtBase (why : PrintError) (t : ChangeOptions) (r : RecordingValue) (from to : Option (List ℕ)) : Type 0 where
   pub count : ℕ
   pub whole : List ℕ
   pub telling : IsTelling t (record r { lines = take count r.lines }) [] whole
@@ -45,11 +45,11 @@ pub record StopsAtBase (why : Stop) (t : Telling) (r : RecordingValue) (from to 
   pub beginning : IsBeginning why part whole
   pub written : Appends from to part
 
--- What is left on the page is written, and the end is told; or a beginning of it was written.
+-- What is left on the buffer is written, and the end is told; or a beginning of it was written.
 abbrev pub Closes : Run → End → Result Unit ReplayFault → (from to : Option (List ℕ)) → Type 0
-Closes run e (Ok u) from to = (e ≡ end.Over) × Adds from to (string_bytes run.page) [] []
-Closes run e (Err replay_fault.Read) from to = (e ≡ end.Unread) × Adds from to (string_bytes run.page) [] []
-Closes run e (Err (replay_fault.Line f)) from to = (e ≡ end.AtFault f.fault) × (f.line ≡ run.at.number) × Adds from to (string_bytes run.page) [] []
-Closes run e (Err replay_fault.Write) from to = AddsPart stop.Write from to (string_bytes run.page)
-Closes run e (Err replay_fault.Closed) from to = AddsPart stop.Closed from to (string_bytes run.page)
+Closes run e (Ok u) from to = (e ≡ end.Over) × Adds from to (string_bytes run.buffer) [] []
+Closes run e (Err replay_fault.Read) from to = (e ≡ end.Unread) × Adds from to (string_bytes run.buffer) [] []
+Closes run e (Err (replay_fault.Line f)) from to = (e ≡ end.AtFault f.fault) × (f.line ≡ run.at.number) × Adds from to (string_bytes run.buffer) [] []
+Closes run e (Err replay_fault.Write) from to = AddsPart stop.Write from to (string_bytes run.buffer)
+Closes run e (Err replay_fault.Closed) from to = AddsPart stop.Closed from to (string_bytes run.buffer)
 Closes run e (Err replay_fault.Memory) from to = ⊥

@@ -6,14 +6,14 @@ use Rattle.line_reader.specs.Shortened.{shortened}
 use Rattle.line_reader.specs.Tails.{HasNoLineFeed}
 use Rattle.recording.specs.declared.fault.Fault.{Fault}
 use Rattle.recording.specs.declared.fault.Fault.TheVariants as fault
-use Rattle.replay.specs.declared.page.Stop.{Stop}
+use Rattle.replay.specs.declared.buffer.PrintError.{PrintError}
 use Rattle.changes.specs.declared.following.End.{End}
 use Rattle.changes.specs.declared.following.End.TheVariants as end
 use Rattle.changes.specs.declared.following.Run.{Run}
 use Rattle.recording.specs.declared.version.Version.{Version}
 use Rattle.changes.specs.Changes.{Give}
 use Rattle.changes.specs.Openings.{IsWhole, Opens}
-use Rattle.changes.specs.declared.opening.FrontEnd.{FrontEnd}
+use Rattle.changes.specs.declared.opening.PreambleEnd.{PreambleEnd}
 use Rattle.line_reader.specs.Taking as input
 use Rattle.changes.specs.Lines.{Change}
 use Rattle.changes.specs.Runs.{Fails, Taken, Told, ToldPart, ToldTaken}
@@ -22,20 +22,20 @@ use Rattle.changes.specs.Streams.{AllSay, AreTaken, ComesFrom, IsReadAs}
 -- what stays of a run
 pub record IsSameRun (old new : Run) : Type 0 where
   pub version : new.version ≡ old.version
-  pub skips : new.skips ≡ old.skips
+  pub skips_faults : new.skips_faults ≡ old.skips_faults
   pub progress : new.progress ≡ old.progress
   pub wanted : new.at.wanted ≡ old.at.wanted
   pub answers : new.at.answers ≡ old.at.answers
 
 -- ---- one line
 
--- the line that came was taken, and what is told of it stands behind the page
+-- the line that came was taken, and what is told of it stands behind the buffer
 pub record IsTaken (old new : Run) (from to : Option (List ℕ)) : Type 0 where
   pub same : IsSameRun old new
   pub taken : Taken
   pub reads : IsReadAs old.version old.line.items taken
-  pub said : old.skips ≡ false → AllSay (taken ∷ [])
-  pub told : ToldTaken old.at.wanted old.at.answers old.core old.at.number taken new.core from to (string_bytes old.page) (string_bytes new.page)
+  pub said : old.skips_faults ≡ false → AllSay (taken ∷ [])
+  pub told : ToldTaken old.at.wanted old.at.answers old.core old.at.number taken new.core from to (string_bytes old.buffer) (string_bytes new.buffer)
   pub core : IsCore new.core
   pub current : IsCurrent new.core
 
@@ -45,7 +45,7 @@ pub record IsLeft (f : Fault) (old new : Run) (from to : Option (List ℕ)) : Ty
   pub counted : new.at.number ≡ old.at.number
   pub reads : IsReadAs old.version old.line.items (Fails f)
   pub core : new.core ≡ old.core
-  pub page : string_bytes new.page ≡ string_bytes old.page
+  pub buffer : string_bytes new.buffer ≡ string_bytes old.buffer
   pub out : to ≡ from
 
 abbrev pub Tells : Option Fault → (old new : Run) → (from to : Option (List ℕ)) → Type 0
@@ -62,22 +62,22 @@ IsFirst v line [] = Unit {0}
 IsFirst v line (t ∷ taken) = IsReadAs v line t × (taken ≡ [])
 
 -- The line that came was taken, and a beginning of what is told of it was written; or it was not.
-pub record StopsTaking (why : Stop) (old : Run) (from to : Option (List ℕ)) : Type 0 where
+pub record StopsTaking (why : PrintError) (old : Run) (from to : Option (List ℕ)) : Type 0 where
   pub taken : List Taken
   pub reads : IsFirst old.version old.line.items taken
-  pub said : old.skips ≡ false → AllSay taken
-  pub part : (before : List Change) → Give before old.core → ToldPart why old.at.wanted old.at.answers old.core old.at.number taken before from to (string_bytes old.page)
+  pub said : old.skips_faults ≡ false → AllSay taken
+  pub part : (before : List Change) → Give before old.core → ToldPart why old.at.wanted old.at.answers old.core old.at.number taken before from to (string_bytes old.buffer)
 
 -- ---- lines, one after the other
 
--- these bytes were taken, and what is told of their lines stands behind the page
+-- these bytes were taken, and what is told of their lines stands behind the buffer
 pub record IsFollowed (before : List Change) (bytes : List ℕ) (old new : Run) (from to : Option (List ℕ)) : Type 0 where
   pub same : IsSameRun old new
   pub taken : List Taken
   pub lines : AreTaken old.version bytes taken
-  pub said : old.skips ≡ false → AllSay taken
+  pub said : old.skips_faults ≡ false → AllSay taken
   pub counted : new.at.number ≡ old.at.number + length taken
-  pub told : Told old.at.wanted old.at.answers old.core old.at.number taken before new.core from to (string_bytes old.page) (string_bytes new.page)
+  pub told : Told old.at.wanted old.at.answers old.core old.at.number taken before new.core from to (string_bytes old.buffer) (string_bytes new.buffer)
 
 -- the next line is at fault, or there is no line feed behind the last
 pub record IsAtFault (f : Fault) (before : List Change) (old new : Run) (held : List ℕ) (known left : Option (List ℕ)) (from to : Option (List ℕ)) : Type 0 where
@@ -96,24 +96,24 @@ Ends end.Unread before old new held known left from to = (bytes : List ℕ) × I
 Ends (end.AtFault f) before old new held known left from to = IsAtFault f before old new held known left from to
 
 -- a beginning of what is told of these bytes was written
-pub record StopsIn (why : Stop) (before : List Change) (old : Run) (held : List ℕ) (known left : Option (List ℕ)) (from to : Option (List ℕ)) : Type 0 where
+pub record StopsIn (why : PrintError) (before : List Change) (old : Run) (held : List ℕ) (known left : Option (List ℕ)) (from to : Option (List ℕ)) : Type 0 where
   pub bytes : List ℕ
   pub comes : ComesFrom (prepend_known held known) left bytes
   pub taken : List Taken
   pub lines : AreTaken old.version bytes taken
-  pub said : old.skips ≡ false → AllSay taken
-  pub part : ToldPart why old.at.wanted old.at.answers old.core old.at.number taken before from to (string_bytes old.page)
+  pub said : old.skips_faults ≡ false → AllSay taken
+  pub part : ToldPart why old.at.wanted old.at.answers old.core old.at.number taken before from to (string_bytes old.buffer)
 
 -- ---- lines behind the front, of which one came with it
 
 -- How it ends behind a front, whichever that is.
-abbrev pub EndsBehind : FrontEnd → End → (old new : Run) → (kept : List ℕ) → (left further : Option (List ℕ)) → (from to : Option (List ℕ)) → Type 0
+abbrev pub EndsBehind : PreambleEnd → End → (old new : Run) → (kept : List ℕ) → (left further : Option (List ℕ)) → (from to : Option (List ℕ)) → Type 0
 EndsBehind front e old new kept left further from to =
     (text held : List ℕ) → (known : Option (List ℕ)) → IsWhole front → Opens front text old.line.items held known kept left → (before : List Change) → Give before old.core
     → (mid : List ℕ) × (rest : Option (List ℕ)) × input.Takes held known mid rest text × Ends e before old new mid rest further from to
 
 -- it stops behind a front
-abbrev pub StopsBehind : FrontEnd → Stop → (old : Run) → (kept : List ℕ) → (left further : Option (List ℕ)) → (from to : Option (List ℕ)) → Type 0
+abbrev pub StopsBehind : PreambleEnd → PrintError → (old : Run) → (kept : List ℕ) → (left further : Option (List ℕ)) → (from to : Option (List ℕ)) → Type 0
 StopsBehind front why old kept left further from to =
     (text held : List ℕ) → (known : Option (List ℕ)) → IsWhole front → Opens front text old.line.items held known kept left → (before : List Change) → Give before old.core
     → (mid : List ℕ) × (rest : Option (List ℕ)) × input.Takes held known mid rest text × StopsIn why before old mid rest further from to

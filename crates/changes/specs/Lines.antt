@@ -4,7 +4,7 @@ use Rattle.std.specs.List.{flat_map}
 use Rattle.ospf_types.specs.declared.key.Dest.{Dest}
 use Rattle.ospf_types.specs.declared.key.Dest.TheVariants.{Net, Router}
 use Rattle.ospf_types.specs.declared.prefix.Prefix.{Prefix}
-use Rattle.changes.specs.declared.telling.Wanted.{Wanted}
+use Rattle.changes.specs.declared.printing.ChangeFilter.{ChangeFilter}
 use Rattle.ospf_types.specs.RangeChanges.{is_same_prefix}
 use Rattle.ospf_types.specs.Text.{address_text, prefix_text, entry_text}
 use Rattle.route_table.specs.declared.table.Item.{Item}
@@ -86,8 +86,8 @@ is_told only (Undue area dest) = is_dest_asked only dest
 is_told only _ = true
 
 -- the line of a change that is wanted
-abbrev pub line_of : ℕ → Wanted → Change → List ℕ
+abbrev pub line_of : ℕ → ChangeFilter → Change → List ℕ
 line_of number wanted change = if is_told wanted.only change then change_line wanted.format number change else codes ""
 
-abbrev pub lines_of : ℕ → Wanted → List Change → List ℕ
+abbrev pub lines_of : ℕ → ChangeFilter → List Change → List ℕ
 lines_of number wanted changes = flat_map (line_of number wanted) changes

@@ -13,16 +13,16 @@ use Rattle.recording.specs.declared.fault.Fault.TheVariants as fault
 use Rattle.recording.specs.declared.fault.LineFault.{LineFault}
 use Rattle.replay.specs.declared.fault.ReplayFault.{ReplayFault}
 use Rattle.replay.specs.declared.fault.ReplayFault.TheVariants as replay_fault
-use Rattle.changes.specs.declared.opening.FrontEnd.{FrontEnd}
-use Rattle.changes.specs.declared.opening.FrontEnd.TheVariants as front_end
+use Rattle.changes.specs.declared.opening.PreambleEnd.{PreambleEnd}
+use Rattle.changes.specs.declared.opening.PreambleEnd.TheVariants as front_end
 use Rattle.changes.specs.declared.opening.Opening.{Opening}
 
 -- what a line comes to for the front, and what one that is none of it does
-abbrev pub ends_after : List ℕ → FrontEnd → FrontEnd
+abbrev pub ends_after : List ℕ → PreambleEnd → PreambleEnd
 ends_after line other = if is_front_word (first_word (cut line)) then (if nat_lt (length line) LONGEST then front_end.Over else front_end.LongLine) else other
 
 -- the front with a line more, where that is one of the front
-abbrev pub front_with : FrontEnd → (front line : List ℕ) → List ℕ
+abbrev pub front_with : PreambleEnd → (front line : List ℕ) → List ℕ
 front_with front_end.Over front line = front ++ line
 front_with front_end.Line front line = front
 front_with front_end.Cut front line = front
@@ -30,13 +30,13 @@ front_with front_end.LongLine front line = front ++ line
 front_with (front_end.AtFault f) front line = front
 
 -- the line that came, and its line feed, was added, where it is one of the front
-pub record IsAdded (end : FrontEnd) (feed : List ℕ) (old new : Opening) : Type 0 where
+pub record IsAdded (end : PreambleEnd) (feed : List ℕ) (old new : Opening) : Type 0 where
   pub ends : new.end ≡ end
   pub line : new.line.items ≡ old.line.items
   pub front : new.front.items ≡ front_with end old.front.items (old.line.items ++ feed)
 
 -- the front has a fault that was found, or nothing changed
-abbrev pub IsLooked : (front : List ℕ) → (old new : FrontEnd) → Type 0
+abbrev pub IsLooked : (front : List ℕ) → (old new : PreambleEnd) → Type 0
 IsLooked front old new = (new ≡ old) ⊎ ((f : LineFault) × (new ≡ front_end.AtFault f) × IsFaultOf front f)
 
 -- how many line feeds the bytes have
@@ -59,7 +59,7 @@ pub record IsLongFront (front held : List ℕ) (known : Option (List ℕ)) (kept
   pub read : Takes held known kept left (before ++ (raw ++ after))
 
 -- The front was taken, and the line that ended it.
-abbrev pub Opens : FrontEnd → (front line held : List ℕ) → (known : Option (List ℕ)) → (kept : List ℕ) → (left : Option (List ℕ)) → Type 0
+abbrev pub Opens : PreambleEnd → (front line held : List ℕ) → (known : Option (List ℕ)) → (kept : List ℕ) → (left : Option (List ℕ)) → Type 0
 Opens front_end.Over front line held known kept left = Takes held known kept left front × HasEnded kept left
 Opens front_end.Line front line held known kept left = (mid : List ℕ) × (rest : Option (List ℕ)) × Takes held known mid rest front × TakesWhole mid rest kept left line
 Opens front_end.Cut front line held known kept left = (mid : List ℕ) × (rest : Option (List ℕ)) × Takes held known mid rest front × TakesLast mid rest kept left line
@@ -67,7 +67,7 @@ Opens front_end.LongLine front line held known kept left = IsLongFront front hel
 Opens (front_end.AtFault f) front line held known kept left = Takes held known kept left front × IsFaultOf front f
 
 -- each line of the front was taken whole, and none of them is known to be at fault
-abbrev pub IsWhole : FrontEnd → Type 0
+abbrev pub IsWhole : PreambleEnd → Type 0
 IsWhole front_end.Over = Unit {0}
 IsWhole front_end.Line = Unit {0}
 IsWhole front_end.Cut = Unit {0}
@@ -87,7 +87,7 @@ abbrev pub IsFormless : (text : List ℕ) → (number : ℕ) → LineFault → T
 IsFormless text number f = (r : RecordingValue) × IsText text r × (f ≡ record { line = number; fault = fault.Line })
 
 -- Why there is no recording. Where a line that is too long was cut short, and nothing is wrong with the front then, the fault is that this line has no form.
-abbrev pub HasFault : FrontEnd → (front line : List ℕ) → LineFault → Type 0
+abbrev pub HasFault : PreambleEnd → (front line : List ℕ) → LineFault → Type 0
 HasFault front_end.Over front line f = IsFaultOf front f
 HasFault front_end.Line front line f = IsFaultUpTo (line ++ 10 ∷ []) front f
 HasFault front_end.Cut front line f = IsFaultUpTo (line ++ []) front f

@@ -1,7 +1,7 @@
 -- What is printed of the lines that came: what each of them changed.
 use Rattle.std.specs.Prelude.{ℕ, ◌≡◌, ◌≢◌, ◌-◌, ◌+◌, ◌⊎◌, ◌++◌, false, List, [], length, Option, map, take}
 use Rattle.std.specs.Io.KnownBytes.{Appends, IsAtEnd}
-use Rattle.changes.specs.declared.telling.Wanted.{Wanted}
+use Rattle.changes.specs.declared.printing.ChangeFilter.{ChangeFilter}
 use Rattle.event_core.specs.Cores.{CoreValue}
 use Rattle.line_reader.specs.Shortened.{shortened}
 use Rattle.line_reader.specs.Tails.{HasNoLineFeed}
@@ -12,20 +12,20 @@ use Rattle.replay.specs.Inputs.{ReadsAll}
 use Rattle.replay.specs.Lines.{first_number}
 use Rattle.replay.specs.Runs.{IsOpened}
 use Rattle.replay.specs.Stops.{IsBeginning}
-use Rattle.replay.specs.declared.page.Stop.{Stop}
+use Rattle.replay.specs.declared.buffer.PrintError.{PrintError}
 use Rattle.changes.specs.Lines.{Change, lines_of}
 use Rattle.changes.specs.Changes.{Give, all_of}
 use Rattle.changes.specs.Runs.{Fails, Says, Taken, TellsLines}
 use Rattle.changes.specs.Streams.{AllSay, AreTaken, ComesFrom, IsFaultOfFront, IsReadAs, lines_in}
-use Rattle.changes.specs.declared.telling.Telling.{Telling}
+use Rattle.changes.specs.declared.printing.ChangeOptions.{ChangeOptions}
 
 -- what the base gives is told at its last line
-abbrev pub base_lines : Wanted → RecordingValue → CoreValue → List ℕ
+abbrev pub base_lines : ChangeFilter → RecordingValue → CoreValue → List ℕ
 base_lines wanted r opened = lines_of (first_number r.version r.base - 1) wanted (all_of opened)
 
 -- The text tells what the base of the recording gives, and then what came of each of its lines and of those behind them. From nothing on, the changes give
 -- table and due summaries behind each line.
-pub record IsTelling (t : Telling) (r : RecordingValue) (taken : List Taken) (text : List ℕ) : Type 0 where
+pub record IsTelling (t : ChangeOptions) (r : RecordingValue) (taken : List Taken) (text : List ℕ) : Type 0 where
   pub opened : CoreValue
   pub opening : IsOpened r.base opened
   pub given : Give (all_of opened) opened
@@ -36,24 +36,24 @@ pub record IsTelling (t : Telling) (r : RecordingValue) (taken : List Taken) (te
   pub is : text ≡ base_lines t.wanted r opened ++ told
 
 -- The bytes are the text of a recording, and behind it lines that were taken. Where none may be skipped, none of them is at fault, and all is the text of one.
-pub record AreBytes (t : Telling) (bytes : List ℕ) (r : RecordingValue) (taken : List Taken) : Type 0 where
+pub record AreBytes (t : ChangeOptions) (bytes : List ℕ) (r : RecordingValue) (taken : List Taken) : Type 0 where
   pub front : List ℕ
   pub behind : List ℕ
   pub joined : bytes ≡ front ++ behind
   pub text : IsText front r
   pub lines : AreTaken r.version behind taken
-  pub said : t.skips ≡ false → AllSay taken
-  pub whole : t.skips ≡ false → IsText bytes (record r { lines = r.lines ++ lines_in taken })
+  pub said : t.skips_faults ≡ false → AllSay taken
+  pub whole : t.skips_faults ≡ false → IsText bytes (record r { lines = r.lines ++ lines_in taken })
 
 -- what is told of the bytes
-pub record IsTellingOf (t : Telling) (bytes text : List ℕ) : Type 0 where
+pub record IsTellingOf (t : ChangeOptions) (bytes text : List ℕ) : Type 0 where
   pub recording : RecordingValue
   pub taken : List Taken
   pub are : AreBytes t bytes recording taken
   pub telling : IsTelling t recording taken text
 
 -- all the bytes that a reader had were taken, and what is told of them was written
-pub record TellsAll (t : Telling) (before after : Option (List ℕ)) (old new : Option (List ℕ)) : Type 0 where
+pub record TellsAll (t : ChangeOptions) (before after : Option (List ℕ)) (old new : Option (List ℕ)) : Type 0 where
   pub bytes : List ℕ
   pub read : ReadsAll before after bytes
   pub text : List ℕ
@@ -61,14 +61,14 @@ pub record TellsAll (t : Telling) (before after : Option (List ℕ)) (old new : 
   pub written : Appends old new text
 
 -- these bytes came, and what is told of them was written
-pub record TellsThese (t : Telling) (before after : Option (List ℕ)) (bytes : List ℕ) (old new : Option (List ℕ)) : Type 0 where
+pub record TellsThese (t : ChangeOptions) (before after : Option (List ℕ)) (bytes : List ℕ) (old new : Option (List ℕ)) : Type 0 where
   pub comes : ComesFrom before after bytes
   pub text : List ℕ
   pub is : IsTellingOf t bytes text
   pub written : Appends old new text
 
 -- Bytes came, and of what is told of them, or of so many lines of the recording at their front, the beginning was written that such a stop leaves.
-pub record TellsPart (why : Stop) (t : Telling) (before after : Option (List ℕ)) (old new : Option (List ℕ)) : Type 0 where
+pub record TellsPart (why : PrintError) (t : ChangeOptions) (before after : Option (List ℕ)) (old new : Option (List ℕ)) : Type 0 where
   pub bytes : List ℕ
   pub comes : ComesFrom before after bytes
   pub recording : RecordingValue
@@ -89,7 +89,7 @@ pub record FailsAtFront (before after : Option (List ℕ)) (f : LineFault) : Typ
 
 -- What is told of the lines of before was written, and the next line, of this number, is at fault: one that is not skipped, or one without a line feed, with which
 -- the input ends.
-pub record FailsBehind (t : Telling) (before after : Option (List ℕ)) (f : LineFault) (old new : Option (List ℕ)) : Type 0 where
+pub record FailsBehind (t : ChangeOptions) (before after : Option (List ℕ)) (f : LineFault) (old new : Option (List ℕ)) : Type 0 where
   pub bytes : List ℕ
   pub text : List ℕ
   pub recording : RecordingValue

@@ -1,6 +1,6 @@
 -- A run of a recording's lines, and what is told of it.
 use Rattle.std.specs.Prelude.{ℕ, ◌≡◌, ◌≢◌, ◌≤◌, ◌<◌, ◌+◌, ◌⊎◌, ◌++◌, Bool, true, false, List, [], ◌∷◌, length, Option, Result, Ok, Err}
-use Rattle.changes.specs.declared.telling.Wanted.{Wanted}
+use Rattle.changes.specs.declared.printing.ChangeFilter.{ChangeFilter}
 use Rattle.event_state.specs.declared.refusal.Refusal.{Refusal}
 use Rattle.event_state.specs.declared.refusal.Refusal.TheVariants as refusal
 use Rattle.event_state.specs.Steps.{standard_limits}
@@ -13,8 +13,8 @@ use Rattle.route_table.specs.declared.table.Match.{Match}
 use Rattle.route_table.specs.Tables.{IsMatch}
 use Rattle.replay.specs.Pages.{Adds, AddsPart, TakesRoll}
 use Rattle.replay.specs.Runs.{RollsBy}
-use Rattle.replay.specs.declared.page.Stop.{Stop}
-use Rattle.replay.specs.declared.page.Stop.TheVariants as stop
+use Rattle.replay.specs.declared.buffer.PrintError.{PrintError}
+use Rattle.replay.specs.declared.buffer.PrintError.TheVariants as stop
 use Rattle.changes.specs.Lines.{AtFault, Change, Found, Refused, lines_of}
 use Rattle.changes.specs.Changes.{AreDifferences, Give}
 
@@ -78,7 +78,7 @@ TellsTaken answers old (Fails f) new told = (told ≡ AtFault f ∷ []) × (new 
 
 -- From one core to the other, over lines that are numbered from here on: what came of each of them is printed. Behind each, all the changes that were told
 -- give table and due summaries; those of before, and those that were told then.
-abbrev pub TellsLines : Wanted → Bool → CoreValue → ℕ → List Taken → (before : List Change) → (text : List ℕ) → (after : List Change) → CoreValue → Type 0
+abbrev pub TellsLines : ChangeFilter → Bool → CoreValue → ℕ → List Taken → (before : List Change) → (text : List ℕ) → (after : List Change) → CoreValue → Type 0
 TellsLines wanted answers old number [] before text after new = (text ≡ []) × (after ≡ before) × (new ≡ old)
 TellsLines wanted answers old number (t ∷ taken) before text after new =
     (mid : CoreValue) × (told : List Change) × (rest : List ℕ) × TellsTaken answers old t mid told × Give (before ++ told) mid × (text ≡ lines_of number wanted told ++ rest)
@@ -86,45 +86,45 @@ TellsLines wanted answers old number (t ∷ taken) before text after new =
 
 -- ---- one line, printed
 
--- the line led from one core to the other, and what is told of it stands behind the page
-pub record ToldLine (wanted : Wanted) (answers : Bool) (old : CoreValue) (number : ℕ) (l : Line) (new : CoreValue) (from to : Option (List ℕ)) (page put : List ℕ) : Type 0 where
+-- the line led from one core to the other, and what is told of it stands behind the buffer
+pub record ToldLine (wanted : ChangeFilter) (answers : Bool) (old : CoreValue) (number : ℕ) (l : Line) (new : CoreValue) (from to : Option (List ℕ)) (buffer put : List ℕ) : Type 0 where
   pub told : List Change
   pub tells : TellsLine answers old l new told
-  pub printed : Adds from to page put (lines_of number wanted told)
+  pub printed : Adds from to buffer put (lines_of number wanted told)
 
 -- the line was taken, likewise
-pub record ToldTaken (wanted : Wanted) (answers : Bool) (old : CoreValue) (number : ℕ) (t : Taken) (new : CoreValue) (from to : Option (List ℕ)) (page put : List ℕ) : Type 0 where
+pub record ToldTaken (wanted : ChangeFilter) (answers : Bool) (old : CoreValue) (number : ℕ) (t : Taken) (new : CoreValue) (from to : Option (List ℕ)) (buffer put : List ℕ) : Type 0 where
   pub told : List Change
   pub tells : TellsTaken answers old t new told
-  pub printed : Adds from to page put (lines_of number wanted told)
+  pub printed : Adds from to buffer put (lines_of number wanted told)
 
 -- memory ran out, and nothing was written
-abbrev pub StopsBefore : Stop → (from to : Option (List ℕ)) → Type 0
+abbrev pub StopsBefore : PrintError → (from to : Option (List ℕ)) → Type 0
 StopsBefore why from to = (why ≡ stop.Memory) × (to ≡ from)
 
 -- the line was run, and a beginning of what is told of it was written; or memory ran out over what follows from its event
-abbrev pub StopsAtLine : Stop → Wanted → Bool → CoreValue → ℕ → Line → CoreValue → (from to : Option (List ℕ)) → (page : List ℕ) → Type 0
-StopsAtLine why wanted answers old number l new from to page =
-    ((told : List Change) × TellsLine answers old l new told × AddsPart why from to (page ++ lines_of number wanted told)) ⊎ StopsBefore why from to
+abbrev pub StopsAtLine : PrintError → ChangeFilter → Bool → CoreValue → ℕ → Line → CoreValue → (from to : Option (List ℕ)) → (buffer : List ℕ) → Type 0
+StopsAtLine why wanted answers old number l new from to buffer =
+    ((told : List Change) × TellsLine answers old l new told × AddsPart why from to (buffer ++ lines_of number wanted told)) ⊎ StopsBefore why from to
 
 -- the line was taken, likewise
-abbrev pub StopsAtTaken : Stop → Wanted → Bool → CoreValue → ℕ → Taken → CoreValue → (from to : Option (List ℕ)) → (page : List ℕ) → Type 0
-StopsAtTaken why wanted answers old number t new from to page =
-    ((told : List Change) × TellsTaken answers old t new told × AddsPart why from to (page ++ lines_of number wanted told)) ⊎ StopsBefore why from to
+abbrev pub StopsAtTaken : PrintError → ChangeFilter → Bool → CoreValue → ℕ → Taken → CoreValue → (from to : Option (List ℕ)) → (buffer : List ℕ) → Type 0
+StopsAtTaken why wanted answers old number t new from to buffer =
+    ((told : List Change) × TellsTaken answers old t new told × AddsPart why from to (buffer ++ lines_of number wanted told)) ⊎ StopsBefore why from to
 
 -- ---- all of them, printed
 
 -- a beginning of what is told of the lines was written
-pub record ToldPart (why : Stop) (wanted : Wanted) (answers : Bool) (old : CoreValue) (number : ℕ) (taken : List Taken) (before : List Change) (from to : Option (List ℕ)) (page : List ℕ) : Type 0 where
+pub record ToldPart (why : PrintError) (wanted : ChangeFilter) (answers : Bool) (old : CoreValue) (number : ℕ) (taken : List Taken) (before : List Change) (from to : Option (List ℕ)) (buffer : List ℕ) : Type 0 where
   pub text : List ℕ
   pub after : List Change
   pub now : CoreValue
   pub run : TellsLines wanted answers old number taken before text after now
-  pub part : AddsPart why from to (page ++ text)
+  pub part : AddsPart why from to (buffer ++ text)
 
--- the lines were taken, and what is told of them stands behind the page
-pub record Told (wanted : Wanted) (answers : Bool) (old : CoreValue) (number : ℕ) (taken : List Taken) (before : List Change) (new : CoreValue) (from to : Option (List ℕ)) (page put : List ℕ) : Type 0 where
+-- the lines were taken, and what is told of them stands behind the buffer
+pub record Told (wanted : ChangeFilter) (answers : Bool) (old : CoreValue) (number : ℕ) (taken : List Taken) (before : List Change) (new : CoreValue) (from to : Option (List ℕ)) (buffer put : List ℕ) : Type 0 where
   pub text : List ℕ
   pub after : List Change
   pub run : TellsLines wanted answers old number taken before text after new
-  pub printed : Adds from to page put text
+  pub printed : Adds from to buffer put text

@@ -12,14 +12,14 @@ ghost use Rattle.changes.specs.Begun.{Closes};
 ghost use Rattle.changes.specs.Following.{Ends, EndsBehind, StopsBehind, StopsIn, StopsTaking, Takes, Tells};
 ghost use Rattle.replay.specs.Advance.{IsProgress};
 
-use crate::lines::{Place, put_fault};
-use crate::opening::FrontEnd;
+use crate::lines::{LineContext, put_fault};
+use crate::opening::PreambleEnd;
 use crate::running::tell_line;
 use event_core::{Core, Limits};
 use line_reader::{LONGEST, LineReader, Next, ReadFault};
 use ospf_types::memory::Memory;
 use recording::{Fault, Line, LineFault, Version, read_line};
-use replay::{CannotWrite, Progress, ReplayFault, Stop, fault_of, spill, write_page};
+use replay::{WriteError, Progress, ReplayFault, PrintError, fault_of, flush_if_full, flush_buffer};
 use std::alloc::Global;
 use std::io;
 
@@ -32,13 +32,13 @@ pub(crate) struct Run {
     pub(crate) version: Version,
     pub(crate) core: Core,
     /// The place of the line that comes next.
-    pub(crate) at: Place,
+    pub(crate) at: LineContext,
     /// Whether a line at fault is told of and skipped.
-    pub(crate) skips: bool,
+    pub(crate) skips_faults: bool,
     /// How much is done, where that is shown.
     pub(crate) progress: Progress,
     /// What is not yet written of what was told.
-    pub(crate) page: String,
+    pub(crate) buffer: String,
     /// The line that came, and the bytes of its LSA.
     pub(crate) line: Vec<u8>,
     pub(crate) room: Vec<u8>,
@@ -52,9 +52,9 @@ impl Drop for Run {
             version: _,
             core: _core,
             at: _,
-            skips: _,
+            skips_faults: _,
             progress: _progress,
-            page: _page,
+            buffer: _page,
             line: _line,
             room: _room,
         } = self;
@@ -77,32 +77,32 @@ impl Run {
     /// printed.
     pub(crate) fn go_on<R: io::Read, W: io::Write, F: io::Write>(
         &mut self,
-        front: FrontEnd,
+        front: PreambleEnd,
         lines: &mut LineReader,
         input: &mut R,
         out: &mut W,
         faults: &mut F,
-    ) -> Result<End, Stop>
+    ) -> Result<End, PrintError>
         requires kept { IsCore self.old.core }
         requires current { IsCurrent self.old.core }
         ensures ok { IfOk result (λ end. EndsBehind front end self.old self.new lines.old
             (R.remaining input.old) (R.remaining input.new) (W.contents out.old)
             (W.contents out.new)) }
-        ensures err { AreWhole (string_bytes self.old.page) → IfErr result (λ why.
+        ensures err { AreWhole (string_bytes self.old.buffer) → IfErr result (λ why.
             StopsBehind front why self.old lines.old (R.remaining input.old)
             (R.remaining input.new) (W.contents out.old) (W.contents out.new)) }
         ensures progress { IsProgress self.old.progress (F.contents faults.old)
             (F.contents faults.new) }
     {
         match front {
-            FrontEnd::Line => {
+            PreambleEnd::Line => {
                 if let Some(fault) = self.take(out)? {
                     return Ok(End::AtFault(fault));
                 }
                 self.follow(lines, input, out, faults)
             }
-            FrontEnd::Cut => Ok(End::AtFault(Fault::Truncated)),
-            FrontEnd::Over | FrontEnd::LongLine | FrontEnd::AtFault(_) => Ok(End::Over),
+            PreambleEnd::Cut => Ok(End::AtFault(Fault::Truncated)),
+            PreambleEnd::Over | PreambleEnd::LongLine | PreambleEnd::AtFault(_) => Ok(End::Over),
         }
     }
 
@@ -113,14 +113,14 @@ impl Run {
         input: &mut R,
         out: &mut W,
         faults: &mut F,
-    ) -> Result<End, Stop>
+    ) -> Result<End, PrintError>
         requires kept { IsCore self.old.core }
         requires current { IsCurrent self.old.core }
         ensures ok { (before : List Change) → Give before self.old.core → IfOk result (λ end.
             Ends end before self.old self.new lines.old (R.remaining input.old)
             (R.remaining input.new) (W.contents out.old) (W.contents out.new)) }
         ensures err { (before : List Change) → Give before self.old.core
-            → AreWhole (string_bytes self.old.page) → IfErr result (λ why.
+            → AreWhole (string_bytes self.old.buffer) → IfErr result (λ why.
             StopsIn why before self.old lines.old (R.remaining input.old)
             (R.remaining input.new) (W.contents out.old) (W.contents out.new)) }
         ensures progress { IsProgress self.old.progress (F.contents faults.old)
@@ -134,42 +134,42 @@ impl Run {
                 Ok(Next::Cut) => return Ok(End::AtFault(Fault::Truncated)),
                 Ok(Next::End) => return Ok(End::Over),
                 Err(ReadFault::Read) => return Ok(End::Unread),
-                Err(ReadFault::Memory) => return Err(Stop::Memory),
+                Err(ReadFault::Memory) => return Err(PrintError::Memory),
             }
             if let Some(fault) = self.take(out)? {
                 return Ok(End::AtFault(fault));
             }
         }
-        Err(Stop::Memory)
+        Err(PrintError::Memory)
     }
 
     // Takes the line that came, and prints what is told of it. What is returned is a fault behind which no line is taken.
-    fn take<W: io::Write>(&mut self, out: &mut W) -> Result<Option<Fault>, Stop>
+    fn take<W: io::Write>(&mut self, out: &mut W) -> Result<Option<Fault>, PrintError>
         requires kept { IsCore self.old.core }
         requires current { IsCurrent self.old.core }
         ensures ok { IfOk result (λ fault.
             Takes fault self.old self.new (W.contents out.old) (W.contents out.new)) }
-        ensures err { AreWhole (string_bytes self.old.page) → IfErr result (λ why.
+        ensures err { AreWhole (string_bytes self.old.buffer) → IfErr result (λ why.
             StopsTaking why self.old (W.contents out.old) (W.contents out.new)) }
     {
         if let Some(fault) = self.tell(out)? {
             return Ok(Some(fault));
         }
-        hand_on(&self.at, out, &mut self.page)?;
+        hand_on(&self.at, out, &mut self.buffer)?;
         let Some(next) = self.at.number.checked_add(1) else {
-            return Err(Stop::Memory);
+            return Err(PrintError::Memory);
         };
         self.at.number = next;
         Ok(None)
     }
 
     // Runs the line that came and prints what is told of it, or its fault. What is returned is a fault that is not skipped.
-    fn tell<W: io::Write>(&mut self, out: &mut W) -> Result<Option<Fault>, Stop>
+    fn tell<W: io::Write>(&mut self, out: &mut W) -> Result<Option<Fault>, PrintError>
         requires kept { IsCore self.old.core }
         requires current { IsCurrent self.old.core }
         ensures ok { IfOk result (λ fault.
             Tells fault self.old self.new (W.contents out.old) (W.contents out.new)) }
-        ensures err { AreWhole (string_bytes self.old.page) → IfErr result (λ why.
+        ensures err { AreWhole (string_bytes self.old.buffer) → IfErr result (λ why.
             StopsTaking why self.old (W.contents out.old) (W.contents out.new)) }
     {
         let line = match take_line(
@@ -179,16 +179,16 @@ impl Run {
             &mut self.room,
         ) {
             Ok(line) => line,
-            Err(Fault::Memory) => return Err(Stop::Memory),
+            Err(Fault::Memory) => return Err(PrintError::Memory),
             Err(fault) => {
-                if !self.skips {
+                if !self.skips_faults {
                     return Ok(Some(fault));
                 }
-                tell_fault(&self.at, fault, out, &mut self.page)?;
+                tell_fault(&self.at, fault, out, &mut self.buffer)?;
                 return Ok(None);
             }
         };
-        tell_next(&mut self.core, &self.at, line, out, &mut self.page)?;
+        tell_next(&mut self.core, &self.at, line, out, &mut self.buffer)?;
         Ok(None)
     }
 
@@ -196,8 +196,8 @@ impl Run {
     pub(crate) fn close<W: io::Write>(&mut self, end: End, out: &mut W) -> Result<(), ReplayFault>
         ensures { Closes self.old end result (W.contents out.old) (W.contents out.new) }
     {
-        if let Err(why) = write_page(out, &mut self.page) {
-            return Err(fault_of(Stop::from(why)));
+        if let Err(why) = flush_buffer(out, &mut self.buffer) {
+            return Err(fault_of(PrintError::from(why)));
         }
         match end {
             End::Over => Ok(()),
@@ -211,16 +211,16 @@ impl Run {
 }
 
 // Writes what was told, where answers are asked for.
-fn hand_on<W: io::Write>(at: &Place, out: &mut W, page: &mut String) -> Result<(), CannotWrite>
-    ensures ok { OnOk result (Adds (W.contents out.old) (W.contents out.new) (string_bytes page.old)
-        (string_bytes page.new) []) }
+fn hand_on<W: io::Write>(at: &LineContext, out: &mut W, buffer: &mut String) -> Result<(), WriteError>
+    ensures ok { OnOk result (Adds (W.contents out.old) (W.contents out.new) (string_bytes buffer.old)
+        (string_bytes buffer.new) []) }
     ensures err { IfErr result (λ why. AddsPart (stop_of why) (W.contents out.old)
-        (W.contents out.new) (string_bytes page.old)) }
+        (W.contents out.new) (string_bytes buffer.old)) }
 {
     if !at.answers {
         return Ok(());
     }
-    write_page(out, page)
+    flush_buffer(out, buffer)
 }
 
 // What the line says behind the base. A line that is too long to be read whole is at fault.
@@ -246,22 +246,22 @@ fn take_line(
 // Rolls a long journal, and then runs the line and prints what is told of it.
 fn tell_next<W: io::Write>(
     core: &mut Core,
-    at: &Place,
+    at: &LineContext,
     line: Line,
     out: &mut W,
-    page: &mut String,
-) -> Result<(), Stop>
+    buffer: &mut String,
+) -> Result<(), PrintError>
     requires current { IsCurrent core.old }
     ensures ok { OnOk result (ToldTaken at.now.wanted at.now.answers core.old at.now.number (Comes line)
-        core.new (W.contents out.old) (W.contents out.new) (string_bytes page.old)
-        (string_bytes page.new)) }
+        core.new (W.contents out.old) (W.contents out.new) (string_bytes buffer.old)
+        (string_bytes buffer.new)) }
     ensures kept { OnOk result (IsCore core.new) }
-    ensures err { AreWhole (string_bytes page.old) → IfErr result (λ why.
+    ensures err { AreWhole (string_bytes buffer.old) → IfErr result (λ why.
         StopsAtTaken why at.now.wanted at.now.answers core.old at.now.number (Comes line) core.new
-        (W.contents out.old) (W.contents out.new) (string_bytes page.old)) }
+        (W.contents out.old) (W.contents out.new) (string_bytes buffer.old)) }
 {
     shorten_journal(core)?;
-    tell_line(core, at, line, out, page)
+    tell_line(core, at, line, out, buffer)
 }
 
 // Rolls a long journal. If memory runs out for that, a journal that has room for an event stays long.
@@ -287,18 +287,18 @@ fn shorten_journal(core: &mut Core) -> Result<(), Memory>
 
 // Prints that the line is at fault.
 fn tell_fault<W: io::Write>(
-    at: &Place,
+    at: &LineContext,
     fault: Fault,
     out: &mut W,
-    page: &mut String,
-) -> Result<(), Stop>
-    ensures ok { OnOk result (Adds (W.contents out.old) (W.contents out.new) (string_bytes page.old)
-        (string_bytes page.new) (lines_of at.now.number at.now.wanted (told.AtFault fault ∷ []))) }
-    ensures err { AreWhole (string_bytes page.old) → IfErr result (λ why.
-        AddsPart why (W.contents out.old) (W.contents out.new) (string_bytes page.old
+    buffer: &mut String,
+) -> Result<(), PrintError>
+    ensures ok { OnOk result (Adds (W.contents out.old) (W.contents out.new) (string_bytes buffer.old)
+        (string_bytes buffer.new) (lines_of at.now.number at.now.wanted (told.AtFault fault ∷ []))) }
+    ensures err { AreWhole (string_bytes buffer.old) → IfErr result (λ why.
+        AddsPart why (W.contents out.old) (W.contents out.new) (string_bytes buffer.old
         ++ lines_of at.now.number at.now.wanted (told.AtFault fault ∷ []))) }
 {
-    put_fault(at, fault, page)?;
-    spill(out, page)?;
+    put_fault(at, fault, buffer)?;
+    flush_if_full(out, buffer)?;
     Ok(())
 }

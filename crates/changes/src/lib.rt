@@ -6,9 +6,9 @@ mod lines;
 mod opening;
 mod running;
 mod showing;
-mod telling;
-mod words;
+mod printing;
+mod text_lines;
 
-pub use lines::Place;
-pub use running::tell_lines;
-pub use telling::{Telling, Wanted, tell_changes};
+pub use lines::LineContext;
+pub use running::print_line_changes;
+pub use printing::{ChangeOptions, ChangeFilter, print_changes};

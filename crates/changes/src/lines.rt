@@ -5,8 +5,8 @@ ghost use Rattle.changes.specs.Lines as told;
 ghost use Rattle.changes.specs.Lines.{change_line, line_of};
 ghost use Rattle.changes.specs.Changes.{change_to, due_change};
 
-use crate::telling::Wanted;
-use crate::words;
+use crate::printing::ChangeFilter;
+use crate::text_lines;
 use event_core::{DueSummary, Refusal};
 use ospf_types::key::Dest;
 use ospf_types::memory::Memory;
@@ -17,16 +17,16 @@ use route_table::Item;
 
 /// The number of the line in its recording, and what is told of it.
 #[derive(Clone, Copy)]
-pub struct Place {
+pub struct LineContext {
     pub number: usize,
-    pub wanted: Wanted,
+    pub wanted: ChangeFilter,
     /// Whether it is told what came of a line that changed nothing: a look-up, and what was refused.
     pub answers: bool,
 }
 
 /// The item that the network has now, or that it has none; nothing where another network is asked for.
 pub(crate) fn put_network(
-    at: &Place,
+    at: &LineContext,
     prefix: Prefix,
     item: Option<&Item>,
     text: &mut String,
@@ -43,22 +43,22 @@ pub(crate) fn put_network(
     }
 }
 
-fn put_set(at: &Place, prefix: Prefix, item: &Item, text: &mut String) -> Result<(), Memory>
+fn put_set(at: &LineContext, prefix: Prefix, item: &Item, text: &mut String) -> Result<(), Memory>
     ensures { OnOk result (string_bytes text.new ≡ string_bytes text.old
         ++ change_line at.now.wanted.format at.now.number (told.Set prefix item.now)) }
 {
     match at.wanted.format {
-        Format::Text => words::put_set(at.number, prefix, item, text),
+        Format::Text => text_lines::put_set(at.number, prefix, item, text),
         Format::Json => json_lines::put_set(at.number, prefix, item, text),
     }
 }
 
-fn put_drop(at: &Place, prefix: Prefix, text: &mut String) -> Result<(), Memory>
+fn put_drop(at: &LineContext, prefix: Prefix, text: &mut String) -> Result<(), Memory>
     ensures { OnOk result (string_bytes text.new ≡ string_bytes text.old
         ++ change_line at.now.wanted.format at.now.number (told.Drop prefix)) }
 {
     match at.wanted.format {
-        Format::Text => words::put_drop(at.number, prefix, text),
+        Format::Text => text_lines::put_drop(at.number, prefix, text),
         Format::Json => json_lines::put_drop(at.number, prefix, text),
     }
 }
@@ -66,7 +66,7 @@ fn put_drop(at: &Place, prefix: Prefix, text: &mut String) -> Result<(), Memory>
 /// The metric at which a destination is due in the area now, or that it is due no longer; nothing where another network is
 /// asked for.
 pub(crate) fn put_summary(
-    at: &Place,
+    at: &LineContext,
     area: u32,
     change: (Dest, Option<u32>),
     text: &mut String,
@@ -83,29 +83,29 @@ pub(crate) fn put_summary(
     }
 }
 
-fn put_due(at: &Place, area: u32, dest: Dest, metric: u32, text: &mut String) -> Result<(), Memory>
+fn put_due(at: &LineContext, area: u32, dest: Dest, metric: u32, text: &mut String) -> Result<(), Memory>
     ensures { OnOk result (string_bytes text.new ≡ string_bytes text.old
         ++ change_line at.now.wanted.format at.now.number (told.Due area dest metric)) }
 {
     let due = DueSummary::of(dest, metric);
     match at.wanted.format {
-        Format::Text => words::put_due(at.number, area, due, text),
+        Format::Text => text_lines::put_due(at.number, area, due, text),
         Format::Json => json_lines::put_due(at.number, area, due, text),
     }
 }
 
-fn put_undue(at: &Place, area: u32, dest: Dest, text: &mut String) -> Result<(), Memory>
+fn put_undue(at: &LineContext, area: u32, dest: Dest, text: &mut String) -> Result<(), Memory>
     ensures { OnOk result (string_bytes text.new ≡ string_bytes text.old
         ++ change_line at.now.wanted.format at.now.number (told.Undue area dest)) }
 {
     match at.wanted.format {
-        Format::Text => words::put_undue(at.number, area, DueSummary::of(dest, 0), text),
+        Format::Text => text_lines::put_undue(at.number, area, DueSummary::of(dest, 0), text),
         Format::Json => json_lines::put_undue(at.number, area, dest, text),
     }
 }
 
 /// The event, or the roll, was refused.
-pub(crate) fn put_refused(at: &Place, refusal: Refusal, text: &mut String) -> Result<(), Memory>
+pub(crate) fn put_refused(at: &LineContext, refusal: Refusal, text: &mut String) -> Result<(), Memory>
     ensures { OnOk result (string_bytes text.new ≡ string_bytes text.old
         ++ change_line at.now.wanted.format at.now.number (told.Refused refusal)) }
 {
@@ -113,12 +113,12 @@ pub(crate) fn put_refused(at: &Place, refusal: Refusal, text: &mut String) -> Re
 }
 
 /// The line is at fault.
-pub(crate) fn put_fault(at: &Place, fault: Fault, text: &mut String) -> Result<(), Memory>
+pub(crate) fn put_fault(at: &LineContext, fault: Fault, text: &mut String) -> Result<(), Memory>
     ensures { OnOk result (string_bytes text.new ≡ string_bytes text.old
         ++ change_line at.now.wanted.format at.now.number (told.AtFault fault)) }
 {
     match at.wanted.format {
-        Format::Text => words::put_fault(at.number, fault, text),
+        Format::Text => text_lines::put_fault(at.number, fault, text),
         Format::Json => {
             let line = at.number;
             json_lines::put_fault(LineFault { line, fault }, text)

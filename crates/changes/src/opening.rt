@@ -2,10 +2,10 @@
 ghost use Rattle.std.specs.Prelude.{◌≡◌, ◌↔◌, ◌++◌, ◌∷◌, [], IfErr, IfOk, IsTrue, OnOk};
 ghost use Rattle.replay.specs.Parts.{IsParsed};
 ghost use Rattle.changes.specs.Openings.{HasFault, IsAdded, IsFaultWith, IsFrontFault, IsLooked, IsWhole, Opens, ends_after, last_line};
-ghost use Rattle.changes.specs.declared.opening.FrontEnd.TheVariants as front_end;
+ghost use Rattle.changes.specs.declared.opening.PreambleEnd.TheVariants as front_end;
 
 use line_reader::{LONGEST, LineReader, Next, ReadFault};
-use recording::{Fault, LineFault, Recording, is_of_front, parse};
+use recording::{Fault, LineFault, Recording, is_preamble_line, parse};
 use replay::{ReplayFault, parse_bytes};
 use std::alloc::{AllocError, Global};
 use std::io;
@@ -16,7 +16,7 @@ const LONG_FRONT: usize = 1 << 20;
 
 /// What ends the front.
 #[derive(Clone, Copy)]
-pub(crate) enum FrontEnd {
+pub(crate) enum PreambleEnd {
     /// Nothing more comes.
     Over,
     /// A line that is none of the front.
@@ -38,7 +38,7 @@ pub(crate) struct Opening {
     lines: usize,
     /// The line that came last.
     pub(crate) line: Vec<u8>,
-    pub(crate) end: FrontEnd,
+    pub(crate) end: PreambleEnd,
 }
 
 /// Takes the lines at the front, and the first that is none of the front.
@@ -54,7 +54,7 @@ pub(crate) fn read_opening<R: io::Read>(
         front: Vec::new(alloc),
         lines: 0,
         line: Vec::new(alloc),
-        end: FrontEnd::Over,
+        end: PreambleEnd::Over,
     };
     let mut limit = LONG_FRONT;
     for _ in 0..usize::MAX {
@@ -83,7 +83,7 @@ impl Opening {
     fn is_over(&self) -> bool
         ensures { IsTrue result ↔ (self.now.end ≡ front_end.Over) }
     {
-        matches!(self.end, FrontEnd::Over)
+        matches!(self.end, PreambleEnd::Over)
     }
 
     // Adds the line that came, if it is one of the front.
@@ -91,7 +91,7 @@ impl Opening {
         ensures { OnOk result (IsAdded (ends_after self.old.line.items front_end.Line) (10 ∷ [])
             self.old self.new) }
     {
-        self.end = end_after(self.line.as_slice(), FrontEnd::Line);
+        self.end = end_after(self.line.as_slice(), PreambleEnd::Line);
         self.hold(b"\n")
     }
 
@@ -100,7 +100,7 @@ impl Opening {
         ensures { OnOk result (IsAdded (ends_after self.old.line.items front_end.Cut) []
             self.old self.new) }
     {
-        self.end = end_after(self.line.as_slice(), FrontEnd::Cut);
+        self.end = end_after(self.line.as_slice(), PreambleEnd::Cut);
         self.hold(b"")
     }
 
@@ -109,12 +109,12 @@ impl Opening {
         ensures { OnOk result (IsAdded self.old.end feed.now self.old self.new) }
     {
         match self.end {
-            FrontEnd::Over | FrontEnd::LongLine => {
+            PreambleEnd::Over | PreambleEnd::LongLine => {
                 self.front.extend_from_slice(self.line.as_slice())?;
                 self.front.extend_from_slice(feed)?;
                 self.lines = self.lines.saturating_add(1);
             }
-            FrontEnd::Line | FrontEnd::Cut | FrontEnd::AtFault(_) => {}
+            PreambleEnd::Line | PreambleEnd::Cut | PreambleEnd::AtFault(_) => {}
         }
         Ok(())
     }
@@ -131,7 +131,7 @@ impl Opening {
         *limit = self.front.len().saturating_mul(2);
         if let Err(fault) = parse(alloc, self.front.as_slice()) {
             if fault.line < self.lines {
-                self.end = FrontEnd::AtFault(fault);
+                self.end = PreambleEnd::AtFault(fault);
             }
         }
     }
@@ -144,11 +144,11 @@ impl Opening {
         ensures fault { IfErr result (IsFrontFault self.now) }
     {
         match self.end {
-            FrontEnd::Over => parse_bytes(alloc, self.front.as_slice()),
-            FrontEnd::Line => self.recording_before(alloc, b"\n"),
-            FrontEnd::Cut => self.recording_before(alloc, b""),
-            FrontEnd::LongLine => Err(ReplayFault::Line(self.fault_of_long_line(alloc))),
-            FrontEnd::AtFault(fault) => Err(ReplayFault::Line(fault)),
+            PreambleEnd::Over => parse_bytes(alloc, self.front.as_slice()),
+            PreambleEnd::Line => self.recording_before(alloc, b"\n"),
+            PreambleEnd::Cut => self.recording_before(alloc, b""),
+            PreambleEnd::LongLine => Err(ReplayFault::Line(self.fault_of_long_line(alloc))),
+            PreambleEnd::AtFault(fault) => Err(ReplayFault::Line(fault)),
         }
     }
 
@@ -206,14 +206,14 @@ fn number_of_last(text: &[u8]) -> usize
 }
 
 // What comes of the line for the front: `other` where it is none of it.
-fn end_after(line: &[u8], other: FrontEnd) -> FrontEnd
+fn end_after(line: &[u8], other: PreambleEnd) -> PreambleEnd
     ensures { result ≡ ends_after line.now other }
 {
-    if !is_of_front(line) {
+    if !is_preamble_line(line) {
         other
     } else if line.len() < LONGEST {
-        FrontEnd::Over
+        PreambleEnd::Over
     } else {
-        FrontEnd::LongLine
+        PreambleEnd::LongLine
     }
 }

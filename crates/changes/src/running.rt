@@ -10,38 +10,38 @@ ghost use Rattle.changes.specs.Lines as told;
 ghost use Rattle.changes.specs.Lines.{lines_of};
 ghost use Rattle.changes.specs.Runs.{MayPass, Says, StopsAtLine, Told, ToldLine, ToldPart, answered};
 
-use crate::lines::{Place, put_refused};
+use crate::lines::{LineContext, put_refused};
 use crate::showing::show_changes;
 use event_core::{Core, Event, Refusal, Status};
 use recording::Line;
-use replay::{Stop, put_lookup, spill};
+use replay::{PrintError, put_lookup, flush_if_full};
 use std::io;
 
 /// Runs the lines, the first of which has its number in `from`, and prints what is told of each of them. Where memory runs out
 /// over an event, it stops there; but where answers are asked for, an event that was refused for it is told of like another.
-pub fn tell_lines<W: io::Write>(
+pub fn print_line_changes<W: io::Write>(
     core: &mut Core,
-    from: Place,
+    from: LineContext,
     lines: Vec<Line>,
     out: &mut W,
-    page: &mut String,
-) -> Result<(), Stop>
+    buffer: &mut String,
+) -> Result<(), PrintError>
     requires kept { IsCore core.old }
     requires current { IsCurrent core.old }
     requires few { from.number + length lines.items < 2 ^ 64 }
     ensures ok { OnOk result (Told from.wanted from.answers core.old from.number
         (map Says lines.items) (all_of core.old) core.new (W.contents out.old) (W.contents out.new)
-        (string_bytes page.old) (string_bytes page.new)) }
+        (string_bytes buffer.old) (string_bytes buffer.new)) }
     ensures kept { OnOk result (IsCore core.new) }
     ensures current { OnOk result (IsCurrent core.new) }
-    ensures err { AreWhole (string_bytes page.old) → IfErr result (λ why. (count : ℕ)
+    ensures err { AreWhole (string_bytes buffer.old) → IfErr result (λ why. (count : ℕ)
         × ToldPart why from.wanted from.answers core.old from.number
         (map Says (take count lines.items)) (all_of core.old) (W.contents out.old)
-        (W.contents out.new) (string_bytes page.old)) }
+        (W.contents out.new) (string_bytes buffer.old)) }
 {
     let mut at = from;
     for line in lines {
-        tell_line(core, &at, line, out, page)?;
+        tell_line(core, &at, line, out, buffer)?;
         at.number += 1;
     }
     Ok(())
@@ -50,24 +50,24 @@ pub fn tell_lines<W: io::Write>(
 /// Runs a line, and prints what is told of it.
 pub(crate) fn tell_line<W: io::Write>(
     core: &mut Core,
-    at: &Place,
+    at: &LineContext,
     line: Line,
     out: &mut W,
-    page: &mut String,
-) -> Result<(), Stop>
+    buffer: &mut String,
+) -> Result<(), PrintError>
     requires current { IsCurrent core.old }
     ensures ok { OnOk result (ToldLine at.now.wanted at.now.answers core.old at.now.number line
-        core.new (W.contents out.old) (W.contents out.new) (string_bytes page.old)
-        (string_bytes page.new)) }
+        core.new (W.contents out.old) (W.contents out.new) (string_bytes buffer.old)
+        (string_bytes buffer.new)) }
     ensures kept { OnOk result (IsCore core.new) }
-    ensures err { AreWhole (string_bytes page.old) → IfErr result (λ why.
+    ensures err { AreWhole (string_bytes buffer.old) → IfErr result (λ why.
         StopsAtLine why at.now.wanted at.now.answers core.old at.now.number line core.new
-        (W.contents out.old) (W.contents out.new) (string_bytes page.old)) }
+        (W.contents out.old) (W.contents out.new) (string_bytes buffer.old)) }
 {
     match line {
-        Line::Event(event) => tell_event(core, at, event, out, page)?,
-        Line::Lookup(address) => tell_lookup(core, at, address, out, page)?,
-        Line::Roll => tell_roll(core, at, out, page)?,
+        Line::Event(event) => tell_event(core, at, event, out, buffer)?,
+        Line::Lookup(address) => tell_lookup(core, at, address, out, buffer)?,
+        Line::Roll => tell_roll(core, at, out, buffer)?,
     }
     // proof: what holds of every core.
     let _ = core.table();
@@ -77,33 +77,33 @@ pub(crate) fn tell_line<W: io::Write>(
 // Applies the event, and prints what it changed, or that it was refused.
 fn tell_event<W: io::Write>(
     core: &mut Core,
-    at: &Place,
+    at: &LineContext,
     event: Event,
     out: &mut W,
-    page: &mut String,
-) -> Result<(), Stop>
+    buffer: &mut String,
+) -> Result<(), PrintError>
     requires current { IsCurrent core.old }
     ensures ok { OnOk result (ToldLine at.now.wanted at.now.answers core.old at.now.number
         (line_is.Event event) core.new (W.contents out.old) (W.contents out.new)
-        (string_bytes page.old) (string_bytes page.new)) }
-    ensures err { AreWhole (string_bytes page.old) → IfErr result (λ why.
+        (string_bytes buffer.old) (string_bytes buffer.new)) }
+    ensures err { AreWhole (string_bytes buffer.old) → IfErr result (λ why.
         StopsAtLine why at.now.wanted at.now.answers core.old at.now.number (line_is.Event event)
-        core.new (W.contents out.old) (W.contents out.new) (string_bytes page.old)) }
+        core.new (W.contents out.old) (W.contents out.new) (string_bytes buffer.old)) }
 {
     let reply = match core.apply(event) {
         Ok(reply) => reply,
         Err(refusal) => {
             if is_missed(at.answers, refusal) {
-                return Err(Stop::Memory);
+                return Err(PrintError::Memory);
             }
-            return tell_refused(at, refusal, out, page);
+            return tell_refused(at, refusal, out, buffer);
         }
     };
     match reply.state {
         Status::Current => {}
-        Status::Behind => return Err(Stop::Memory),
+        Status::Behind => return Err(PrintError::Memory),
     }
-    show_changes(core, at, out, page)?;
+    show_changes(core, at, out, buffer)?;
     Ok(())
 }
 
@@ -118,64 +118,64 @@ fn is_missed(answers: bool, refusal: Refusal) -> bool
 // Prints what the table has for the address, where answers are asked for.
 fn tell_lookup<W: io::Write>(
     core: &Core,
-    at: &Place,
+    at: &LineContext,
     address: u32,
     out: &mut W,
-    page: &mut String,
-) -> Result<(), Stop>
+    buffer: &mut String,
+) -> Result<(), PrintError>
     ensures ok { OnOk result (ToldLine at.now.wanted at.now.answers core.now at.now.number
         (line_is.Lookup address) core.now (W.contents out.old) (W.contents out.new)
-        (string_bytes page.old) (string_bytes page.new)) }
-    ensures err { AreWhole (string_bytes page.old) → IfErr result (λ why.
+        (string_bytes buffer.old) (string_bytes buffer.new)) }
+    ensures err { AreWhole (string_bytes buffer.old) → IfErr result (λ why.
         StopsAtLine why at.now.wanted at.now.answers core.now at.now.number (line_is.Lookup address)
-        core.now (W.contents out.old) (W.contents out.new) (string_bytes page.old)) }
+        core.now (W.contents out.old) (W.contents out.new) (string_bytes buffer.old)) }
 {
     if !at.answers {
         return Ok(());
     }
-    put_lookup(at.wanted.format, at.number, address, core.table(), page)?;
-    spill(out, page)?;
+    put_lookup(at.wanted.format, at.number, address, core.table(), buffer)?;
+    flush_if_full(out, buffer)?;
     Ok(())
 }
 
 // Rolls the core, and prints where that was refused.
 fn tell_roll<W: io::Write>(
     core: &mut Core,
-    at: &Place,
+    at: &LineContext,
     out: &mut W,
-    page: &mut String,
-) -> Result<(), Stop>
+    buffer: &mut String,
+) -> Result<(), PrintError>
     ensures ok { OnOk result (ToldLine at.now.wanted at.now.answers core.old at.now.number
-        line_is.Roll core.new (W.contents out.old) (W.contents out.new) (string_bytes page.old)
-        (string_bytes page.new)) }
-    ensures err { AreWhole (string_bytes page.old) → IfErr result (λ why.
+        line_is.Roll core.new (W.contents out.old) (W.contents out.new) (string_bytes buffer.old)
+        (string_bytes buffer.new)) }
+    ensures err { AreWhole (string_bytes buffer.old) → IfErr result (λ why.
         StopsAtLine why at.now.wanted at.now.answers core.old at.now.number line_is.Roll core.new
-        (W.contents out.old) (W.contents out.new) (string_bytes page.old)) }
+        (W.contents out.old) (W.contents out.new) (string_bytes buffer.old)) }
 {
     match core.roll() {
         Ok(_) => Ok(()),
-        Err(refusal) => tell_refused(at, refusal, out, page),
+        Err(refusal) => tell_refused(at, refusal, out, buffer),
     }
 }
 
 // Prints that the event, or the roll, was refused, where answers are asked for.
 fn tell_refused<W: io::Write>(
-    at: &Place,
+    at: &LineContext,
     refusal: Refusal,
     out: &mut W,
-    page: &mut String,
-) -> Result<(), Stop>
-    ensures ok { OnOk result (Adds (W.contents out.old) (W.contents out.new) (string_bytes page.old)
-        (string_bytes page.new)
+    buffer: &mut String,
+) -> Result<(), PrintError>
+    ensures ok { OnOk result (Adds (W.contents out.old) (W.contents out.new) (string_bytes buffer.old)
+        (string_bytes buffer.new)
         (lines_of at.now.number at.now.wanted (answered at.now.answers (told.Refused refusal)))) }
-    ensures err { AreWhole (string_bytes page.old) → IfErr result (λ why.
-        AddsPart why (W.contents out.old) (W.contents out.new) (string_bytes page.old
+    ensures err { AreWhole (string_bytes buffer.old) → IfErr result (λ why.
+        AddsPart why (W.contents out.old) (W.contents out.new) (string_bytes buffer.old
         ++ lines_of at.now.number at.now.wanted (answered at.now.answers (told.Refused refusal)))) }
 {
     if !at.answers {
         return Ok(());
     }
-    put_refused(at, refusal, page)?;
-    spill(out, page)?;
+    put_refused(at, refusal, buffer)?;
+    flush_if_full(out, buffer)?;
     Ok(())
 }

@@ -2,8 +2,8 @@
 use Rattle.std.specs.Prelude.{ℕ, ◌≡◌, ◌⊎◌, List, [], Option, string_bytes}
 use Rattle.std.specs.Io.KnownBytes.{Appends}
 use Rattle.replay.specs.Writing.{AppendsPart}
-use Rattle.replay.specs.declared.writing.CannotWrite.{CannotWrite}
-use Rattle.replay.specs.declared.writing.CannotWrite.TheVariants.{Failed, Closed}
+use Rattle.replay.specs.declared.writing.WriteError.{WriteError}
+use Rattle.replay.specs.declared.writing.WriteError.TheVariants.{Failed, Closed}
 use Rattle.command_answers.specs.declared.answer.Answer.{Answer}
 use Rattle.command_answers.specs.declared.answer.Answer.TheVariants as answer
 use Rattle.command_answers.specs.declared.command_fault.CommandFault.{CommandFault}
@@ -45,13 +45,13 @@ abbrev pub IsWritten : AnswerValue → (status : ℕ) (output output_now fault f
 IsWritten a status o on f fn = Appends o on a.output × IsSaid a.fault a.status status f fn
 
 -- That the output is not written whole was said on standard error; but where its pipe was closed, nothing was written there. The status is 1.
-abbrev pub IsUnwrittenSaid : CannotWrite → (status : ℕ) (old new : Option (List ℕ)) → Type 0
+abbrev pub IsUnwrittenSaid : WriteError → (status : ℕ) (old new : Option (List ℕ)) → Type 0
 IsUnwrittenSaid Failed status old new = IsSaidOf fault.Write status old new
 IsUnwrittenSaid Closed status old new = (status ≡ 1) × (new ≡ old)
 
 -- the output was cut, and what has to be said of that was said
 abbrev pub IsCutShort : AnswerValue → (status : ℕ) (output output_now fault fault_now : Option (List ℕ)) → Type 0
-IsCutShort a status o on f fn = AppendsPart o on a.output × ((why : CannotWrite) × IsUnwrittenSaid why status f fn)
+IsCutShort a status o on f fn = AppendsPart o on a.output × ((why : WriteError) × IsUnwrittenSaid why status f fn)
 
 -- The program told the answer: all that it wrote to both streams, and its status. The status is that of the answer, but where a writer failed 1.
 abbrev pub IsTold : AnswerValue → (status : ℕ) (output output_now fault fault_now : Option (List ℕ)) → Type 0

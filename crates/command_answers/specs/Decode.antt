@@ -7,7 +7,7 @@ use Rattle.ospf_types.specs.Lsa.{Lsa}
 use Rattle.ospf_types.specs.Text.{address_text}
 use Rattle.lsa_codec.specs.Spelling.{body_bytes}
 use Rattle.lsa_words.specs.Words.{words_of}
-use Rattle.command_answers.specs.declared.words.WordFault.TheVariants.{NotAnAddress, NotHexadecimal, NotANumber, NotANetwork, Memory}
+use Rattle.command_answers.specs.declared.argument_values.WordFault.TheVariants.{NotAnAddress, NotHexadecimal, NotANumber, NotANetwork, Memory}
 use Rattle.command_answers.specs.declared.command_fault.CommandFault.{CommandFault}
 use Rattle.command_answers.specs.declared.command_fault.CommandFault.TheVariants as fault
 use Rattle.command_answers.specs.Words.{IsHexadecimal, WritesLsa, HasWireFault}

@@ -8,7 +8,7 @@ use Rattle.lsa_codec.specs.Text.{wire_fault_text}
 use Rattle.config_faults.specs.Texts.{config_fault_text}
 use Rattle.event_state.specs.Texts.{refusal_text}
 use Rattle.recording.specs.Texts.{line_fault_text}
-use Rattle.command_answers.specs.declared.words.WordFault.TheVariants.{NotAnAddress, NotHexadecimal, NotANumber, NotANetwork}
+use Rattle.command_answers.specs.declared.argument_values.WordFault.TheVariants.{NotAnAddress, NotHexadecimal, NotANumber, NotANetwork}
 use Rattle.command_answers.specs.declared.command_fault.CommandFault.{CommandFault}
 use Rattle.command_answers.specs.declared.command_fault.CommandFault.TheVariants as fault
 use Rattle.command_answers.specs.Words.{fault_text}

@@ -19,9 +19,9 @@ use Rattle.event_state.specs.States.{State}
 use Rattle.event_state.specs.Steps.{run_of, refusal_of, IsLegalList}
 use Rattle.route_table.specs.Tables.{TableValue, IsMatch}
 use Rattle.route_table.specs.Texts.{match_text}
-use Rattle.publication.specs.Forwarders.{Sighted}
+use Rattle.publication.specs.Forwarders.{SeenValue}
 use Rattle.publication.specs.Published.{IsTableFor}
-use Rattle.command_answers.specs.declared.words.OneInput.{OneInput}
+use Rattle.command_answers.specs.declared.argument_values.OneInput.{OneInput}
 use Rattle.command_answers.specs.declared.command_fault.CommandFault.{CommandFault}
 use Rattle.command_answers.specs.declared.command_fault.CommandFault.TheVariants as fault
 use Rattle.command_line.specs.Command.{OneTexts}
@@ -88,7 +88,7 @@ pub record Prints (g : Given) (line : List ℕ) : Type 0 where
   pub printed : line ≡ lookup_line (address_text g.lookup) table found
 
 -- the line has the match of the address in a table that was seen, which follows two events
-pub record PrintsSeen (s : Sighted) (line : List ℕ) : Type 0 where
+pub record PrintsSeen (s : SeenValue) (line : List ℕ) : Type 0 where
   pub both : length s.list ≡ 2
   pub right : IsTableFor s.name.base s.list s.table
   pub found : Match

@@ -8,8 +8,8 @@ use Rattle.lsa_codec.specs.Spelling.{Spells}
 use Rattle.lsa_codec.specs.Faults.{fault_of}
 use Rattle.lsa_codec.specs.declared.fault.WireFault.{WireFault}
 use Rattle.lsa_codec.specs.declared.fault.WireFault.TheVariants as wire
-use Rattle.command_answers.specs.declared.words.WordFault.{WordFault}
-use Rattle.command_answers.specs.declared.words.WordFault.TheVariants.{NotAnAddress, NotHexadecimal, NotANumber, NotANetwork, Memory}
+use Rattle.command_answers.specs.declared.argument_values.WordFault.{WordFault}
+use Rattle.command_answers.specs.declared.argument_values.WordFault.TheVariants.{NotAnAddress, NotHexadecimal, NotANumber, NotANetwork, Memory}
 use Rattle.command_line.specs.Command.{OneTexts}
 use Rattle.ospf_types.specs.declared.prefix.Prefix.{Prefix}
 use Rattle.word_reading.specs.Writing.{WritesNetwork}

@@ -1,7 +1,7 @@
 ghost use Rattle.std.specs.Prelude.{◌≡◌, Some};
 ghost use Rattle.command_answers.specs.Faults.{command_fault_text, place_words, status_of};
 
-use crate::words::WordFault;
+use crate::argument_values::WordFault;
 use captures::FaultKind;
 use engine::{ConfigFault, Refusal};
 use lsa_codec::WireFault;

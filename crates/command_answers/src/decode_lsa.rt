@@ -6,10 +6,10 @@ ghost use Rattle.command_answers.specs.Decode.{Decodes, IsDecodeFault, IsDecodeA
 
 use crate::answer::{Answer, answer_fault};
 use crate::command_fault::CommandFault;
-use crate::telling::tell;
-use crate::words;
+use crate::printing::tell;
+use crate::argument_values;
 use lsa_codec::{Checked, Header};
-use lsa_words::put_in_words;
+use lsa_words::put_lsa_text;
 use ospf_types::address::Address;
 use ospf_types::memory::Memory;
 use std::alloc::{AllocError, Global};
@@ -48,7 +48,7 @@ fn decoded(alloc: Global, word: &str, long: bool) -> Result<String, CommandFault
     ensures lines { IfOk result (λ lines. Decodes long word.now (string_bytes lines)) }
     ensures fault { IfErr result (IsDecodeFault word.now) }
 {
-    let bytes = words::bytes(alloc, word)?;
+    let bytes = argument_values::bytes(alloc, word)?;
     let lsa = lsa_codec::read(alloc, bytes.as_slice())?;
     if long {
         return Ok(in_words(alloc, &lsa)?);
@@ -61,7 +61,7 @@ fn in_words(alloc: Global, lsa: &Checked) -> Result<String, Memory>
     ensures { IfOk result (λ lines. string_bytes lines ≡ lsa_in_words lsa.now) }
 {
     let mut lines = String::new(alloc);
-    put_in_words(lsa, &mut lines)?;
+    put_lsa_text(lsa, &mut lines)?;
     Ok(lines)
 }
 

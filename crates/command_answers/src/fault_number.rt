@@ -5,8 +5,8 @@ ghost use Rattle.command_answers.specs.Number.{Advises, HasNoAdvice, IsNumberAns
 
 use crate::answer::{Answer, answer_fault};
 use crate::command_fault::CommandFault;
-use crate::telling::tell;
-use crate::words::WordFault;
+use crate::printing::tell;
+use crate::argument_values::WordFault;
 use numbers::advice;
 use std::alloc::Global;
 use std::io;

@@ -11,8 +11,8 @@ ghost use Rattle.command_answers.specs.One.{Answer as HasLine, HasLearned, IsFau
 
 use crate::answer::{Answer, answer_fault};
 use crate::command_fault::CommandFault;
-use crate::telling::tell;
-use crate::words::{OneInput, read_one};
+use crate::printing::tell;
+use crate::argument_values::{OneInput, read_one};
 use command_line::OneWords;
 use engine::{Answer as Taken, Engine, Event, Forwarder, OpenFault, Refusal, Refused, Seen, Told};
 use lsa_codec::Checked;
@@ -125,7 +125,7 @@ fn open_engine<S: Wait>(
         }
         Err(OpenFault::Config(fault)) => Err(CommandFault::Config(fault)),
         Err(OpenFault::Place) => Err(CommandFault::Place),
-        Err(OpenFault::Doubled | OpenFault::Unfit(_) | OpenFault::Readers) => unreachable!(),
+        Err(OpenFault::Doubled | OpenFault::EntryFault(_) | OpenFault::Readers) => unreachable!(),
     }
 }
 

@@ -9,7 +9,7 @@ use ospf_types::lsa::LS_INFINITY;
 use ospf_types::prefix::Prefix;
 
 /// How many areas a router has at most.
-pub const MOST_AREAS: usize = 16;
+pub const MAX_AREAS: usize = 16;
 
 // How many ranges an area has at most.
 const MOST_RANGES: usize = 32;
@@ -39,7 +39,7 @@ pub fn fault_in(config: &Config) -> Option<ConfigFault>
 fn has_wrong_areas(areas: &[AreaConfig]) -> bool
     ensures { result ≡ has_wrong_areas areas.now }
 {
-    areas.is_empty() || areas.len() > MOST_AREAS || has_alike(areas)
+    areas.is_empty() || areas.len() > MAX_AREAS || has_alike(areas)
 }
 
 // Whether two areas have one Area ID.

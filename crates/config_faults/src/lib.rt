@@ -4,5 +4,5 @@
 mod config_fault;
 mod fault;
 
-pub use config_fault::{MOST_AREAS, fault_in};
+pub use config_fault::{MAX_AREAS, fault_in};
 pub use fault::ConfigFault;

@@ -6,7 +6,7 @@ use Rattle.ospf_types.specs.declared.entry.Vertex.TheVariants.{Router, Network}
 use Rattle.ospf_types.specs.declared.hop.NextHop.{NextHop}
 use Rattle.ospf_types.specs.Text.{address_text, hop_text}
 use Rattle.drawings.specs.declared.drawing.DrawnVertex.{DrawnVertex}
-use Rattle.drawings.specs.declared.drawing.Place.{Place}
+use Rattle.drawings.specs.declared.drawing.GridCell.{GridCell}
 use Rattle.drawings.specs.declared.drawing.Roles.{Roles}
 use Rattle.drawings.specs.Layout.{x_of, y_of, text_start}
 
@@ -34,7 +34,7 @@ circle_start class x y =
     codes "<circle class=\"" ++ (class ++ (codes "\" cx=\"" ++ (decimal x ++ (codes "\" cy=\"" ++ (decimal y ++ codes "\" r=\"8\">")))))
 
 -- a circle of this class, which has the title
-abbrev pub circle_text : (class : List ℕ) → Place → (title : List ℕ) → List ℕ
+abbrev pub circle_text : (class : List ℕ) → GridCell → (title : List ℕ) → List ℕ
 circle_text class p title = circle_start class (x_of p.column) (y_of p.row) ++ title ++ codes "</circle>\n"
 
 -- the beginning of a rectangle, whose upper left corner is this point
@@ -43,11 +43,11 @@ rectangle_start x y =
     codes "<rect class=\"n\" x=\"" ++ (decimal x ++ (codes "\" y=\"" ++ (decimal y ++ codes "\" width=\"14\" height=\"12\" rx=\"2\">")))
 
 -- a rectangle with its middle at a place, which has the title
-abbrev pub rectangle_text : Place → (title : List ℕ) → List ℕ
+abbrev pub rectangle_text : GridCell → (title : List ℕ) → List ℕ
 rectangle_text p title = rectangle_start (x_of p.column - 7) (y_of p.row - 6) ++ title ++ codes "</rect>\n"
 
 -- a circle for a router, a rectangle for a network
-abbrev pub mark_text : (root : ℕ) → Vertex → Place → (title : List ℕ) → List ℕ
+abbrev pub mark_text : (root : ℕ) → Vertex → GridCell → (title : List ℕ) → List ℕ
 mark_text root (Router id) p title = circle_text (router_class root id) p title
 mark_text root (Network id) p title = rectangle_text p title
 
@@ -61,7 +61,7 @@ name_text (Router id) r = address_text id ++ roles_text r
 name_text (Network id) r = address_text id
 
 -- a name below a place
-abbrev pub label_text : Place → (name : List ℕ) → List ℕ
+abbrev pub label_text : GridCell → (name : List ℕ) → List ℕ
 label_text p name = text_start (codes "t") (x_of p.column) (y_of p.row + 21) ++ name ++ codes "</text>\n"
 
 -- a vertex, where the root has this Router ID

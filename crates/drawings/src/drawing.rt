@@ -6,7 +6,7 @@ use ospf_types::listed::Listed;
 
 /// A place in a picture. Columns are counted from the left, and rows from the top, both from 0.
 #[derive(Clone, Copy, Debug, PartialEq, Eq)]
-pub struct Place {
+pub struct GridCell {
     pub column: u32,
     pub row: u32,
 }
@@ -24,7 +24,7 @@ pub struct Roles {
 #[derive(Debug)]
 pub struct DrawnVertex {
     pub vertex: Vertex,
-    pub place: Place,
+    pub place: GridCell,
     /// The roles of a router; none of a transit network.
     pub roles: Roles,
     /// Its distance from the root: a sum of metrics (RFC 2328, 16.1).
@@ -50,7 +50,7 @@ impl Drop for DrawnVertex {
 #[derive(Clone, Copy, Debug, PartialEq, Eq)]
 pub struct DrawnEnd {
     pub vertex: Vertex,
-    pub place: Place,
+    pub place: GridCell,
 }
 
 /// A link of the graph.

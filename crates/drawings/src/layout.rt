@@ -2,7 +2,7 @@
 ghost use Rattle.std.specs.Prelude.{◌≡◌, ◌++◌, OnOk, Some, string_bytes};
 ghost use Rattle.drawings.specs.Layout as layout;
 
-use crate::drawing::Place;
+use crate::drawing::GridCell;
 use ospf_types::memory::Memory;
 use std::fmt;
 
@@ -39,14 +39,14 @@ pub(crate) fn height_of(rows: u32) -> Pixels
 
 /// How far the curve from one place to the other is drawn upwards, so that it does not run through what stands between
 /// them.
-pub(crate) fn lift(from: Place, to: Place) -> Pixels
+pub(crate) fn lift(from: GridCell, to: GridCell) -> Pixels
     ensures { result ≡ layout.lift from to }
 {
     if is_blocked(from, to) { 26 } else { 0 }
 }
 
 // Whether both are in one row with a column between them.
-fn is_blocked(from: Place, to: Place) -> bool
+fn is_blocked(from: GridCell, to: GridCell) -> bool
     ensures { result ≡ layout.is_blocked from to }
 {
     from.row == to.row && from.column.abs_diff(to.column) > 1
@@ -54,7 +54,7 @@ fn is_blocked(from: Place, to: Place) -> bool
 
 /// Where the curve from one place to the other is drawn to: halfway, or to the right of both where they are in one
 /// column.
-pub(crate) fn bend_x(from: Place, to: Place) -> Pixels
+pub(crate) fn bend_x(from: GridCell, to: GridCell) -> Pixels
     ensures { result ≡ layout.bend_x from to }
 {
     if from.column == to.column {
@@ -81,7 +81,7 @@ impl fmt::Display for Point {
 }
 
 /// Where a place is in the picture.
-pub(crate) fn point_of(place: Place) -> Point
+pub(crate) fn point_of(place: GridCell) -> Point
     ensures x { result.x ≡ layout.x_of place.column }
     ensures y { result.y ≡ layout.y_of place.row }
 {

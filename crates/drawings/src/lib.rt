@@ -9,5 +9,5 @@ mod links;
 mod picture;
 mod vertices;
 
-pub use drawing::{Drawing, DrawnEnd, DrawnLink, DrawnVertex, Place, Roles};
+pub use drawing::{Drawing, DrawnEnd, DrawnLink, DrawnVertex, GridCell, Roles};
 pub use picture::put_drawing;

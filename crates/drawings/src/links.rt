@@ -3,7 +3,7 @@ ghost use Rattle.std.specs.Prelude.{◌≡◌, ◌++◌, OnOk, string_bytes};
 ghost use Rattle.std.specs.List.{flat_map};
 ghost use Rattle.drawings.specs.Links as link_words;
 
-use crate::drawing::{DrawnLink, Place};
+use crate::drawing::{DrawnLink, GridCell};
 use crate::layout::{Pixels, Point, bend_x, lift, point_of, put_text_start, y_of};
 use crate::vertices::id_of;
 use ospf_types::address::Address;
@@ -76,7 +76,7 @@ fn put_link(class: &str, link: &DrawnLink, text: &mut String) -> Result<(), Memo
 }
 
 // A Bezier curve. Its control points are where it is drawn to.
-fn put_curve(from: Place, to: Place, text: &mut String) -> Result<(), Memory>
+fn put_curve(from: GridCell, to: GridCell, text: &mut String) -> Result<(), Memory>
     ensures { OnOk result (string_bytes text.new ≡ string_bytes text.old
         ++ link_words.curve_text from to) }
 {
@@ -102,7 +102,7 @@ fn put_title(link: &DrawnLink, text: &mut String) -> Result<(), Memory>
 }
 
 // The cost beside the middle of a link; nothing where it is 0, as from a network to its routers.
-fn put_cost(from: Place, to: Place, cost: u32, text: &mut String) -> Result<(), Memory>
+fn put_cost(from: GridCell, to: GridCell, cost: u32, text: &mut String) -> Result<(), Memory>
     ensures { OnOk result (string_bytes text.new ≡ string_bytes text.old
         ++ link_words.cost_text from to cost) }
 {
@@ -119,7 +119,7 @@ fn put_cost(from: Place, to: Place, cost: u32, text: &mut String) -> Result<(), 
 }
 
 // Where the cost of a link stands: to the right of the middle, or to the left of it where the link leads down.
-fn cost_x(from: Place, to: Place) -> Pixels
+fn cost_x(from: GridCell, to: GridCell) -> Pixels
     ensures { result ≡ link_words.cost_x from to }
 {
     let middle = bend_x(from, to);
@@ -131,7 +131,7 @@ fn cost_x(from: Place, to: Place) -> Pixels
 }
 
 // How high the cost of a link stands: above one that stays in its row, and else below it.
-fn cost_y(from: Place, to: Place) -> Pixels
+fn cost_y(from: GridCell, to: GridCell) -> Pixels
     ensures { result ≡ link_words.cost_y from to }
 {
     if from.row == to.row {

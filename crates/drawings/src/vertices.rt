@@ -4,7 +4,7 @@ ghost use Rattle.std.specs.List.{flat_map};
 ghost use Rattle.drawings.specs.Layout.{x_of, y_of};
 ghost use Rattle.drawings.specs.Vertices as vertex_words;
 
-use crate::drawing::{DrawnVertex, Place, Roles};
+use crate::drawing::{DrawnVertex, GridCell, Roles};
 use crate::layout::{Point, point_of, put_text_start};
 use ospf_types::address::Address;
 use ospf_types::entry::Vertex;
@@ -141,7 +141,7 @@ fn put_label(vertex: &DrawnVertex, text: &mut String) -> Result<(), Memory>
 }
 
 // Where a name stands: below its place.
-fn label_point(place: Place) -> Point
+fn label_point(place: GridCell) -> Point
     ensures x { result.x ≡ x_of place.column }
     ensures y { result.y ≡ y_of place.row + 21 }
 {

@@ -3,5 +3,5 @@
 
 mod explained;
 
-pub use due_reasons::{DueExplained, DueFate, DueReason, DueSource, SourceKind};
+pub use due_reasons::{DueExplained, DueVerdict, DueReason, DueSource, SourceKind};
 pub use explained::explain_due;

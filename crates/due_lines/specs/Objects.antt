@@ -41,7 +41,7 @@ cost_data (Some cost) = number_data cost
 -- a source, and what becomes of it
 abbrev pub due_source_data : DueSource → Data
 due_source_data s =
-    if is_taken s.fate
+    if is_taken s.verdict
     then object_of (
     (codes "area", address_data s.area)
     ∷ (codes "cost", cost_data s.cost)
@@ -51,7 +51,7 @@ due_source_data s =
     else object_of (
     (codes "area", address_data s.area)
     ∷ (codes "cost", cost_data s.cost)
-    ∷ (codes "reason", string (reason_text s.fate))
+    ∷ (codes "reason", string (reason_text s.verdict))
     ∷ (codes "source", string (source_kind_text s.kind))
     ∷ (codes "step", string step_text)
     ∷ (codes "type", string (codes "lost"))

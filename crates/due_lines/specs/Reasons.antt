@@ -1,8 +1,8 @@
 -- Why a summary is due in an area, or is not (RFC 2328, 12.4.3), and what becomes of what could give it.
 use Rattle.std.specs.Prelude.{ℕ, ◌++◌, Bool, true, false, List, [], ◌∷◌, Option, Some, None, codes}
 use Rattle.ospf_types.specs.Text.{prefix_text}
-use Rattle.due_reasons.specs.declared.due.DueFate.{DueFate}
-use Rattle.due_reasons.specs.declared.due.DueFate.TheVariants.{OwnArea, Infinity, InRange, NotAdvertised, NoNetwork, Lesser, Given}
+use Rattle.due_reasons.specs.declared.due.DueVerdict.{DueVerdict}
+use Rattle.due_reasons.specs.declared.due.DueVerdict.TheVariants.{OwnArea, Infinity, InRange, NotAdvertised, NoNetwork, Lesser, Given}
 use Rattle.due_reasons.specs.declared.due.DueReason.{DueReason}
 use Rattle.due_reasons.specs.declared.due.DueReason.TheVariants.{NotConfigured, NotBorder, NotActive, StubRouter, StubDefault, StubHides, Sources}
 use Rattle.due_reasons.specs.declared.due.DueSource.{DueSource}
@@ -11,12 +11,12 @@ use Rattle.due_reasons.specs.declared.due.DueSource.{DueSource}
 abbrev pub step_text : List ℕ
 step_text = codes "12.4.3"
 
-abbrev pub is_taken : DueFate → Bool
+abbrev pub is_taken : DueVerdict → Bool
 is_taken Given = true
 is_taken _ = false
 
 -- why a source gives no summary, or that it gives it
-abbrev pub reason_text : DueFate → List ℕ
+abbrev pub reason_text : DueVerdict → List ℕ
 reason_text OwnArea = codes "it is of the area itself"
 reason_text Infinity = codes "its cost is LSInfinity or more"
 reason_text (InRange p) = codes "the range " ++ prefix_text p ++ codes " of its area has the network"

@@ -51,6 +51,6 @@ due_source_text s = cost_text s.cost ++ codes " " ++ source_kind_text s.kind ++ 
 -- a source, and what becomes of it
 abbrev pub due_source_words : DueSource → List ℕ
 due_source_words s =
-    if is_taken s.fate
+    if is_taken s.verdict
     then codes "taken " ++ due_source_text s
-    else codes "lost " ++ due_source_text s ++ codes " at " ++ step_text ++ codes ": " ++ reason_text s.fate
+    else codes "lost " ++ due_source_text s ++ codes " at " ++ step_text ++ codes ": " ++ reason_text s.verdict

@@ -4,7 +4,7 @@ ghost use Rattle.std.specs.List.{flat_map};
 ghost use Rattle.due_lines.specs.Lines.{due_explanation_text, due_source_line};
 ghost use Rattle.due_lines.specs.Reasons.{sources_of};
 
-use crate::{objects, words};
+use crate::{objects, text_lines};
 use due_reasons::{DueExplained, DueReason, DueSource};
 use ospf_types::key::Dest;
 use ospf_types::memory::Memory;
@@ -33,7 +33,7 @@ pub fn put_due_explanation(
 {
     let ExplainedDue { area, dest, due } = explained;
     match format {
-        Format::Text => words::put_due(area, dest, due, text)?,
+        Format::Text => text_lines::put_due(area, dest, due, text)?,
         Format::Json => objects::put_due(area, dest, due, text)?,
     }
     put_sources(format, sources_in(&due.reason), text)
@@ -64,7 +64,7 @@ fn put_due_source(format: Format, source: &DueSource, text: &mut String) -> Resu
         ++ due_source_line format source.now) }
 {
     match format {
-        Format::Text => words::put_due_source(source, text),
+        Format::Text => text_lines::put_due_source(source, text),
         Format::Json => objects::put_due_source(source, text),
     }
 }

@@ -8,6 +8,6 @@
 mod explained;
 mod objects;
 mod reasons;
-mod words;
+mod text_lines;
 
 pub use explained::{ExplainedDue, put_due_explanation};

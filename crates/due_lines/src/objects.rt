@@ -8,7 +8,7 @@ ghost use Rattle.due_lines.specs.Objects.{cost_data, due_line_data, due_source_d
 ghost use Rattle.due_lines.specs.Lines.{due_line, due_source_line};
 
 use crate::reasons::{FateField, STEP, due_reason_of, is_taken, kind_of};
-use crate::words::source_kind;
+use crate::text_lines::source_kind;
 use due_reasons::{DueExplained, DueSource};
 use json_objects::Object;
 use ospf_types::key::Dest;
@@ -68,13 +68,13 @@ fn source_object(alloc: Global, source: &DueSource) -> Result<Object, Memory>
     object.put_address("area", source.area)?;
     put_cost(&mut object, source.cost)?;
     object.put_text("source", source_kind(source.kind))?;
-    if is_taken(source.fate) {
+    if is_taken(source.verdict) {
         object.put_text("type", "taken")?;
         return Ok(object);
     }
     object.put_text("type", "lost")?;
     object.put_text("step", STEP)?;
-    object.put_string("reason", FateField(source.fate).to_string(alloc)?)?;
+    object.put_string("reason", FateField(source.verdict).to_string(alloc)?)?;
     Ok(object)
 }
 

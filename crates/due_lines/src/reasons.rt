@@ -3,7 +3,7 @@ ghost use Rattle.std.specs.Prelude.{◌≡◌, Some, option_copied};
 ghost use Rattle.summary_lists.specs.Lists.{kind_of as kind_of_dest};
 ghost use Rattle.due_lines.specs.Reasons as reasons;
 
-use due_reasons::{DueFate, DueReason};
+use due_reasons::{DueVerdict, DueReason};
 use ospf_types::key::Dest;
 use std::fmt;
 use summary_lists::DueSummary;
@@ -12,10 +12,10 @@ use summary_lists::DueSummary;
 pub(crate) const STEP: &str = "12.4.3";
 
 /// Whether the source gives the summary at its metric.
-pub(crate) fn is_taken(fate: DueFate) -> bool
-    ensures { result ≡ reasons.is_taken fate }
+pub(crate) fn is_taken(verdict: DueVerdict) -> bool
+    ensures { result ≡ reasons.is_taken verdict }
 {
-    matches!(fate, DueFate::Given)
+    matches!(verdict, DueVerdict::Given)
 }
 
 /// The reason that is told of the summary itself; none where its sources are the reason.
@@ -38,24 +38,24 @@ pub(crate) fn due_reason_of(reason: &DueReason) -> Option<&'static str>
 
 /// Prints why a source gives no summary, or that it gives it.
 #[derive(Clone, Copy)]
-pub(crate) struct FateField(pub(crate) DueFate);
+pub(crate) struct FateField(pub(crate) DueVerdict);
 
 impl fmt::Display for FateField {
-    ghost output = { λ fate. Some (reasons.reason_text fate.0) };
+    ghost output = { λ verdict. Some (reasons.reason_text verdict.0) };
 
     fn fmt<W: fmt::Write>(&self, f: &mut fmt::Formatter<W>) -> fmt::Result {
         match self.0 {
-            DueFate::OwnArea => f.write_str("it is of the area itself"),
-            DueFate::Infinity => f.write_str("its cost is LSInfinity or more"),
-            DueFate::InRange(network) => {
+            DueVerdict::OwnArea => f.write_str("it is of the area itself"),
+            DueVerdict::Infinity => f.write_str("its cost is LSInfinity or more"),
+            DueVerdict::InRange(network) => {
                 write!(f, "the range {network} of its area has the network")
             }
-            DueFate::NotAdvertised => f.write_str("the range is not advertised"),
-            DueFate::NoNetwork => {
+            DueVerdict::NotAdvertised => f.write_str("the range is not advertised"),
+            DueVerdict::NoNetwork => {
                 f.write_str("no network of the range costs less than LSInfinity")
             }
-            DueFate::Lesser => f.write_str("another one costs more"),
-            DueFate::Given => f.write_str("its cost is the metric"),
+            DueVerdict::Lesser => f.write_str("another one costs more"),
+            DueVerdict::Given => f.write_str("its cost is the metric"),
         }
     }
 }

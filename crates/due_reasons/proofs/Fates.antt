@@ -10,37 +10,37 @@ use Rattle.ospf_types.specs.declared.prefix.Prefix.{Prefix}
 use Rattle.ospf_types.specs.Inter.{LSInfinity}
 use Rattle.ospf_types.specs.Summaries.{IsGreatest}
 use Rattle.ospf_types.proofs.Elements.{no_element, first_element, later_element, first_or_later}
-use Rattle.external.specs.Preferred.{PreferredValue}
+use Rattle.external.specs.AsbrRoute.{PreferredValue}
 use Rattle.summaries.specs.Giving.{Advertises, GivesIn, InterGives, IntraGives, IsComponentIn, IsOutside, PreferredGives, RangeGives, RangeGivesBy}
 use Rattle.summaries.specs.Inputs.{SummaryInputsValue}
 use Rattle.due_reasons.proofs.Ranges.{not_outside}
 use Rattle.due_reasons.specs.Sources.{AreNetworkSources, AreRangeSources, GivesAmong, GivesInto, IsEntrySource, IsInterFate, IsIntraFate, IsPreferredSource, IsRangeFate, IsRangeSource, IsRouteFate, listed}
-use Rattle.due_reasons.specs.declared.due.DueFate.{DueFate}
-use Rattle.due_reasons.specs.declared.due.DueFate.TheVariants as fate
+use Rattle.due_reasons.specs.declared.due.DueVerdict.{DueVerdict}
+use Rattle.due_reasons.specs.declared.due.DueVerdict.TheVariants as verdict
 use Rattle.due_reasons.specs.declared.due.DueSource.{DueSource}
 use Rattle.due_reasons.specs.declared.due.SourceKind.TheVariants as kind
 
 pub some_same : {A : Type 0} {x y : A} → Some x ≡ Some y → x ≡ y
 some_same e = cc
 
--- ---- the fate of what gives one
+-- ---- the verdict of what gives one
 
-pub route_given : (cost : ℕ) (f : DueFate) → IsRouteFate cost f → cost < LSInfinity → f ≡ fate.Given
-route_given cost fate.Infinity is finite = absurd (let low : LSInfinity ≤ cost = is in omega (arith, low, finite))
-route_given cost fate.Given is finite = refl
+pub route_given : (cost : ℕ) (f : DueVerdict) → IsRouteFate cost f → cost < LSInfinity → f ≡ verdict.Given
+route_given cost verdict.Infinity is finite = absurd (let low : LSInfinity ≤ cost = is in omega (arith, low, finite))
+route_given cost verdict.Given is finite = refl
 route_given cost f is finite = absurd is
 
 module _ (areas : List AreaConfig) (p : Prefix) (through cost : ℕ) where
-  pub intra_given : (f : DueFate) → IsIntraFate areas p through cost f → cost < LSInfinity → IsOutside areas through p → f ≡ fate.Given
-  intra_given fate.Infinity is finite outside = absurd (let low : LSInfinity ≤ cost = is in omega (arith, low, finite))
-  intra_given (fate.InRange r) is finite outside = not_outside areas through p r is.1 outside
-  intra_given fate.Given is finite outside = refl
+  pub intra_given : (f : DueVerdict) → IsIntraFate areas p through cost f → cost < LSInfinity → IsOutside areas through p → f ≡ verdict.Given
+  intra_given verdict.Infinity is finite outside = absurd (let low : LSInfinity ≤ cost = is in omega (arith, low, finite))
+  intra_given (verdict.InRange r) is finite outside = not_outside areas through p r is.1 outside
+  intra_given verdict.Given is finite outside = refl
   intra_given f is finite outside = absurd is
 
-pub range_given : (a : AreaConfig) (p : Prefix) (n : ℕ) (cost : Option ℕ) (f : DueFate) → IsRangeFate a p cost f → Advertises a p → cost ≡ Some n → f ≡ fate.Given
-range_given a p n cost fate.NotAdvertised is told has = absurd (is told)
-range_given a p n cost fate.NoNetwork is told has = absurd (let wrong : None ≡ Some n = sym is.1 ∙ has in cc)
-range_given a p n cost fate.Given is told has = refl
+pub range_given : (a : AreaConfig) (p : Prefix) (n : ℕ) (cost : Option ℕ) (f : DueVerdict) → IsRangeFate a p cost f → Advertises a p → cost ≡ Some n → f ≡ verdict.Given
+range_given a p n cost verdict.NotAdvertised is told has = absurd (is told)
+range_given a p n cost verdict.NoNetwork is told has = absurd (let wrong : None ≡ Some n = sym is.1 ∙ has in cc)
+range_given a p n cost verdict.Given is told has = refl
 range_given a p n cost f is told has = absurd is
 
 -- ---- lists of sources
@@ -87,7 +87,7 @@ module _ (v : SummaryInputsValue) (area : ℕ) (p : Prefix) where
         let cost : is.0.cost ≡ g.0.cost = ap (λ (e : Entry). e.cost) same in
         let finite : is.0.cost < LSInfinity = subst (λ (m : ℕ). m < LSInfinity) (sym cost) g.3.finite in
         let outside : IsOutside v.areas t.area p = subst (λ (id : ℕ). IsOutside v.areas id p) (sym through) g.4 in
-        (t, refl, ((λ e. g.3.foreign (sym through ∙ e)), intra_given v.areas p t.area is.0.cost t.fate is.5 finite outside, is.4 ∙ ap Some (cost ∙ g.5))),
+        (t, refl, ((λ e. g.3.foreign (sym through ∙ e)), intra_given v.areas p t.area is.0.cost t.verdict is.5 finite outside, is.4 ∙ ap Some (cost ∙ g.5))),
   )
 
   pub inter_gives : (found : Option DueSource) → IsEntrySource kind.InterArea IsInterFate (get v.inter.entries (Net p)) found → (n : ℕ) → GivesOf area found n ↔ InterGives v area p n
@@ -106,7 +106,7 @@ module _ (v : SummaryInputsValue) (area : ℕ) (p : Prefix) where
         let through : t.area ≡ g.1 = some_same (sym is.2 ∙ ap (λ (e : Entry). e.area) same ∙ g.3.through_area) in
         let cost : is.0.cost ≡ g.0.cost = ap (λ (e : Entry). e.cost) same in
         let finite : is.0.cost < LSInfinity = subst (λ (m : ℕ). m < LSInfinity) (sym cost) g.3.finite in
-        (t, refl, ((λ e. g.3.foreign (sym through ∙ e)), route_given is.0.cost t.fate is.5 finite, is.4 ∙ ap Some (cost ∙ g.4))),
+        (t, refl, ((λ e. g.3.foreign (sym through ∙ e)), route_given is.0.cost t.verdict is.5 finite, is.4 ∙ ap Some (cost ∙ g.4))),
   )
 
 pub preferred_gives : (area : ℕ) (preferred : Option PreferredValue) (found : Option DueSource) → IsPreferredSource preferred found → (n : ℕ) → GivesOf area found n ↔ PreferredGives preferred area n
@@ -123,7 +123,7 @@ preferred_gives area preferred (Some t) is n = (
       let through : t.area ≡ g.0.preference.area = sym is.2 ∙ ap (λ (w : PreferredValue). w.preference.area) same in
       let cost : is.0.preference.cost ≡ g.0.preference.cost = ap (λ (w : PreferredValue). w.preference.cost) same in
       let finite : is.0.preference.cost < LSInfinity = subst (λ (m : ℕ). m < LSInfinity) (sym cost) g.3 in
-      (t, refl, ((λ e. g.2 (sym through ∙ e)), route_given is.0.preference.cost t.fate is.5 finite, is.4 ∙ ap Some (cost ∙ g.4))),
+      (t, refl, ((λ e. g.2 (sym through ∙ e)), route_given is.0.preference.cost t.verdict is.5 finite, is.4 ∙ ap Some (cost ∙ g.4))),
 )
 
 -- ---- ranges
@@ -141,7 +141,7 @@ module _ (v : SummaryInputsValue) (area : ℕ) (p : Prefix) where
         ((λ e. into.0 (is.1 ∙ e)), by.0, (is.3 n).0 into.2),
     λ g.
         let cost : t.cost ≡ Some n = (is.3 n).1 g.2 in
-        (t, refl, ((λ e. g.0 (sym is.1 ∙ e)), range_given a p n t.cost t.fate is.4 g.1 cost, cost)),
+        (t, refl, ((λ e. g.0 (sym is.1 ∙ e)), range_given a p n t.cost t.verdict is.4 g.1 cost, cost)),
   )
 
   -- one of these areas has a range that gives it

@@ -10,7 +10,7 @@ use Rattle.ospf_types.specs.declared.key.Dest.TheVariants.{Net, Router}
 use Rattle.ospf_types.specs.declared.prefix.Prefix.{Prefix}
 use Rattle.ospf_types.specs.Summaries.{IsGreatest, default_route}
 use Rattle.active_ranges.proofs.Greatest.{is_greatest}
-use Rattle.external.specs.Preferred.{PreferredValue}
+use Rattle.external.specs.AsbrRoute.{PreferredValue}
 use Rattle.summaries.specs.Giving.{GivesIn, IsDueIn, IsDueTo, IsMost, IsNetworkDueIn, IsRouterDueIn, IsServed, PreferredGives}
 use Rattle.summaries.specs.Inputs.{SummaryInputsValue}
 use Rattle.due_reasons.specs.Reasons.{AreSeveral, IsReason, IsStubReason, MaySend}

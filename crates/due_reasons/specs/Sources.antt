@@ -12,11 +12,11 @@ use Rattle.ospf_types.specs.Address.{Covers}
 use Rattle.ospf_types.specs.Inter.{LSInfinity}
 use Rattle.active_ranges.specs.Active.{HasCost, HasRange}
 use Rattle.active_ranges.specs.Lists.{IsGreatestBelow}
-use Rattle.external.specs.Preferred.{PreferredValue}
+use Rattle.external.specs.AsbrRoute.{PreferredValue}
 use Rattle.summaries.specs.Giving.{Advertises, IsOutside}
 use Rattle.summaries.specs.Inputs.{SummaryInputsValue}
-use Rattle.due_reasons.specs.declared.due.DueFate.{DueFate}
-use Rattle.due_reasons.specs.declared.due.DueFate.TheVariants as fate
+use Rattle.due_reasons.specs.declared.due.DueVerdict.{DueVerdict}
+use Rattle.due_reasons.specs.declared.due.DueVerdict.TheVariants as verdict
 use Rattle.due_reasons.specs.declared.due.DueSource.{DueSource}
 use Rattle.due_reasons.specs.declared.due.SourceKind.{SourceKind}
 use Rattle.due_reasons.specs.declared.due.SourceKind.TheVariants as kind
@@ -24,12 +24,12 @@ use Rattle.due_reasons.specs.declared.due.SourceKind.TheVariants as kind
 -- ---- what becomes of a source by itself, whichever the area: it gives a summary where nothing is against it
 
 -- an inter-area route, or the route of an AS boundary router
-abbrev pub IsRouteFate : ℕ → DueFate → Type 0
-IsRouteFate cost fate.Infinity = LSInfinity ≤ cost
-IsRouteFate cost fate.Given = cost < LSInfinity
+abbrev pub IsRouteFate : ℕ → DueVerdict → Type 0
+IsRouteFate cost verdict.Infinity = LSInfinity ≤ cost
+IsRouteFate cost verdict.Given = cost < LSInfinity
 IsRouteFate cost _ = ⊥
 
-abbrev pub IsInterFate : ℕ → ℕ → DueFate → Type 0
+abbrev pub IsInterFate : ℕ → ℕ → DueVerdict → Type 0
 IsInterFate through cost f = IsRouteFate cost f
 
 -- a range of the area with this Area ID, which has the network
@@ -44,35 +44,35 @@ abbrev pub HasRangeAround : ℕ → Prefix → AreaConfig → Type 0
 HasRangeAround id p a = (around : Prefix) × IsRangeOf id p a around
 
 -- an intra-area route through this area
-abbrev pub IsIntraFate : List AreaConfig → Prefix → ℕ → ℕ → DueFate → Type 0
-IsIntraFate areas p through cost fate.Infinity = LSInfinity ≤ cost
-IsIntraFate areas p through cost (fate.InRange r) = (cost < LSInfinity) × IsRangeAround areas through p r
-IsIntraFate areas p through cost fate.Given = (cost < LSInfinity) × IsOutside areas through p
+abbrev pub IsIntraFate : List AreaConfig → Prefix → ℕ → ℕ → DueVerdict → Type 0
+IsIntraFate areas p through cost verdict.Infinity = LSInfinity ≤ cost
+IsIntraFate areas p through cost (verdict.InRange r) = (cost < LSInfinity) × IsRangeAround areas through p r
+IsIntraFate areas p through cost verdict.Given = (cost < LSInfinity) × IsOutside areas through p
 IsIntraFate areas p through cost _ = ⊥
 
 -- the area's range with this prefix, where this is the greatest cost of its networks
-abbrev pub IsRangeFate : AreaConfig → Prefix → Option ℕ → DueFate → Type 0
-IsRangeFate a p cost fate.NotAdvertised = Advertises a p → ⊥
-IsRangeFate a p cost fate.NoNetwork = Advertises a p × (cost ≡ None)
-IsRangeFate a p cost fate.Given = Advertises a p × ((n : ℕ) × (cost ≡ Some n))
+abbrev pub IsRangeFate : AreaConfig → Prefix → Option ℕ → DueVerdict → Type 0
+IsRangeFate a p cost verdict.NotAdvertised = Advertises a p → ⊥
+IsRangeFate a p cost verdict.NoNetwork = Advertises a p × (cost ≡ None)
+IsRangeFate a p cost verdict.Given = Advertises a p × ((n : ℕ) × (cost ≡ Some n))
 IsRangeFate a p cost _ = ⊥
 
 -- ---- the sources
 
 -- the entry, with the area that it leads through and its cost; none where there is no entry that leads through an area
-abbrev pub IsEntrySource : SourceKind → (ℕ → ℕ → DueFate → Type 0) → Option Entry → Option DueSource → Type 0
+abbrev pub IsEntrySource : SourceKind → (ℕ → ℕ → DueVerdict → Type 0) → Option Entry → Option DueSource → Type 0
 IsEntrySource k IsFate entry None = (e : Entry) (through : ℕ) → entry ≡ Some e → e.area ≡ Some through → ⊥
-IsEntrySource k IsFate entry (Some s) = (e : Entry) × (entry ≡ Some e) × (e.area ≡ Some s.area) × (s.kind ≡ k) × (s.cost ≡ Some e.cost) × IsFate s.area e.cost s.fate
+IsEntrySource k IsFate entry (Some s) = (e : Entry) × (entry ≡ Some e) × (e.area ≡ Some s.area) × (s.kind ≡ k) × (s.cost ≡ Some e.cost) × IsFate s.area e.cost s.verdict
 
 -- the preferred entry of an AS boundary router
 abbrev pub IsPreferredSource : Option PreferredValue → Option DueSource → Type 0
 IsPreferredSource preferred None = preferred ≡ None
-IsPreferredSource preferred (Some s) = (w : PreferredValue) × (preferred ≡ Some w) × (w.preference.area ≡ s.area) × (s.kind ≡ kind.Preferred) × (s.cost ≡ Some w.preference.cost) × IsRouteFate w.preference.cost s.fate
+IsPreferredSource preferred (Some s) = (w : PreferredValue) × (preferred ≡ Some w) × (w.preference.area ≡ s.area) × (s.kind ≡ kind.Preferred) × (s.cost ≡ Some w.preference.cost) × IsRouteFate w.preference.cost s.verdict
 
 -- the area's range with this prefix, at the greatest finite cost of its networks; none where it has no such range
 abbrev pub IsRangeSource : SummaryInputsValue → AreaConfig → Prefix → Option DueSource → Type 0
 IsRangeSource v a p None = HasRange a p → ⊥
-IsRangeSource v a p (Some s) = HasRange a p × (s.area ≡ a.id) × (s.kind ≡ kind.Range) × IsGreatestBelow LSInfinity (HasCost v.ranges p a.id) s.cost × IsRangeFate a p s.cost s.fate
+IsRangeSource v a p (Some s) = HasRange a p × (s.area ≡ a.id) × (s.kind ≡ kind.Range) × IsGreatestBelow LSInfinity (HasCost v.ranges p a.id) s.cost × IsRangeFate a p s.cost s.verdict
 
 abbrev pub listed : Option DueSource → List DueSource
 listed None = []
@@ -105,16 +105,16 @@ AreSources v (Router router) sources = AreRouterSources (get v.external.preferre
 
 -- it gives a summary at this metric in the area, and does not lead through it
 abbrev pub GivesInto : ℕ → DueSource → ℕ → Type 0
-GivesInto area s metric = (s.area ≢ area) × (s.fate ≡ fate.Given) × (s.cost ≡ Some metric)
+GivesInto area s metric = (s.area ≢ area) × (s.verdict ≡ verdict.Given) × (s.cost ≡ Some metric)
 
 abbrev pub GivesAmong : ℕ → List DueSource → ℕ → Type 0
 GivesAmong area sources metric = (s : DueSource) × Contains sources s × GivesInto area s metric
 
 -- what becomes of it: whether it is of the area itself, and whether its cost is the metric
-abbrev pub fate_in : Bool → Bool → DueFate → DueFate
-fate_in true reached f = fate.OwnArea
-fate_in false false fate.Given = fate.Lesser
+abbrev pub fate_in : Bool → Bool → DueVerdict → DueVerdict
+fate_in true reached f = verdict.OwnArea
+fate_in false false verdict.Given = verdict.Lesser
 fate_in false reached f = f
 
 abbrev pub settled : ℕ → Option ℕ → DueSource → DueSource
-settled area metric s = record s { fate = fate_in (s.area == area) (option_eq eqb s.cost metric) s.fate }
+settled area metric s = record s { verdict = fate_in (s.area == area) (option_eq eqb s.cost metric) s.verdict }

@@ -3,7 +3,7 @@ ghost use Rattle.std.specs.Prelude.{◌≡◌, ◌↔◌, Contains, IsTrue, opti
 ghost use Rattle.due_reasons.specs.Reasons.{AreSeveral, area_with};
 
 use ospf_types::config::AreaConfig;
-use summaries::has_other;
+use summaries::has_other_active_area;
 
 /// The first area with this Area ID.
 pub(crate) fn find_area(areas: &[AreaConfig], id: u32) -> Option<&AreaConfig>
@@ -22,7 +22,7 @@ pub(crate) fn are_several(active: &[u32]) -> bool
     ensures { IsTrue result ↔ AreSeveral active.now }
 {
     match active.first() {
-        Some(first) => has_other(active, *first),
+        Some(first) => has_other_active_area(active, *first),
         None => false,
     }
 }

@@ -1,6 +1,6 @@
 //! What is told of a summary that is due in an area, or is not.
 ghost use Rattle.std.specs.Prelude.{◌≡◌, ◌↔◌, ℕ, Some, None, IsTrue};
-ghost use Rattle.due_reasons.specs.declared.due.DueFate.TheVariants as due_fate;
+ghost use Rattle.due_reasons.specs.declared.due.DueVerdict.TheVariants as due_fate;
 ghost use Rattle.due_reasons.specs.Sources.{GivesInto, settled};
 
 use ospf_types::prefix::Prefix;
@@ -20,7 +20,7 @@ pub enum SourceKind {
 
 /// What becomes of it in an area, by the first of these that holds of it.
 #[derive(Clone, Copy, Debug, PartialEq, Eq)]
-pub enum DueFate {
+pub enum DueVerdict {
     /// It leads through the area itself, or is a range of it.
     OwnArea,
     /// The cost of the route is LSInfinity or more.
@@ -45,7 +45,7 @@ pub struct DueSource {
     pub area: u32,
     /// The cost of the route. Of a range, the greatest cost below LSInfinity that a network of it has; none where none has one.
     pub cost: Option<u32>,
-    pub fate: DueFate,
+    pub verdict: DueVerdict,
 }
 
 /// Why a summary is due in an area, or is not: the first of these that holds.
@@ -104,8 +104,8 @@ impl DueSource {
         ensures { (n : ℕ) → (result ≡ Some n) ↔ GivesInto area self.now n }
     {
         // 12.4.3: what leads through the area itself gives no summary there.
-        match self.fate {
-            DueFate::Given if self.area != area => self.cost,
+        match self.verdict {
+            DueVerdict::Given if self.area != area => self.cost,
             _ => None,
         }
     }
@@ -115,17 +115,17 @@ impl DueSource {
         ensures { self.new ≡ settled area metric self.old }
     {
         if self.area == area {
-            self.fate = DueFate::OwnArea;
+            self.verdict = DueVerdict::OwnArea;
             return;
         }
-        if is_given(&self.fate) && self.cost != metric {
-            self.fate = DueFate::Lesser;
+        if is_given(&self.verdict) && self.cost != metric {
+            self.verdict = DueVerdict::Lesser;
         }
     }
 }
 
-fn is_given(fate: &DueFate) -> bool
-    ensures { IsTrue result ↔ (fate.now ≡ due_fate.Given) }
+fn is_given(verdict: &DueVerdict) -> bool
+    ensures { IsTrue result ↔ (verdict.now ≡ due_fate.Given) }
 {
-    matches!(fate, DueFate::Given)
+    matches!(verdict, DueVerdict::Given)
 }

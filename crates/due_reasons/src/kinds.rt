@@ -6,8 +6,8 @@ ghost use Rattle.due_reasons.specs.Sources.{IsEntrySource, IsInterFate, IsIntraF
 ghost use Rattle.due_reasons.specs.declared.due.SourceKind.TheVariants as source_kind;
 
 use crate::area_ranges::{has_range, range_around};
-use crate::due::{DueFate, DueSource, SourceKind};
-use external::Preferred;
+use crate::due::{DueVerdict, DueSource, SourceKind};
+use external::AsbrRoute;
 use ospf_types::config::AreaConfig;
 use ospf_types::key::Dest;
 use ospf_types::lsa::LS_INFINITY;
@@ -25,7 +25,7 @@ pub(crate) fn intra_source(inputs: &SummaryInputs<'_>, network: Prefix) -> Optio
         kind: SourceKind::IntraArea,
         area,
         cost: Some(entry.cost),
-        fate: intra_fate(inputs.areas, area, network, entry.cost),
+        verdict: intra_fate(inputs.areas, area, network, entry.cost),
     })
 }
 
@@ -40,12 +40,12 @@ pub(crate) fn inter_source(inputs: &SummaryInputs<'_>, network: Prefix) -> Optio
         kind: SourceKind::InterArea,
         area,
         cost: Some(entry.cost),
-        fate: route_fate(entry.cost),
+        verdict: route_fate(entry.cost),
     })
 }
 
 /// The preferred route of an AS boundary router.
-pub(crate) fn preferred_source(preferred: Option<&Preferred>) -> Option<DueSource>
+pub(crate) fn preferred_source(preferred: Option<&AsbrRoute>) -> Option<DueSource>
     ensures { IsPreferredSource (option_copied preferred.entry) result }
 {
     let preferred = preferred?;
@@ -53,7 +53,7 @@ pub(crate) fn preferred_source(preferred: Option<&Preferred>) -> Option<DueSourc
         kind: SourceKind::Preferred,
         area: preferred.area(),
         cost: Some(preferred.cost()),
-        fate: route_fate(preferred.cost()),
+        verdict: route_fate(preferred.cost()),
     })
 }
 
@@ -74,44 +74,44 @@ pub(crate) fn range_source(
         kind: SourceKind::Range,
         area: area.id,
         cost,
-        fate: range_fate(area, prefix, cost),
+        verdict: range_fate(area, prefix, cost),
     })
 }
 
 // What becomes of a route at this cost.
-fn route_fate(cost: u32) -> DueFate
+fn route_fate(cost: u32) -> DueVerdict
     ensures { IsRouteFate cost result }
 {
     // 12.4.3: a cost of LSInfinity or more gives no summary.
     if cost >= LS_INFINITY {
-        return DueFate::Infinity;
+        return DueVerdict::Infinity;
     }
-    DueFate::Given
+    DueVerdict::Given
 }
 
 // What becomes of a network's intra-area route through the area at this cost.
-fn intra_fate(areas: &[AreaConfig], through: u32, network: Prefix, cost: u32) -> DueFate
+fn intra_fate(areas: &[AreaConfig], through: u32, network: Prefix, cost: u32) -> DueVerdict
     ensures { IsIntraFate areas.now network through cost result }
 {
     if cost >= LS_INFINITY {
-        return DueFate::Infinity;
+        return DueVerdict::Infinity;
     }
     // 12.4.3: a network that a range of its area has is advertised only by the range.
     match range_around(areas, through, network) {
-        Some(range) => DueFate::InRange(range),
-        None => DueFate::Given,
+        Some(range) => DueVerdict::InRange(range),
+        None => DueVerdict::Given,
     }
 }
 
 // What becomes of the area's range with this prefix, where this is the greatest cost of its networks.
-fn range_fate(area: &AreaConfig, prefix: Prefix, cost: Option<u32>) -> DueFate
+fn range_fate(area: &AreaConfig, prefix: Prefix, cost: Option<u32>) -> DueVerdict
     ensures { IsRangeFate area.now prefix cost result }
 {
     if !advertises(area, prefix) {
-        return DueFate::NotAdvertised;
+        return DueVerdict::NotAdvertised;
     }
     match cost {
-        Some(_) => DueFate::Given,
-        None => DueFate::NoNetwork,
+        Some(_) => DueVerdict::Given,
+        None => DueVerdict::NoNetwork,
     }
 }

@@ -9,5 +9,5 @@ mod kinds;
 mod reasons;
 mod sources;
 
-pub use due::{DueExplained, DueFate, DueReason, DueSource, SourceKind};
+pub use due::{DueExplained, DueVerdict, DueReason, DueSource, SourceKind};
 pub use reasons::due_reason;

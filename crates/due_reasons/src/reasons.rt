@@ -107,5 +107,5 @@ fn stub_network_reason(stub: Stub, network: Prefix) -> Option<DueExplained>
 fn is_default(network: Prefix) -> bool
     ensures { IsTrue result ↔ (network ≡ default_route) }
 {
-    network == Prefix::of_mask(0, 0)
+    network == Prefix::from_mask(0, 0)
 }

@@ -5,7 +5,7 @@ ghost use Rattle.due_reasons.specs.Sources.{AreNetworkSources, AreRouterSources,
 
 use crate::due::DueSource;
 use crate::kinds::{inter_source, intra_source, preferred_source, range_source};
-use external::Preferred;
+use external::AsbrRoute;
 use ospf_types::key::Dest;
 use ospf_types::memory::Memory;
 use ospf_types::prefix::Prefix;
@@ -64,7 +64,7 @@ fn network_sources(
 }
 
 // The preferred route of the AS boundary router.
-fn router_sources(alloc: Global, preferred: Option<&Preferred>) -> Result<Vec<DueSource>, Memory>
+fn router_sources(alloc: Global, preferred: Option<&AsbrRoute>) -> Result<Vec<DueSource>, Memory>
     ensures { IfOk result (λ sources. AreRouterSources (option_copied preferred.entry)
         sources.items) }
 {

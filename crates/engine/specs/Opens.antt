@@ -10,7 +10,7 @@ use Rattle.event_state.specs.declared.base_fault.BaseFault.{BaseFault}
 use Rattle.event_state.specs.declared.base_fault.BaseFault.TheVariants as base_fault
 use Rattle.event_state.specs.declared.event.Event.{Event}
 use Rattle.event_state.specs.Rolls.{IsRolled}
-use Rattle.publication.specs.Forwarders.{Looker}
+use Rattle.publication.specs.Forwarders.{ForwarderValue}
 use Rattle.publication.specs.Names.{Name}
 use Rattle.publication.specs.Published.{IsLegal}
 use Rattle.engine_state.specs.EngineStates.{AreReaders}
@@ -21,20 +21,20 @@ use Rattle.engine.specs.declared.open_fault.OpenFault.TheVariants as opens
 abbrev pub IsOpenFaultOf : Config → ℕ → OpenFault → Type 0
 IsOpenFaultOf config readers (opens.Config f) = (config_fault_of config ≡ Some f) ⊎ ((f ≡ Memory) × (config_fault_of config ≡ None) × AreReaders readers)
 IsOpenFaultOf config readers opens.Doubled = ⊥
-IsOpenFaultOf config readers (opens.Unfit u) = ⊥
+IsOpenFaultOf config readers (opens.EntryFault u) = ⊥
 IsOpenFaultOf config readers opens.Readers = (config_fault_of config ≡ None) × ((readers ≡ 0) ⊎ (64 < readers))
 IsOpenFaultOf config readers opens.Place = (config_fault_of config ≡ None) × AreReaders readers
 
 abbrev pub open_fault_of : BaseFault → OpenFault
 open_fault_of (base_fault.Config f) = opens.Config f
 open_fault_of base_fault.Doubled = opens.Doubled
-open_fault_of (base_fault.Unfit u) = opens.Unfit u
+open_fault_of (base_fault.EntryFault u) = opens.EntryFault u
 
 -- the first fault of the base before all others, then the same. Before want of memory only a fault of the configuration is looked for
 abbrev pub IsOpenFaultFrom : Base → ℕ → OpenFault → Type 0
 IsOpenFaultFrom base readers (opens.Config f) = (base_fault_of standard_limits base ≡ Some (base_fault.Config f)) ⊎ ((f ≡ Memory) × (config_fault_of base.config ≡ None))
 IsOpenFaultFrom base readers opens.Doubled = base_fault_of standard_limits base ≡ Some base_fault.Doubled
-IsOpenFaultFrom base readers (opens.Unfit u) = base_fault_of standard_limits base ≡ Some (base_fault.Unfit u)
+IsOpenFaultFrom base readers (opens.EntryFault u) = base_fault_of standard_limits base ≡ Some (base_fault.EntryFault u)
 IsOpenFaultFrom base readers opens.Readers = (base_fault_of standard_limits base ≡ None) × ((readers ≡ 0) ⊎ (64 < readers))
 IsOpenFaultFrom base readers opens.Place = (base_fault_of standard_limits base ≡ None) × AreReaders readers
 
@@ -55,12 +55,12 @@ abbrev pub IsLastFault : OpenFault → Type 0
 IsLastFault fault = (fault ≡ opens.Place) ⊎ (fault ≡ opens.Config Memory)
 
 -- the forwarders of an engine that was opened just now
-abbrev pub AreNew : Name → List Looker → Type 0
+abbrev pub AreNew : Name → List ForwarderValue → Type 0
 AreNew name forwarders = All (λ f. (f.name ≡ name) × (f.known ≡ [])) forwarders
 
 -- one more of these
-abbrev pub IsNewAdded : Name → List Looker → List Looker → Type 0
-IsNewAdded name before after = (f : Looker) × (after ≡ before ++ f ∷ []) × (f.name ≡ name) × (f.known ≡ [])
+abbrev pub IsNewAdded : Name → List ForwarderValue → List ForwarderValue → Type 0
+IsNewAdded name before after = (f : ForwarderValue) × (after ≡ before ++ f ∷ []) × (f.name ≡ name) × (f.known ≡ [])
 
 -- some events were rolled into the base
 abbrev pub IsRolledFrom : Base → Base → Type 0

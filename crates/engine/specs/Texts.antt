@@ -12,7 +12,7 @@ use Rattle.engine.specs.declared.open_fault.OpenFault.TheVariants as opens
 abbrev pub open_fault_text : OpenFault → List ℕ
 open_fault_text (opens.Config f) = config_fault_text f
 open_fault_text opens.Doubled = codes "47 Doubled"
-open_fault_text (opens.Unfit u) = unfit_text u
+open_fault_text (opens.EntryFault u) = unfit_text u
 open_fault_text opens.Readers = codes "45 Readers"
 open_fault_text opens.Place = codes "46 Place"
 

@@ -7,7 +7,7 @@ ghost use Rattle.event_state.specs.BaseFaults.{base_fault_of};
 ghost use Rattle.event_state.specs.Rolls.{IsRolled};
 ghost use Rattle.event_state.specs.Steps.{standard_limits};
 ghost use Rattle.event_state.specs.declared.event.Event.{Event as EventValue};
-ghost use Rattle.publication.specs.Forwarders.{Looker};
+ghost use Rattle.publication.specs.Forwarders.{ForwarderValue};
 ghost use Rattle.publication.specs.Published.{IsLegal};
 ghost use Rattle.engine_state.specs.Answers.{IsAnswered, IsDueListOf, IsForArea};
 ghost use Rattle.engine_state.specs.EngineStates.{AreReaders};
@@ -202,7 +202,7 @@ fn of_base(fault: BaseFault) -> OpenFault
     match fault {
         BaseFault::Config(fault) => OpenFault::Config(fault),
         BaseFault::Doubled => OpenFault::Doubled,
-        BaseFault::Unfit(unfit) => OpenFault::Unfit(unfit),
+        BaseFault::EntryFault(unfit) => OpenFault::EntryFault(unfit),
     }
 }
 

@@ -13,6 +13,6 @@ pub use bytes_fault::BytesFault;
 pub use engine::Engine;
 pub use engine_state::{Answer, DueList, Gate, Open, Refused};
 pub use event_core::{ConfigFault, Core, DueSummary, Event, Refusal, Reply, Status};
-pub use event_state::{Base, BaseFault, Unfit};
+pub use event_state::{Base, BaseFault, EntryFault};
 pub use open_fault::OpenFault;
-pub use publication::{Forwarder, Seen, Told, Unseen};
+pub use publication::{Forwarder, Seen, Told, LookupError};

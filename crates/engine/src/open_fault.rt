@@ -3,7 +3,7 @@ ghost use Rattle.std.specs.Prelude.{Some};
 ghost use Rattle.engine.specs.Texts.{open_fault_text};
 
 use event_core::ConfigFault;
-use event_state::Unfit;
+use event_state::EntryFault;
 use std::fmt;
 use thiserror::Error;
 
@@ -15,7 +15,7 @@ pub enum OpenFault {
     /// An interface id, or a key in a scope, is twice in the base.
     Doubled,
     /// No event could have made the base.
-    Unfit(Unfit),
+    EntryFault(EntryFault),
     /// No reader, or more than 64.
     Readers,
     /// There was no place for a reader.
@@ -30,7 +30,7 @@ impl fmt::Display for OpenFault {
         match self {
             OpenFault::Config(fault) => write!(f, "{fault}"),
             OpenFault::Doubled => f.write_str("47 Doubled"),
-            OpenFault::Unfit(unfit) => write!(f, "{unfit}"),
+            OpenFault::EntryFault(unfit) => write!(f, "{unfit}"),
             OpenFault::Readers => f.write_str("45 Readers"),
             OpenFault::Place => f.write_str("46 Place"),
         }

@@ -13,11 +13,11 @@ use Rattle.route_table.specs.declared.table.Item.{Item}
 use Rattle.route_table.specs.Deltas.{Lead}
 use Rattle.publication.specs.Published.{IsShownRight, IsTableFor}
 use Rattle.publication.specs.Updates.{those_of}
-use Rattle.publication.specs.declared.shown.Shown.{Shown}
+use Rattle.publication.specs.declared.published_table.PublishedTable.{PublishedTable}
 use Rattle.engine_state.proofs.Runs.{table_whole}
 use Rattle.engine_state.proofs.Tabling.{same_items, changes_lead}
 
-pub follows : (rolled : List Event) (before after : CoreValue) (shown : Shown) → IsCore before → before.limits ≡ standard_limits → IsShownRight shown → IsRolled shown.base standard_limits rolled before.base
+pub follows : (rolled : List Event) (before after : CoreValue) (shown : PublishedTable) → IsCore before → before.limits ≡ standard_limits → IsShownRight shown → IsRolled shown.base standard_limits rolled before.base
     → shown.front.list ≡ rolled ++ before.journal → before.built ≡ length before.journal
     → AreChanges before.table.items after.table.items after.changes
     → Lead shown.table.items after.table.items (those_of after.table.items after.changes)

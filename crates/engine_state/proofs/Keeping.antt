@@ -16,15 +16,15 @@ use Rattle.event_state.specs.declared.event.Event.{Event}
 use Rattle.event_state.specs.Rolls.{IsRolled}
 use Rattle.event_state.specs.Steps.{standard_limits}
 use Rattle.event_state.proofs.Rolls.{rolled_none}
-use Rattle.event_core.specs.Cores.{CoreValue, IsCore, Stands}
+use Rattle.event_core.specs.Cores.{CoreValue, IsCore, MatchesStatus}
 use Rattle.event_core.specs.declared.reply.Status.{Status}
 use Rattle.event_core.specs.declared.reply.Status.TheVariants.{Current, Behind}
 use Rattle.publication.specs.Lines.{Line}
 use Rattle.publication.specs.Names.{Name}
 use Rattle.publication.specs.Published.{IsTableFor, IsShownRight, name_of}
-use Rattle.publication.specs.declared.shown.ShownState.{ShownState}
-use Rattle.publication.specs.declared.shown.Shown.{Shown}
-use Rattle.publication.specs.declared.shown.Update.{Update}
+use Rattle.publication.specs.declared.published_table.PublishedState.{PublishedState}
+use Rattle.publication.specs.declared.published_table.PublishedTable.{PublishedTable}
+use Rattle.publication.specs.declared.published_table.Update.{Update}
 use Rattle.publication.specs.Updates.{shown_state_of}
 use Rattle.route_table.specs.Tables.{TableValue}
 use Rattle.publication.proofs.Prefixes.{prefix_length, prefix_trans}
@@ -32,7 +32,7 @@ use Rattle.engine_state.specs.EngineStates.{Held, IsBegun, IsKept, IsFresh, Catc
 use Rattle.engine_state.proofs.Runs.{table_whole}
 
 -- table and due summaries are of no fewer events than before
-built_stays : (old new : CoreValue) (s : Status) (m n : ℕ) → n ≤ m + old.built → n ≤ m + length new.journal → Stands old s new → n ≤ m + new.built
+built_stays : (old new : CoreValue) (s : Status) (m n : ℕ) → n ≤ m + old.built → n ≤ m + length new.journal → MatchesStatus old s new → n ≤ m + new.built
 built_stays old new Current m n was within stands = omega (arith, within, stands.0)
 built_stays old new Behind m n was within stands = omega (arith, was, stands.0)
 
@@ -40,13 +40,13 @@ built_stays old new Behind m n was within stands = omega (arith, was, stands.0)
 more_whole : (rolled : Line) (old new : CoreValue) → IsPrefix old.journal new.journal → IsPrefix (list_of rolled old) (list_of rolled new)
 more_whole rolled old new more = (more.0, append_assoc rolled.list old.journal more.0 ∙ ap (λ (w : List Event). rolled.list ++ w) more.1)
 
-begun_stays : (old new : CoreValue) (s : Status) (rolled : Line) (list : List Event) → IsPrefix old.journal new.journal → Stands old s new → IsBegun rolled old list → IsBegun rolled new list
+begun_stays : (old new : CoreValue) (s : Status) (rolled : Line) (list : List Event) → IsPrefix old.journal new.journal → MatchesStatus old s new → IsBegun rolled old list → IsBegun rolled new list
 begun_stays old new s rolled list more stands begun =
     let prefix = prefix_trans list (list_of rolled old) (list_of rolled new) begun.begins (more_whole rolled old new more) in
     let short : length list ≤ length rolled.list + length new.journal = omega (arith, prefix_length list (list_of rolled new) prefix, length-append rolled.list new.journal) in
     record { within = begun.within; begins = prefix; built = built_stays old new s (length rolled.list) (length list) begun.built short stands }
 
-pub core_kept : (old new : CoreValue) (s : Status) (history rolled : Line) (shown : Shown) (known : Option Name) → new.base ≡ old.base → new.limits ≡ old.limits → IsPrefix old.journal new.journal → Stands old s new
+pub core_kept : (old new : CoreValue) (s : Status) (history rolled : Line) (shown : PublishedTable) (known : Option Name) → new.base ≡ old.base → new.limits ≡ old.limits → IsPrefix old.journal new.journal → MatchesStatus old s new
     → IsKept old history rolled shown known → IsKept new history rolled shown known
 core_kept old new s history rolled shown known base limits more stands kept = record {
   book = kept.book;
@@ -58,7 +58,7 @@ core_kept old new s history rolled shown known base limits more stands kept = re
   written = begun_stays old new s rolled history.list more stands kept.written;
 }
 
-pub author_kept : (core : CoreValue) (old new rolled : Line) (shown : Shown) (known : Option Name) → new.book ≡ old.book → IsBegun rolled core new.list → IsKept core old rolled shown known → IsKept core new rolled shown known
+pub author_kept : (core : CoreValue) (old new rolled : Line) (shown : PublishedTable) (known : Option Name) → new.book ≡ old.book → IsBegun rolled core new.list → IsKept core old rolled shown known → IsKept core new rolled shown known
 author_kept core old new rolled shown known book begun kept = record {
   book = book ∙ kept.book;
   base = kept.base;
@@ -70,10 +70,10 @@ author_kept core old new rolled shown known book begun kept = record {
 }
 
 -- what was rolled from the base of one name was rolled from that of the same name
-rolled_as : (rolled : List Event) (base : Base) (old new : Shown) → name_of new ≡ name_of old → IsRolled old.base standard_limits rolled base → IsRolled new.base standard_limits rolled base
+rolled_as : (rolled : List Event) (base : Base) (old new : PublishedTable) → name_of new ≡ name_of old → IsRolled old.base standard_limits rolled base → IsRolled new.base standard_limits rolled base
 rolled_as rolled base old new name is = subst (λ (b : Base). IsRolled b standard_limits rolled base) (sym (ap (λ (n : Name). n.base) name)) is
 
-pub shown_kept : (core : CoreValue) (history front rolled : Line) (old new : Shown) (was known : Option Name) (done : Bool) → front ≡ history → name_of new ≡ name_of old
+pub shown_kept : (core : CoreValue) (history front rolled : Line) (old new : PublishedTable) (was known : Option Name) (done : Bool) → front ≡ history → name_of new ≡ name_of old
     → MatchBool done ((new.front ≡ front) × IsShownRight new) (new ≡ old) → MatchBool done (known ≡ Some (name_of old)) (known ≡ was)
     → IsKept core history rolled old was → IsKept core history rolled new known
 shown_kept core history front rolled old new was known true lent name shown told kept = record {
@@ -91,18 +91,18 @@ shown_kept core history front rolled old new was known false lent name shown tol
   known_is = told ∙ kept.known_is ∙ ap Some (sym name);
   limits = kept.limits;
   right = subst IsShownRight (sym shown) kept.right;
-  published = subst (λ (x : Shown). IsBegun rolled core x.front.list) (sym shown) kept.published;
+  published = subst (λ (x : PublishedTable). IsBegun rolled core x.front.list) (sym shown) kept.published;
   written = kept.written;
 }
 
-pub shown_fresh : (core : CoreValue) (history front rolled : Line) (old new : Shown) (pending : List Update) (done : Bool) → front ≡ history → history.list ≡ list_of rolled core
+pub shown_fresh : (core : CoreValue) (history front rolled : Line) (old new : PublishedTable) (pending : List Update) (done : Bool) → front ≡ history → history.list ≡ list_of rolled core
     → length old.front.list < length (list_of rolled core)
     → MatchBool done ((new.front ≡ front) × IsShownRight new) (new ≡ old) → (done ≡ true → pending ≡ []) → IsFresh (not done) core history rolled new pending
 shown_fresh core history front rolled old new pending true lent whole behind shown empty = (empty refl, ap (λ (l : Line). l.list) (shown.0 ∙ lent) ∙ whole, whole)
-shown_fresh core history front rolled old new pending false lent whole behind shown empty = subst (λ (x : Shown). length x.front.list < length (list_of rolled core)) (sym shown) behind
+shown_fresh core history front rolled old new pending false lent whole behind shown empty = subst (λ (x : PublishedTable). length x.front.list < length (list_of rolled core)) (sym shown) behind
 
 -- a table of the whole list may be published for the history
-pub table_shown : (core : CoreValue) (history rolled : Line) (shown : Shown) (known : Option Name) → IsCore core → IsKept core history rolled shown known → history.list ≡ list_of rolled core → core.built ≡ length core.journal
+pub table_shown : (core : CoreValue) (history rolled : Line) (shown : PublishedTable) (known : Option Name) → IsCore core → IsKept core history rolled shown known → history.list ≡ list_of rolled core → core.built ≡ length core.journal
     → IsTableFor shown.base history.list core.table
 table_shown core history rolled shown known is kept whole built =
     subst (λ (list : List Event). IsTableFor shown.base list core.table) (sym whole) (table_whole shown.base rolled.list core kept.base kept.limits is built)
@@ -117,10 +117,10 @@ opened_table core base list table is limits none same_base empty same_table =
     (table_whole core.base [] core (rolled_none core.base standard_limits) limits is built)
 
 -- what is shown first is the opening core's table
-pub opened_right : (core : CoreValue) (front : Line) (x : Shown) → IsCore core → core.limits ≡ standard_limits → core.journal ≡ [] → front.list ≡ []
+pub opened_right : (core : CoreValue) (front : Line) (x : PublishedTable) → IsCore core → core.limits ≡ standard_limits → core.journal ≡ [] → front.list ≡ []
     → shown_state_of x ≡ record { table = core.table; front = front; base = core.base } → IsShownRight x
 opened_right core front x is limits none first face =
-    opened_table core x.base x.front.list x.table is limits none (ap (λ (f : ShownState). f.base) face) (ap (λ (f : ShownState). f.front.list) face ∙ first) (ap (λ (f : ShownState). f.table) face)
+    opened_table core x.base x.front.list x.table is limits none (ap (λ (f : PublishedState). f.base) face) (ap (λ (f : PublishedState). f.front.list) face ∙ first) (ap (λ (f : PublishedState). f.table) face)
 
 pub match_true : (A B : Type 0) (b : Bool) → b ≡ true → MatchBool b A B → A
 match_true A B true e h = h
@@ -133,7 +133,7 @@ none_named name (suc k) n e = absurd (cc e)
 
 -- what the core's catching up answered, as the state of an engine tells it
 pub caught_up : (old new : CoreValue) (s : Status) (rolled : Line) (before after : Held) → before.built ≡ length rolled.list + old.built → after.list ≡ list_of rolled new → after.built ≡ length rolled.list + new.built
-    → Stands old s new → CatchesUp before s after
+    → MatchesStatus old s new → CatchesUp before s after
 caught_up old new Current rolled before after built list now stands = omega (arith, now, stands.0, ap length list, length-append rolled.list new.journal)
 caught_up old new Behind rolled before after built list now stands =
     (omega (arith, now, stands.0, built), omega (arith, now, ap length list, length-append rolled.list new.journal, stands.3))
@@ -151,7 +151,7 @@ begun_none rolled core list none_rolled none is = record {
   built = omega (arith, ap length is);
 }
 
-pub opened_kept : (core : CoreValue) (history rolled : Line) (shown : Shown) (known : Option Name) → core.journal ≡ [] → core.limits ≡ standard_limits → rolled.list ≡ [] → history.list ≡ [] → shown.front.list ≡ []
+pub opened_kept : (core : CoreValue) (history rolled : Line) (shown : PublishedTable) (known : Option Name) → core.journal ≡ [] → core.limits ≡ standard_limits → rolled.list ≡ [] → history.list ≡ [] → shown.front.list ≡ []
     → history.book ≡ shown.front.book → shown.base ≡ core.base → known ≡ Some (name_of shown) → IsShownRight shown → IsKept core history rolled shown known
 opened_kept core history rolled shown known none limits none_rolled none_written none_shown book base known_is right = record {
   book = book;
@@ -163,7 +163,7 @@ opened_kept core history rolled shown known none limits none_rolled none_written
   written = begun_none rolled core history.list none_rolled none none_written;
 }
 
-pub opened_fresh : (core : CoreValue) (history rolled : Line) (shown : Shown) (pending : List Update) → core.journal ≡ [] → rolled.list ≡ [] → history.list ≡ [] → shown.front.list ≡ [] → pending ≡ []
+pub opened_fresh : (core : CoreValue) (history rolled : Line) (shown : PublishedTable) (pending : List Update) → core.journal ≡ [] → rolled.list ≡ [] → history.list ≡ [] → shown.front.list ≡ [] → pending ≡ []
     → IsFresh false core history rolled shown pending
 opened_fresh core history rolled shown pending none none_rolled none_written none_shown clean =
     let whole = no_list rolled core none_rolled none in

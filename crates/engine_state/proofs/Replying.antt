@@ -13,7 +13,7 @@ use Rattle.event_core.specs.declared.reply.Reply.{Reply}
 use Rattle.event_core.specs.declared.reply.Status.TheVariants.{Current, Behind}
 use Rattle.publication.specs.Names.{Name}
 use Rattle.publication.specs.Published.{IsLegal}
-use Rattle.publication.specs.Told.{Heard}
+use Rattle.publication.specs.Told.{TokenValue}
 use Rattle.publication.proofs.Prefixes.{prefix_shorter, prefix_whole, take_prefix}
 use Rattle.engine_state.specs.Answers.{Answers, Replies, after}
 use Rattle.engine_state.specs.EngineStates.{Held, Tells}
@@ -62,19 +62,19 @@ whole_list n called name list had whole same_name same count begins is =
     let base = ap (λ (m : Name). m.base.serial) same_name in
     prefix_whole list whole (subst (IsPrefix list) same begins) (omega (arith, base, count, is))
 
-pub tells_whole : (called : Name) (had : List Event) (n : ℕ) (told : Option Heard) (name : Name) (whole : List Event) → called ≡ name → had ≡ whole → n ≡ name.base.serial + length whole
+pub tells_whole : (called : Name) (had : List Event) (n : ℕ) (told : Option TokenValue) (name : Name) (whole : List Event) → called ≡ name → had ≡ whole → n ≡ name.base.serial + length whole
     → IfSome told (Tells called had n) → IfSome told (λ t. (t.name ≡ name) × (t.list ≡ whole))
 tells_whole called had n None name whole same_name same count is = tt
 tells_whole called had n (Some t) name whole same_name same count is = (is.0 ∙ same_name, whole_list n called name t.list had whole same_name same count is.1 is.2)
 
-by_told : (name : Name) (before : List Event) (e : Event) (a : Answer) (told : Option Heard) → a.told ≡ told → IsLegal name.base (before ++ e ∷ [])
+by_told : (name : Name) (before : List Event) (e : Event) (a : Answer) (told : Option TokenValue) → a.told ≡ told → IsLegal name.base (before ++ e ∷ [])
     → MatchOption told (a.reply.state ≡ Behind) (λ _. a.reply.state ≡ Current)
     → IfSome told (λ t. (t.name ≡ name) × (t.list ≡ before ++ e ∷ []))
     → MatchOption a.told (a.reply.state ≡ Behind) (λ t. (a.reply.state ≡ Current) × (t.name ≡ name) × (t.list ≡ before ++ e ∷ []) × IsLegal name.base t.list)
 by_told name before e a None same legal state is = rw same state
 by_told name before e a (Some t) same legal state is = rw same (state, is.0, is.1, subst (IsLegal name.base) (sym is.1) legal)
 
-pub answers : (name : Name) (before : List Event) (e : Event) (a : Answer) (told : Option Heard) (engine_state : Held) (serial : ℕ) → a.reply.serial ≡ serial → Replies name.base before e a.reply
+pub answers : (name : Name) (before : List Event) (e : Event) (a : Answer) (told : Option TokenValue) (engine_state : Held) (serial : ℕ) → a.reply.serial ≡ serial → Replies name.base before e a.reply
     → a.told ≡ told
     → MatchOption told (a.reply.state ≡ Behind) (λ _. a.reply.state ≡ Current)
     → engine_state.name ≡ name → engine_state.list ≡ before ++ e ∷ []
@@ -92,7 +92,7 @@ unpublished : (first n : ℕ) (list published : List Event) → n ≡ first + le
 unpublished first n list published count short other is = other (omega (arith, count, ap length is, short))
 
 -- a token for the serial of a beginning has that beginning
-pub tells_beside : (name : Name) (had : List Event) (n : ℕ) (told : Option Heard) (published list : List Event) → IsPrefix list had → n ≡ name.base.serial + length list → length published ≤ length list
+pub tells_beside : (name : Name) (had : List Event) (n : ℕ) (told : Option TokenValue) (published list : List Event) → IsPrefix list had → n ≡ name.base.serial + length list → length published ≤ length list
     → IfNone told (¬ (n ≡ name.base.serial + length published)) → IfSome told (Tells name had n) → MatchOption told (list ≢ []) (λ t. (t.name ≡ name) × (t.list ≡ list))
 tells_beside name had n None published list begins count short none some = unpublished name.base.serial n list published count short none
 tells_beside name had n (Some t) published list begins count short none some =
@@ -100,13 +100,13 @@ tells_beside name had n (Some t) published list begins count short none some =
     (some.0, prefix_whole t.list list (prefix_shorter t.list list had some.1 begins (omega (arith, long))) (omega (arith, long)))
 
 -- a token for the whole list has its list, and it is the published one. Where there is none, less is published
-pub told_whole : (n : ℕ) (told : Option Heard) (name : Name) (whole published : List Event) → n ≡ name.base.serial + length whole
+pub told_whole : (n : ℕ) (told : Option TokenValue) (name : Name) (whole published : List Event) → n ≡ name.base.serial + length whole
     → IfNone told (¬ (n ≡ name.base.serial + length published)) → IfSome told (Tells name whole n) → IfSome told (λ t. t.list ≡ published)
     → MatchOption told (¬ (length whole ≡ length published)) (λ t. (t.list ≡ whole) × (t.list ≡ published))
 told_whole n None name whole published count none some same = λ e. none (omega (arith, count, e))
 told_whole n (Some t) name whole published count none some same = (prefix_whole t.list whole some.1 (omega (arith, count, some.2)), same)
 
 -- where there is no token for the whole list, less is published
-pub none_whole : (first n : ℕ) (told : Option Heard) (whole published : List Event) → n ≡ first + length whole → IfNone told (¬ (n ≡ first + length published)) → IfNone told (¬ (length whole ≡ length published))
+pub none_whole : (first n : ℕ) (told : Option TokenValue) (whole published : List Event) → n ≡ first + length whole → IfNone told (¬ (n ≡ first + length published)) → IfNone told (¬ (length whole ≡ length published))
 none_whole first n None whole published count none = λ e. none (omega (arith, count, e))
 none_whole first n (Some t) whole published count none = tt

@@ -15,8 +15,8 @@ use Rattle.event_state.specs.Steps.{opening, run_of, standard_limits}
 use Rattle.event_core.specs.Cores.{CoreValue, IsCore, Rolls, state_of, IsRollRefusal as IsCoreRefusal}
 use Rattle.publication.specs.Lines.{Line}
 use Rattle.publication.specs.Names.{Name}
-use Rattle.publication.specs.declared.shown.Shown.{Shown}
-use Rattle.publication.specs.declared.shown.Update.{Update}
+use Rattle.publication.specs.declared.published_table.PublishedTable.{PublishedTable}
+use Rattle.publication.specs.declared.published_table.Update.{Update}
 use Rattle.publication.proofs.Prefixes.{prefix_self, prefix_take}
 use Rattle.engine_state.specs.EngineStates.{Held, IsBegun, IsKept, IsFresh, IsRollRefusal, list_of}
 use Rattle.engine_state.proofs.Runs.{legal_core, serial_whole, whole_state}
@@ -63,7 +63,7 @@ rolled_begun old new rolled next list rolls same is =
     whole_begun next new list (rolls.built ∙ sym (ap length rolls.journal))
     (is ∙ sym same ∙ sym (append-nil next.list) ∙ ap (λ (j : List Event). next.list ++ j) (sym rolls.journal))
 
-pub rolled_kept : (old new : CoreValue) (history rolled next : Line) (shown : Shown) (known : Option Name) → IsCore old → Rolls old new → next ≡ history
+pub rolled_kept : (old new : CoreValue) (history rolled next : Line) (shown : PublishedTable) (known : Option Name) → IsCore old → Rolls old new → next ≡ history
     → shown.front.list ≡ list_of rolled old → history.list ≡ list_of rolled old → IsKept old history rolled shown known → IsKept new history next shown known
 rolled_kept old new history rolled next shown known core rolls as_written published written kept =
     let same : next.list ≡ list_of rolled old = ap (λ (l : Line). l.list) as_written ∙ written in
@@ -83,14 +83,14 @@ rolled_list old new history rolled next rolls as_written written =
     ap (λ (j : List Event). next.list ++ j) rolls.journal ∙ append-nil next.list ∙ ap (λ (l : Line). l.list) as_written ∙ written
 
 -- and so nothing is behind
-pub rolled_fresh : (old new : CoreValue) (history rolled next : Line) (shown : Shown) (pending : List Update) → Rolls old new → next ≡ history → IsFresh false old history rolled shown pending
+pub rolled_fresh : (old new : CoreValue) (history rolled next : Line) (shown : PublishedTable) (pending : List Update) → Rolls old new → next ≡ history → IsFresh false old history rolled shown pending
     → IsFresh false new history next shown pending
 rolled_fresh old new history rolled next shown pending rolls as_written fresh =
     let same = sym (rolled_list old new history rolled next rolls as_written fresh.2) in
     (fresh.0, fresh.1 ∙ same, fresh.2 ∙ same)
 
 -- where a core is not rolled, less is published than was taken; or all of it is, and memory ran out
-pub roll_refusal : (core : CoreValue) (rolled : Line) (shown : Shown) (d : Held) (r : Refusal) → core.built ≡ length core.journal → shown.front.list ≡ list_of rolled core
+pub roll_refusal : (core : CoreValue) (rolled : Line) (shown : PublishedTable) (d : Held) (r : Refusal) → core.built ≡ length core.journal → shown.front.list ≡ list_of rolled core
     → d.published ≡ shown.front.list → d.list ≡ list_of rolled core → IsCoreRefusal core r → IsRollRefusal d r
 roll_refusal core rolled shown d r current whole published list (inl behind) = absurd (behind.1 current)
 roll_refusal core rolled shown d r current whole published list (inr none) = inr (none.0, published ∙ whole ∙ sym list)

@@ -15,7 +15,7 @@ use Rattle.event_core.specs.declared.reply.Status.TheVariants.{Current, Behind}
 use Rattle.event_core.specs.Right.{IsDueIn}
 use Rattle.publication.specs.Names.{Name}
 use Rattle.publication.specs.Published.{IsLegal}
-use Rattle.publication.specs.Told.{Heard}
+use Rattle.publication.specs.Told.{TokenValue}
 use Rattle.engine_state.specs.declared.answer.Answer.{Answer}
 use Rattle.engine_state.specs.declared.answer.Refused.{Refused}
 use Rattle.engine_state.specs.declared.answer.DueList.{DueList}
@@ -66,5 +66,5 @@ abbrev pub IsForArea : {A : Type 0} → Config → ℕ → Result A Refusal → 
 IsForArea config area answer = MatchResult answer (λ _. HasArea config area) (λ e. (e ≡ NoArea) ↔ (¬ (HasArea config area)))
 
 -- the reply, with the token
-abbrev pub IsReplyWith : Reply → Option Heard → Answer → Type 0
+abbrev pub IsReplyWith : Reply → Option TokenValue → Answer → Type 0
 IsReplyWith reply told a = (a.reply.serial ≡ reply.serial) × (a.reply.changed ≡ reply.changed) × (a.told ≡ told)

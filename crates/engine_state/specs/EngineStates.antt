@@ -13,11 +13,11 @@ use Rattle.route_table.specs.Deltas.{Lead}
 use Rattle.publication.specs.Lines.{Line}
 use Rattle.publication.specs.Names.{Name}
 use Rattle.publication.specs.Published.{IsShownRight, name_of}
-use Rattle.publication.specs.Forwarders.{Looker}
-use Rattle.publication.specs.Told.{Heard}
+use Rattle.publication.specs.Forwarders.{ForwarderValue}
+use Rattle.publication.specs.Told.{TokenValue}
 use Rattle.publication.specs.Updates.{those_of}
-use Rattle.publication.specs.declared.shown.Shown.{Shown}
-use Rattle.publication.specs.declared.shown.Update.{Update}
+use Rattle.publication.specs.declared.published_table.PublishedTable.{PublishedTable}
+use Rattle.publication.specs.declared.published_table.Update.{Update}
 
 -- as many readers as there may be
 abbrev pub AreReaders : ℕ → Type 0
@@ -51,7 +51,7 @@ pub record IsBegun (rolled : Line) (core : CoreValue) (list : List Event) : Type
 
 -- The core, the author of the history, the history at the last roll, what is shown, and what the writer knows. Nothing is said of updates that are
 -- pending: a whole table clears.
-pub record IsKept (core : CoreValue) (history rolled : Line) (shown : Shown) (known : Option Name) : Type 0 where
+pub record IsKept (core : CoreValue) (history rolled : Line) (shown : PublishedTable) (known : Option Name) : Type 0 where
   pub book : history.book ≡ shown.front.book
   pub base : IsRolled shown.base standard_limits rolled.list core.base
   pub known_is : known ≡ Some (name_of shown)
@@ -61,19 +61,19 @@ pub record IsKept (core : CoreValue) (history rolled : Line) (shown : Shown) (kn
   pub written : IsBegun rolled core history.list
 
 -- where it is stale, less is published than was taken; else nothing is pending, and the published list and the author's are the whole list
-abbrev pub IsFresh : Bool → CoreValue → Line → Line → Shown → List Update → Type 0
+abbrev pub IsFresh : Bool → CoreValue → Line → Line → PublishedTable → List Update → Type 0
 IsFresh stale core history rolled shown pending =
     MatchBool stale (length shown.front.list < length (list_of rolled core))
     ((pending ≡ []) × (shown.front.list ≡ list_of rolled core) × (history.list ≡ list_of rolled core))
 
 -- what changed may be published alone: nothing is pending, and the changes lead from what is shown to the table of the whole journal
-abbrev pub CanFollow : CoreValue → Shown → List Update → Type 0
+abbrev pub CanFollow : CoreValue → PublishedTable → List Update → Type 0
 CanFollow core shown pending =
     (pending ≡ []) × (core.built ≡ length core.journal)
     × Lead shown.table.items core.table.items (those_of core.table.items core.changes)
 
 -- a token of an engine's state for this serial: it is for a beginning of the list
-abbrev pub Tells : Name → List Event → ℕ → Heard → Type 0
+abbrev pub Tells : Name → List Event → ℕ → TokenValue → Type 0
 Tells name list serial t = (t.name ≡ name) × IsPrefix t.list list × (serial ≡ name.base.serial + length t.list)
 
 -- the serial of the last published event, of the last that table and due summaries follow, and of the last that was taken
@@ -103,15 +103,15 @@ abbrev pub IsListAfter : {A R : Type 0} → Held → Event → Result A R → He
 IsListAfter old event answer new = MatchResult answer (λ _. new.list ≡ old.list ++ event ∷ []) (λ _. new.list ≡ old.list)
 
 -- the token of the published list, exactly where that is the whole list
-abbrev pub IsTokenOfAll : Held → Option Heard → Type 0
+abbrev pub IsTokenOfAll : Held → Option TokenValue → Type 0
 IsTokenOfAll d told = MatchOption told (¬ (length d.list ≡ length d.published)) (λ t. (t.list ≡ d.list) × (t.list ≡ d.published))
 
 -- the token of the published list, exactly where that has this serial
-abbrev pub IsTokenAt : Held → ℕ → Option Heard → Type 0
+abbrev pub IsTokenAt : Held → ℕ → Option TokenValue → Type 0
 IsTokenAt d serial told = MatchOption told (¬ (serial ≡ published_serial d)) (λ t. t.list ≡ d.published)
 
 -- the forwarder knows just what is published
-abbrev pub KnowsPublished : Held → Looker → Type 0
+abbrev pub KnowsPublished : Held → ForwarderValue → Type 0
 KnowsPublished d f = (f.name ≡ d.name) × (f.known ≡ d.published)
 
 -- some of the list were rolled into the core's base, and the others are its journal

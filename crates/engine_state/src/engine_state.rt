@@ -17,8 +17,8 @@ use crate::gate::Gate;
 use event_core::{Core, Event, Refusal, Reply, Status};
 use ospf_types::memory::Memory;
 use publication::{
-    EngineName, Forwarder, History, HistoryPrefix, OpeningBase, Shown, ShownWriter, TellsName,
-    Told, show, show_changes,
+    EngineName, Forwarder, History, HistoryPrefix, OpeningBase, PublishedTable, TableWriter, TellsName,
+    Told, show, publish_table_changes,
 };
 use std::alloc::{AllocError, Global};
 use std::marker::Model;
@@ -41,7 +41,7 @@ struct EngineParts {
     history: History,
     // The history as it was at the last roll: it is in the base of the core.
     rolled: HistoryPrefix,
-    writer: ShownWriter,
+    writer: TableWriter,
 }
 
 impl Model for EngineState {
@@ -149,7 +149,7 @@ impl EngineParts {
             rolled,
             writer,
         } = parts;
-        let (writer, done) = show_changes(rt, writer, core.changes(), core.table(), &mut history);
+        let (writer, done) = publish_table_changes(rt, writer, core.changes(), core.table(), &mut history);
         let parts = EngineParts {
             alloc,
             core,
@@ -296,9 +296,9 @@ impl EngineState {
         let mut history = History::open();
         let rolled = history.front();
         let opening = OpeningBase::of(core.base());
-        let first = Shown::of(alloc, core.table(), &history.front(), &opening)?;
-        let second = Shown::of(alloc, core.table(), &history.front(), &opening)?;
-        let writer = ShownWriter::new(alloc, first, second, readers)?;
+        let first = PublishedTable::of(alloc, core.table(), &history.front(), &opening)?;
+        let second = PublishedTable::of(alloc, core.table(), &history.front(), &opening)?;
+        let writer = TableWriter::new(alloc, first, second, readers)?;
         let (writer, done) = show(rt, alloc, writer, core.table(), &mut history);
         if !done {
             drop(writer.take(rt));

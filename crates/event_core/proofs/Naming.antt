@@ -29,7 +29,7 @@ use Rattle.event_state.specs.States.{State, place_of, changed_at_place, usable_a
 use Rattle.event_state.specs.Steps.{step, range_with, with_range_change}
 use Rattle.calculation.specs.Trees.{StatesDifferAmong}
 use Rattle.calculation.specs.Active.{RangesDifferAt}
-use Rattle.event_core.specs.Named.{range_of}
+use Rattle.event_core.specs.Affected.{range_of}
 use Rattle.event_core.proofs.OneRange.{one_range, set_others, drop_others}
 
 -- an interface that is not set stays as it was

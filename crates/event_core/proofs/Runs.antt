@@ -9,14 +9,14 @@ use Rattle.event_state.specs.BaseFaults.{base_fault_of}
 use Rattle.event_state.specs.States.{State, LooksAlike, serial_of}
 use Rattle.event_state.specs.Rolls.{since, IsBaseOf}
 use Rattle.event_state.specs.Steps.{opening, step, refusal_of, run_of}
-use Rattle.vertex_graph.specs.Graphs.{most_routers}
+use Rattle.vertex_graph.specs.Graphs.{max_routers}
 use Rattle.route_table.specs.Tables.{TableValue}
 use Rattle.summaries.specs.DueSummaries.{lists_of}
 use Rattle.event_core.specs.Right.{IsRight, AreDue}
 use Rattle.event_core.specs.declared.reply.Reply.{Reply}
 use Rattle.event_core.specs.declared.reply.Status.{Status}
 use Rattle.event_core.specs.declared.reply.Status.TheVariants.{Current, Behind}
-use Rattle.event_core.specs.Cores.{CoreValue, IsCore, IsTaken, Rolls, Applies, Tells, Stands, HasBoundedWork, NamesChanges, state_of}
+use Rattle.event_core.specs.Cores.{CoreValue, IsCore, IsTaken, Rolls, Applies, Tells, MatchesStatus, HasBoundedWork, NamesChanges, state_of}
 use Rattle.event_core.specs.Kept.{core_of, IsCoherent}
 use Rattle.event_state.specs.declared.refusal.Refusal.{Refusal}
 use Rattle.config_faults.specs.Configs.{config_fault_of}
@@ -45,7 +45,7 @@ step_runs : (s : State) (e : Event) → s ≡ run_of s.base s.limits s.journal �
 step_runs s e run = ap (λ (t : State). step t e) run ∙ sym (run_append _ s.journal (e ∷ []))
 
 -- no event was taken, and the routes are those of the opening state
-pub kept_open : (base : Base) (limits : Limits) (s : State) (r : RoutesValue) → s ≡ opening base limits → base_fault_of limits base ≡ None → limits.area_lsas ≤ most_routers → AreRoutesOf s r → IsCoherent s r 0
+pub kept_open : (base : Base) (limits : Limits) (s : State) (r : RoutesValue) → s ≡ opening base limits → base_fault_of limits base ≡ None → limits.area_lsas ≤ max_routers → AreRoutesOf s r → IsCoherent s r 0
 kept_open base limits s r is sound few are =
     let first : State = opening base limits in
     let first_are = subst (λ (v : State). AreRoutesOf v r) is are in
@@ -101,7 +101,7 @@ kept_behind s r new built e kept accepted table summaries =
       run = runs (step s e).base (step s e).limits setting.base setting.limits;
       core = subst (λ (c : CoreValue). IsCore c) (λ i. record { base = sym setting.base i; limits = sym setting.limits i; journal = s.journal ++ e ∷ []; built = built; table = new.table; summaries = lists_of new.summaries; work = new.work; changes = new.changes; due_changes = new.due_changes }) core;
       fresh = λ all. absurd (omega (arith, all, kept.core.within, length-append s.journal (e ∷ [])));
-      few = subst (λ (limits : Limits). limits.area_lsas ≤ most_routers) (sym setting.limits) kept.few;
+      few = subst (λ (limits : Limits). limits.area_lsas ≤ max_routers) (sym setting.limits) kept.few;
     }
 
 pub kept_step : (s : State) (r : RoutesValue) (built : ℕ) (e : Event) → IsCoherent s r built → refusal_of s e ≡ None → IsCoherent (step s e) r built
@@ -129,16 +129,16 @@ kept_current s r new built now kept all are =
     }
 
 -- and so stand
-pub stands_current : (s : State) (new : RoutesValue) (now : ℕ) (old : CoreValue) → IsCoherent s new now → now ≡ length s.journal → Stands old Current (core_of s new now)
+pub stands_current : (s : State) (new : RoutesValue) (now : ℕ) (old : CoreValue) → IsCoherent s new now → now ≡ length s.journal → MatchesStatus old Current (core_of s new now)
 stands_current s new now old kept all = (all, current_right (core_of s new now) kept.core all, current_due (core_of s new now) kept.core all)
 
-stands_same : (s u : State) (r : RoutesValue) (built : ℕ) (standing : Status) (new : CoreValue) → Stands (core_of u r built) standing new → Stands (core_of s r built) standing new
+stands_same : (s u : State) (r : RoutesValue) (built : ℕ) (standing : Status) (new : CoreValue) → MatchesStatus (core_of u r built) standing new → MatchesStatus (core_of s r built) standing new
 stands_same s u r built Current new h = h
 stands_same s u r built Behind new h = h
 
 -- a step of the state, and then routes that stand, take the event
 pub takes : (s u : State) (r : RoutesValue) (built : ℕ) (e : Event) (reply : Reply) (new : CoreValue) → IsCoherent s r built → u ≡ step s e → refusal_of s e ≡ None
-    → (reply.changed ≡ false) ↔ LooksAlike s u → new.journal ≡ u.journal → new.base ≡ u.base → new.limits ≡ u.limits → Stands (core_of u r built) reply.state new → reply.serial ≡ serial_of u
+    → (reply.changed ≡ false) ↔ LooksAlike s u → new.journal ≡ u.journal → new.base ≡ u.base → new.limits ≡ u.limits → MatchesStatus (core_of u r built) reply.state new → reply.serial ≡ serial_of u
     → IsTaken (core_of s r built) e reply new
 takes s u r built e reply new kept is accepted changed journal base limits stands serial =
     let run_new : state_of new ≡ u = (λ i. run_of (base i) (limits i) (journal i)) ∙ sym (subst (λ (v : State). v ≡ run_of v.base v.limits v.journal) (sym is) (kept_step s r built e kept accepted).run) in
@@ -192,7 +192,7 @@ module _ (s u : State) (r new : RoutesValue) (built : ℕ) (e : Event) (kept : I
   taken_ok result now reply all ok h changed current serial =
       let after = coherent_ok result now all ok h in
       takes s u r built e reply (core_of u new now) kept is accepted changed refl refl refl
-      (subst (λ (standing : Status). Stands (core_of u r built) standing (core_of u new now)) (sym current) (stands_current u new now (core_of u r built) after all)) serial
+      (subst (λ (standing : Status). MatchesStatus (core_of u r built) standing (core_of u new now)) (sym current) (stands_current u new now (core_of u r built) after all)) serial
 
   pub taken_err : (result : Result (Unit {0}) Memory) (m : Memory) (reply : Reply) → result ≡ Err m → IsSettled s u r built result new
       → (reply.changed ≡ false) ↔ LooksAlike s u → reply.state ≡ Behind → reply.serial ≡ serial_of u → IsTaken (core_of s r built) e reply (core_of u new built)
@@ -200,7 +200,7 @@ module _ (s u : State) (r new : RoutesValue) (built : ℕ) (e : Event) (kept : I
   taken_err (Err x) m reply err h changed behind serial =
       let longer : built < length u.journal = omega (arith, kept.core.within, length-append s.journal (e ∷ []), ap (λ (v : State). length v.journal) is) in
       takes s u r built e reply (core_of u new built) kept is accepted changed refl refl refl
-      (subst (λ (standing : Status). Stands (core_of u r built) standing (core_of u new built)) (sym behind) (refl, h.unchanged, h.due, longer)) serial
+      (subst (λ (standing : Status). MatchesStatus (core_of u r built) standing (core_of u new built)) (sym behind) (refl, h.unchanged, h.due, longer)) serial
 
   pub bounded_ok : (result : Result (Unit {0}) Memory) (now : ℕ) → now ≡ length u.journal → result ≡ Ok tt → IsSettled s u r built result new → HasBoundedWork (core_of s r built) Current (core_of u new now)
   bounded_ok (Ok x) now all ok h =

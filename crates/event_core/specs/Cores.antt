@@ -59,9 +59,9 @@ pub record IsCore (c : CoreValue) : Type 0 where
   pub due : AreDue (built_state c) c.summaries
 
 -- table and due summaries are those of the whole journal, or those of before, where events were taken since
-abbrev pub Stands : CoreValue → Status → CoreValue → Type 0
-Stands old Current new = (new.built ≡ length new.journal) × IsRight (state_of new) new.table × AreDue (state_of new) new.summaries
-Stands old Behind new = (new.built ≡ old.built) × (new.table ≡ old.table) × (new.summaries ≡ old.summaries) × (new.built < length new.journal)
+abbrev pub MatchesStatus : CoreValue → Status → CoreValue → Type 0
+MatchesStatus old Current new = (new.built ≡ length new.journal) × IsRight (state_of new) new.table × AreDue (state_of new) new.summaries
+MatchesStatus old Behind new = (new.built ≡ old.built) × (new.table ≡ old.table) × (new.summaries ≡ old.summaries) × (new.built < length new.journal)
 
 -- the event is taken, with this reply
 pub record IsTaken (old : CoreValue) (e : Event) (r : Reply) (new : CoreValue) : Type 0 where
@@ -71,7 +71,7 @@ pub record IsTaken (old : CoreValue) (e : Event) (r : Reply) (new : CoreValue) :
   pub limits : new.limits ≡ old.limits
   pub serial : r.serial ≡ serial_of (state_of new)
   pub changed : (r.changed ≡ false) ↔ LooksAlike (state_of old) (state_of new)
-  pub stands : Stands old r.state new
+  pub stands : MatchesStatus old r.state new
 
 -- a refusal leaves everything as it was
 pub record IsRefused (old : CoreValue) (e : Event) (r : Refusal) (new : CoreValue) : Type 0 where
@@ -99,7 +99,7 @@ abbrev pub NamesChanges : CoreValue → Status → CoreValue → Type 0
 NamesChanges old Current new = (IsCurrent old → NamesDifferences old new) × ((IsCurrent old → ⊥) → NamesNothing new)
 NamesChanges old Behind new = NamesNothing new
 
--- Of an event that finds the table current and leaves it current, the work is the sum over the areas, in each of which it is bounded by what differs. One that finds it behind builds all: the sum over the areas of what is reached.
+-- Of an event that finds the table current and leaves it current, the work is the sum over the areas, in each of which it is bounded by what differs. One that finds it behind build_count all: the sum over the areas of what is reached.
 abbrev pub HasBoundedWork : CoreValue → Status → CoreValue → Type 0
 HasBoundedWork old Current new = (IsCurrent old → IsFollowingWork (state_of old) (state_of new) new.work) × ((IsCurrent old → ⊥) → IsBuildingWork (state_of new) new.work)
 HasBoundedWork old Behind new = new.work ≡ no_work

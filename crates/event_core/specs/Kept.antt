@@ -1,6 +1,6 @@
 -- What a core keeps of its parts.
 use Rattle.std.specs.Prelude.{ℕ, ◌≡◌, ◌≤◌, Bool, true, length}
-use Rattle.vertex_graph.specs.Graphs.{most_routers}
+use Rattle.vertex_graph.specs.Graphs.{max_routers}
 use Rattle.summaries.specs.DueSummaries.{lists_of}
 use Rattle.event_state.specs.States.{State}
 use Rattle.event_state.specs.Rolls.{IsBaseOf}
@@ -16,7 +16,7 @@ pub record IsCoherent (s : State) (r : RoutesValue) (built : ℕ) : Type 0 where
   pub run : s ≡ run_of s.base s.limits s.journal
   pub core : IsCore (core_of s r built)
   pub fresh : built ≡ length s.journal → AreRoutesOf s r
-  pub few : s.limits.area_lsas ≤ most_routers
+  pub few : s.limits.area_lsas ≤ max_routers
 
 -- a base from a roll is the state that it opens: ranges, serial, interfaces, and each LSA in the order in which they are listed
 abbrev pub IsBaseItself : Bool → State → Type 0

@@ -2,7 +2,7 @@ pub mod Right
 pub mod Cores
 pub mod Kept
 pub mod Following
-pub mod Named
+pub mod Affected
 pub mod Sums
 pub use Rattle.config_faults.specs.Configs
 pub use Rattle.config_faults.specs.Texts

@@ -1,10 +1,10 @@
 ghost use Rattle.std.specs.Prelude.{◌≡◌, ◌≤◌, ◌<◌, ◌+◌, [], length, true, None, IfErr, IfNone, IfOk, IfSome, MatchBool, OnOk, OnErr, option_map};
-ghost use Rattle.vertex_graph.specs.Graphs.{most_routers};
+ghost use Rattle.vertex_graph.specs.Graphs.{max_routers};
 ghost use Rattle.event_state.specs.BaseFaults.{base_fault_of};
 ghost use Rattle.calculation.specs.Calculations.{IsCalculationOf};
 ghost use Rattle.summaries.specs.DueSummaries.{lists_of};
 ghost use Rattle.event_core.specs.Right.{IsDueIn, list_under};
-ghost use Rattle.event_core.specs.Cores.{IsBaseFaultOf, IsCore, IsCurrent, IsOpening, IsQuietSecond, DoesNothing, IsFaultOf, IsRollRefusal, Rolls, Applies, NamesChanges, HasBoundedWork, Stands, Runs, built_state, state_of};
+ghost use Rattle.event_core.specs.Cores.{IsBaseFaultOf, IsCore, IsCurrent, IsOpening, IsQuietSecond, DoesNothing, IsFaultOf, IsRollRefusal, Rolls, Applies, NamesChanges, HasBoundedWork, MatchesStatus, Runs, built_state, state_of};
 ghost use Rattle.event_state.specs.Bases.{bare};
 ghost use Rattle.event_state.specs.Rolls.{IsBaseOf};
 ghost use Rattle.event_state.specs.States.{serial_of};
@@ -13,7 +13,7 @@ ghost use Rattle.event_state.specs.Listings.{AreLsas};
 
 use crate::calculated::Calculated;
 use crate::listing::{base_of, lsas};
-use crate::named::named_by;
+use crate::affected::affected_by;
 use crate::reply::{Reply, Status};
 use crate::routes::Routes;
 use config_faults::{ConfigFault, fault_in};
@@ -89,7 +89,7 @@ impl Core {
         limits: Limits,
         hashing: RandomState,
     ) -> Result<Core, ConfigFault>
-        requires { limits.area_lsas ≤ most_routers }
+        requires { limits.area_lsas ≤ max_routers }
         ensures fault { IfErr result (IsFaultOf config) }
         ensures opens { IfOk result (IsOpening (bare config) limits) }
         ensures kept { IfOk result IsCore }
@@ -129,7 +129,7 @@ impl Core {
         hashing: RandomState,
     ) -> Result<Core, Memory>
         requires sound { base_fault_of limits base ≡ None }
-        requires few { limits.area_lsas ≤ most_routers }
+        requires few { limits.area_lsas ≤ max_routers }
         ensures opens { IfOk result (IsOpening base limits) }
         ensures kept { IfOk result IsCore }
     {
@@ -156,7 +156,7 @@ impl Core {
             DoesNothing reply self.new) }
     {
         let is_current = self.built == self.state.journal().len() as u64;
-        let named = named_by(self.alloc, &self.state, &event)?;
+        let named = affected_by(self.alloc, &self.state, &event)?;
         let (serial, changed) = self.state.step(event)?;
         let settled = if is_current {
             self.routes.settle(self.alloc, &self.state, changed, named)
@@ -187,7 +187,7 @@ impl Core {
         ensures changes { self.new.changes ≡ self.old.changes }
         ensures due_changes { self.new.due_changes ≡ self.old.due_changes }
         ensures work { self.new.work ≡ self.old.work }
-        ensures stands { Stands self.old result self.new }
+        ensures stands { MatchesStatus self.old result self.new }
     {
         let count = self.state.journal().len() as u64;
         if self.built == count {
@@ -240,7 +240,7 @@ impl Core {
         let Ok(base) = base_of(self.alloc, &self.state) else {
             return Err(Refusal::Memory);
         };
-        self.state.rebase(base);
+        self.state.set_base(base);
         self.built = 0;
         self.rolled = true;
         Ok(self.state.serial())
@@ -379,7 +379,7 @@ impl Core {
 
     /// How often all was built: once when the core was opened, and once more for each event that found the table behind.
     /// No contract: for tests, and for who watches a router.
-    pub fn builds(&self) -> u64 {
-        self.routes.builds()
+    pub fn build_count(&self) -> u64 {
+        self.routes.build_count()
     }
 }

@@ -5,7 +5,7 @@
 mod calculated;
 mod core_state;
 mod listing;
-mod named;
+mod affected;
 mod reply;
 mod routes;
 

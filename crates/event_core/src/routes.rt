@@ -3,7 +3,7 @@ ghost use Rattle.std.specs.Prelude.{◌≡◌, ◌≤◌, [], false, IfOk, OnOk,
 ghost use Rattle.std.specs.List.Sorted.{IsStrictlySortedBy};
 ghost use Rattle.std.specs.Map.{keys_of};
 ghost use Rattle.ospf_types.specs.Network.{network_cmp};
-ghost use Rattle.vertex_graph.specs.Graphs.{most_routers};
+ghost use Rattle.vertex_graph.specs.Graphs.{max_routers};
 ghost use Rattle.event_state.specs.Held.{AreFit};
 ghost use Rattle.event_state.specs.States.{AreApart, State as StateValue, LooksAlike, serial_of};
 ghost use Rattle.summaries.specs.DueSummaries.{lists_of};
@@ -14,9 +14,9 @@ ghost use Rattle.calculation.specs.Summaries.{AreSummariesFor};
 ghost use Rattle.calculation.specs.Totals.{IsBuildWork};
 ghost use Rattle.calculation.specs.Works.{IsEventWork};
 ghost use Rattle.event_core.specs.Following.{AreRoutesOf, AreOtherItems, IsOneMore, IsStill, TellsChanges, no_work};
-ghost use Rattle.event_core.specs.Named.{IsNamedBetween, IsRangeNamedBetween};
+ghost use Rattle.event_core.specs.Affected.{IsNamedBetween, IsRangeNamedBetween};
 
-use crate::named::Named;
+use crate::affected::Affected;
 use calculation::Calculation;
 use event_state::State;
 use ospf_types::memory::Memory;
@@ -38,7 +38,7 @@ pub(crate) struct Routes {
     changes: Vec<Prefix>,
     due_changes: DueChanges,
     // How often all was built.
-    builds: u64,
+    build_count: u64,
 }
 
 // proof: one call drops it, in place of a drop of each part wherever one is held.
@@ -51,7 +51,7 @@ impl Drop for Routes {
             work: _,
             changes: _changes,
             due_changes: _due_changes,
-            builds: _,
+            build_count: _,
         } = self;
     }
 }
@@ -77,7 +77,7 @@ impl Routes {
         state: &State,
         hashing: RandomState,
     ) -> Result<Routes, Memory>
-        requires few { state.now.limits.area_lsas ≤ most_routers }
+        requires few { state.now.limits.area_lsas ≤ max_routers }
         requires apart { AreApart state.now.config.areas }
         ensures right { IfOk result (AreRoutesOf state.now) }
         ensures work { IfOk result (λ routes. routes.work ≡ no_work) }
@@ -92,7 +92,7 @@ impl Routes {
             work: Touched::none(),
             changes: Vec::new(alloc),
             due_changes: DueChanges::none(alloc),
-            builds: 1,
+            build_count: 1,
         })
     }
 
@@ -103,7 +103,7 @@ impl Routes {
         state: &State,
         hashing: RandomState,
     ) -> Result<Touched, Memory>
-        requires few { state.now.limits.area_lsas ≤ most_routers }
+        requires few { state.now.limits.area_lsas ≤ max_routers }
         requires apart { AreApart state.now.config.areas }
         ensures right { OnOk result (AreRoutesOf state.now self.new) }
         ensures fit { OnOk result (AreFit state.now.config.areas state.now.databases) }
@@ -118,7 +118,7 @@ impl Routes {
         self.calculation = calculation;
         self.table = table;
         self.summaries = summaries;
-        self.builds = self.builds.wrapping_add(1);
+        self.build_count = self.build_count.wrapping_add(1);
         Ok(work)
     }
 
@@ -129,7 +129,7 @@ impl Routes {
         state: &State,
         hashing: RandomState,
     ) -> Result<(), Memory>
-        requires few { state.now.limits.area_lsas ≤ most_routers }
+        requires few { state.now.limits.area_lsas ≤ max_routers }
         requires apart { AreApart state.now.config.areas }
         ensures right { OnOk result (AreRoutesOf state.now self.new) }
         ensures fit { OnOk result (AreFit state.now.config.areas state.now.databases) }
@@ -152,9 +152,9 @@ impl Routes {
         alloc: Global,
         state: &State,
         changed: bool,
-        named: Named,
+        named: Affected,
     ) -> Result<(), Memory>
-        requires few { state.now.limits.area_lsas ≤ most_routers }
+        requires few { state.now.limits.area_lsas ≤ max_routers }
         requires before { (before : StateValue) × AreFit before.config.areas before.databases
             × AreRoutesOf before self.old × IsNamedBetween named before state.now
             × (changed ≡ false → LooksAlike before state.now)
@@ -221,8 +221,8 @@ impl Routes {
     }
 
     /// How often all was built.
-    pub(crate) fn builds(&self) -> u64 {
-        self.builds
+    pub(crate) fn build_count(&self) -> u64 {
+        self.build_count
     }
 }
 
@@ -239,8 +239,8 @@ impl Routes {
 
     // What is kept, the items of the table and what is due follow the state. The change of the table is the last that may
     // be refused memory; due summaries have room for theirs by then.
-    fn follow(&mut self, alloc: Global, state: &State, named: Named) -> Result<(), Memory>
-        requires few { state.now.limits.area_lsas ≤ most_routers }
+    fn follow(&mut self, alloc: Global, state: &State, named: Affected) -> Result<(), Memory>
+        requires few { state.now.limits.area_lsas ≤ max_routers }
         requires before { (before : StateValue) × AreRoutesOf before self.old
             × IsNamedBetween named before state.now × IsRangeNamedBetween named before state.now }
         ensures calculation { OnOk result (IsCalculationOf state.now self.new.calculation) }
@@ -256,7 +256,7 @@ impl Routes {
         ensures changes { OnErr result (self.new.changes ≡ self.old.changes) }
         ensures due_changes { OnErr result (self.new.due_changes ≡ self.old.due_changes) }
     {
-        let Named {
+        let Affected {
             keys,
             interfaces,
             range,
@@ -264,7 +264,7 @@ impl Routes {
         let told = self
             .calculation
             .follow(alloc, state, keys, interfaces, range)?;
-        let behind = TableBehind {
+        let behind = TableUpdate {
             table: &self.table,
             calculation: &self.calculation,
         };
@@ -287,7 +287,7 @@ fn from_scratch(
     state: &State,
     hashing: RandomState,
 ) -> Result<(Calculation, Table, DueSummaries, Touched), Memory>
-    requires few { state.now.limits.area_lsas ≤ most_routers }
+    requires few { state.now.limits.area_lsas ≤ max_routers }
     requires apart { AreApart state.now.config.areas }
     ensures calculation { IfOk result (λ built. IsCalculationOf state.now built.0) }
     ensures items { IfOk result (λ built. IsTableOf built.0 built.1.items) }
@@ -306,12 +306,12 @@ fn from_scratch(
 
 // The table, and the calculation that it is to follow.
 #[derive(Clone, Copy)]
-struct TableBehind<'a> {
+struct TableUpdate<'a> {
     table: &'a Table,
     calculation: &'a Calculation,
 }
 
-impl TableBehind<'_> {
+impl TableUpdate<'_> {
     // Those of the networks for which the table has to have another item, each with that item.
     fn other_items(self, alloc: Global, networks: &[Prefix]) -> Result<Vec<NewItem>, Memory>
         requires { IsStrictlySortedBy network_cmp networks.now }

@@ -243,7 +243,7 @@ fn interface(area: u32, place: u32, up: bool) -> Event {
 // A range over the stub networks of some routers comes, in place of another, or goes.
 fn range(random: &mut Xoshiro256PlusPlus, area: u32) -> Event {
     let mask = 0xffff_fc00;
-    let prefix = Prefix::of_mask(stub(area, below(random, ROUTERS)) & mask, mask);
+    let prefix = Prefix::from_mask(stub(area, below(random, ROUTERS)) & mask, mask);
     if one_in(random, 3) {
         return Event::RangeDrop { area, prefix };
     }

@@ -25,8 +25,8 @@ use Rattle.config_faults.specs.declared.fault.ConfigFault.{ConfigFault}
 use Rattle.lsdb.specs.Databases.{Database, install_refusal_of, is_older_than, is_same_as, is_full_for}
 use Rattle.lsdb.specs.declared.refusal.InstallRefusal.TheVariants as install
 use Rattle.event_state.specs.declared.base.Base.{Base}
-use Rattle.event_state.specs.declared.base_fault.Unfit.{Unfit}
-use Rattle.event_state.specs.declared.base_fault.Unfit.TheVariants as unfit
+use Rattle.event_state.specs.declared.base_fault.EntryFault.{EntryFault}
+use Rattle.event_state.specs.declared.base_fault.EntryFault.TheVariants as unfit
 use Rattle.event_state.specs.declared.limits.Limits.{Limits}
 use Rattle.event_state.specs.Bases.{is_scope, keyed, lsas_under, held_in}
 use Rattle.event_state.specs.BaseFaults.{base_fault_of, after_config, after_doubled, unfit_fault, unfit_of, has_twice, is_same_id, is_same_place, is_doubled, lacks_an_area, has_misplaced, is_overfull, has_shared_address}
@@ -47,7 +47,7 @@ pub record IsFaultless (limits : Limits) (b : Base) : Type 0 where
   pub externals : nat_lt limits.externals (length (lsas_under b.lsas scope.As)) ≡ false
   pub addresses : has_shared_address b ≡ false
 
-parts_of : (o : Option ConfigFault) (doubled : Bool) (u : Option Unfit) → after_config o (after_doubled doubled (unfit_fault u)) ≡ None → (o ≡ None) × (doubled ≡ false) × (u ≡ None)
+parts_of : (o : Option ConfigFault) (doubled : Bool) (u : Option EntryFault) → after_config o (after_doubled doubled (unfit_fault u)) ≡ None → (o ≡ None) × (doubled ≡ false) × (u ≡ None)
 parts_of (Some f) doubled u e = absurd cc
 parts_of None true u e = absurd cc
 parts_of None false (Some u) e = absurd cc

@@ -24,7 +24,7 @@ use Rattle.event_state.specs.declared.event.Event.{Event}
 use Rattle.event_state.specs.declared.event.Event.TheVariants as event
 use Rattle.event_state.specs.States.{State, place_of, database_of, changed_at_place, with_change, usable_at}
 use Rattle.event_state.specs.Steps.{step, with_range_change}
-use Rattle.event_state.specs.Named.{comes_next, AreListed, IsAmong}
+use Rattle.event_state.specs.Affected.{comes_next, AreListed, IsAmong}
 use Rattle.event_state.proofs.Aging.{get-all_aged, all_aged_empty, contents_aged}
 use Rattle.event_state.proofs.OneChange.{mapped_at}
 use Rattle.event_state.proofs.Places.{no_area, area_at, places_apart}

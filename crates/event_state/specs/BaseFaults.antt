@@ -14,8 +14,8 @@ use Rattle.config_faults.specs.declared.fault.ConfigFault.{ConfigFault}
 use Rattle.event_state.specs.declared.base.Base.{Base}
 use Rattle.event_state.specs.declared.base_fault.BaseFault.{BaseFault}
 use Rattle.event_state.specs.declared.base_fault.BaseFault.TheVariants as base_fault
-use Rattle.event_state.specs.declared.base_fault.Unfit.{Unfit}
-use Rattle.event_state.specs.declared.base_fault.Unfit.TheVariants as unfit
+use Rattle.event_state.specs.declared.base_fault.EntryFault.{EntryFault}
+use Rattle.event_state.specs.declared.base_fault.EntryFault.TheVariants as unfit
 use Rattle.event_state.specs.declared.limits.Limits.{Limits}
 use Rattle.event_state.specs.Bases.{is_scope, lsas_under}
 use Rattle.event_state.specs.States.{place_of}
@@ -71,7 +71,7 @@ abbrev pub has_shared_address : Base → Bool
 has_shared_address b = has_twice is_same_address b.interfaces
 
 -- what no event could have made: the first of these, in this order
-abbrev pub unfit_of : Limits → Base → Option Unfit
+abbrev pub unfit_of : Limits → Base → Option EntryFault
 unfit_of limits b = first_of (
     (lacks_an_area b, unfit.NoArea)
     ∷ (has_misplaced b, unfit.Scope)
@@ -79,9 +79,9 @@ unfit_of limits b = first_of (
     ∷ (has_shared_address b, unfit.AddressTaken)
     ∷ [])
 
-abbrev pub unfit_fault : Option Unfit → Option BaseFault
+abbrev pub unfit_fault : Option EntryFault → Option BaseFault
 unfit_fault None = None
-unfit_fault (Some u) = Some (base_fault.Unfit u)
+unfit_fault (Some u) = Some (base_fault.EntryFault u)
 
 -- the fault of the configuration, or else the others
 abbrev pub after_config : Option ConfigFault → Option BaseFault → Option BaseFault

@@ -6,7 +6,7 @@ pub mod Changes
 pub mod Refusals
 pub mod Texts
 pub mod Held
-pub mod Named
+pub mod Affected
 pub mod Listings
 pub mod BaseFaults
 pub mod Rolls

@@ -3,8 +3,8 @@ use Rattle.std.specs.Prelude.{ℕ, List, codes}
 use Rattle.config_faults.specs.Texts.{config_fault_text}
 use Rattle.event_state.specs.declared.base_fault.BaseFault.{BaseFault}
 use Rattle.event_state.specs.declared.base_fault.BaseFault.TheVariants as base_fault
-use Rattle.event_state.specs.declared.base_fault.Unfit.{Unfit}
-use Rattle.event_state.specs.declared.base_fault.Unfit.TheVariants as unfit
+use Rattle.event_state.specs.declared.base_fault.EntryFault.{EntryFault}
+use Rattle.event_state.specs.declared.base_fault.EntryFault.TheVariants as unfit
 use Rattle.event_state.specs.declared.refusal.Refusal.{Refusal}
 use Rattle.event_state.specs.declared.refusal.Refusal.TheVariants as refusal
 
@@ -27,7 +27,7 @@ refusal_text refusal.Spawn = codes "31 Spawn"
 refusal_text refusal.Workers = codes "32 Workers"
 refusal_text refusal.NotCurrent = codes "37 NotCurrent"
 
-abbrev pub unfit_text : Unfit → List ℕ
+abbrev pub unfit_text : EntryFault → List ℕ
 unfit_text unfit.NoArea = codes "20 NoArea"
 unfit_text unfit.Scope = codes "21 Scope"
 unfit_text unfit.Full = codes "27 Full"
@@ -36,4 +36,4 @@ unfit_text unfit.AddressTaken = codes "29 AddressTaken"
 abbrev pub base_fault_text : BaseFault → List ℕ
 base_fault_text (base_fault.Config fault) = config_fault_text fault
 base_fault_text base_fault.Doubled = codes "47 Doubled"
-base_fault_text (base_fault.Unfit fault) = unfit_text fault
+base_fault_text (base_fault.EntryFault fault) = unfit_text fault

@@ -9,7 +9,7 @@ ghost use Rattle.event_state.specs.States.{place_of};
 ghost use Rattle.event_state.specs.Steps.{is_out_of_scope};
 
 use crate::base::Base;
-use crate::base_fault::{BaseFault, Unfit};
+use crate::base_fault::{BaseFault, EntryFault};
 use crate::limits::Limits;
 use crate::scopes::{is_out_of_scope, is_scope, place_of};
 use config_faults::fault_in;
@@ -61,14 +61,14 @@ pub fn fault_in_ordered(base: &Base, limits: Limits) -> Option<BaseFault>
     if let Some(fault) = fault_in(&base.config) {
         return Some(BaseFault::Config(fault));
     }
-    as_fault(unfit_in(base, limits))
+    as_fault(entry_fault_in(base, limits))
 }
 
-fn as_fault(unfit: Option<Unfit>) -> Option<BaseFault>
+fn as_fault(unfit: Option<EntryFault>) -> Option<BaseFault>
     ensures { result ≡ unfit_fault unfit }
 {
     match unfit {
-        Some(unfit) => Some(BaseFault::Unfit(unfit)),
+        Some(unfit) => Some(BaseFault::EntryFault(unfit)),
         None => None,
     }
 }
@@ -91,8 +91,8 @@ pub fn fault_in_base(
     if is_doubled(alloc, base)? {
         return Ok(Some(BaseFault::Doubled));
     }
-    match unfit_in(base, limits) {
-        Some(unfit) => Ok(Some(BaseFault::Unfit(unfit))),
+    match entry_fault_in(base, limits) {
+        Some(unfit) => Ok(Some(BaseFault::EntryFault(unfit))),
         None => Ok(None),
     }
 }
@@ -178,17 +178,17 @@ fn is_before_first(lsa: &(Scope, Checked), lsas: &[(Scope, Checked)]) -> bool
 
 /// What no event could have made of the base's configuration. If nothing in the base is listed twice, this is
 /// its fault behind those of the configuration.
-pub fn unfit_in(base: &Base, limits: Limits) -> Option<Unfit>
+pub fn entry_fault_in(base: &Base, limits: Limits) -> Option<EntryFault>
     ensures { result ≡ unfit_of limits base.now }
 {
     if lacks_an_area(base) {
-        Some(Unfit::NoArea)
+        Some(EntryFault::NoArea)
     } else if has_misplaced(base.lsas.as_slice()) {
-        Some(Unfit::Scope)
+        Some(EntryFault::Scope)
     } else if is_overfull(base, limits) {
-        Some(Unfit::Full)
+        Some(EntryFault::Full)
     } else if has_shared_address(base.interfaces.as_slice()) {
-        Some(Unfit::AddressTaken)
+        Some(EntryFault::AddressTaken)
     } else {
         None
     }

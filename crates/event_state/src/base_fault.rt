@@ -7,7 +7,7 @@ use thiserror::Error;
 
 /// What no event could have made of a configuration: the first of these, in this order.
 #[derive(Clone, Copy, Debug, PartialEq, Eq, Error)]
-pub enum Unfit {
+pub enum EntryFault {
     /// The area of an interface, or that of an LSA's scope, is not configured.
     NoArea,
     /// An AS-external-LSA stands under an area, or another one under the AS.
@@ -19,15 +19,15 @@ pub enum Unfit {
 }
 
 /// The number and the name of the refusal that an event would have had, as `20 NoArea`.
-impl fmt::Display for Unfit {
+impl fmt::Display for EntryFault {
     ghost output = { λ unfit. Some (unfit_text unfit) };
 
     fn fmt<W: fmt::Write>(&self, f: &mut fmt::Formatter<W>) -> fmt::Result {
         f.write_str(match self {
-            Unfit::NoArea => "20 NoArea",
-            Unfit::Scope => "21 Scope",
-            Unfit::Full => "27 Full",
-            Unfit::AddressTaken => "29 AddressTaken",
+            EntryFault::NoArea => "20 NoArea",
+            EntryFault::Scope => "21 Scope",
+            EntryFault::Full => "27 Full",
+            EntryFault::AddressTaken => "29 AddressTaken",
         })
     }
 }
@@ -40,7 +40,7 @@ pub enum BaseFault {
     /// An interface id, or a key in a scope, is listed twice.
     Doubled,
     /// No event could have made it.
-    Unfit(Unfit),
+    EntryFault(EntryFault),
 }
 
 /// The number and the name, as `47 Doubled`.
@@ -51,7 +51,7 @@ impl fmt::Display for BaseFault {
         match self {
             BaseFault::Config(fault) => write!(f, "{fault}"),
             BaseFault::Doubled => f.write_str("47 Doubled"),
-            BaseFault::Unfit(unfit) => write!(f, "{unfit}"),
+            BaseFault::EntryFault(unfit) => write!(f, "{unfit}"),
         }
     }
 }

@@ -9,15 +9,15 @@ mod base_fault;
 mod event;
 mod interfaces;
 mod limits;
-mod named;
+mod affected;
 mod ranges;
 mod refusal;
 mod scopes;
 mod state;
 
 pub use base::Base;
-pub use base_checks::{fault_in_base, fault_in_ordered, is_ordered, unfit_in};
-pub use base_fault::{BaseFault, Unfit};
+pub use base_checks::{fault_in_base, fault_in_ordered, is_ordered, entry_fault_in};
+pub use base_fault::{BaseFault, EntryFault};
 pub use event::Event;
 pub use limits::Limits;
 pub use refusal::Refusal;

@@ -164,7 +164,7 @@ impl State {
     }
 
     /// Takes the state as it is for the base, and empties the journal: the events since are forgotten.
-    pub fn rebase(&mut self, base: Base)
+    pub fn set_base(&mut self, base: Base)
         requires { IsBaseOf self.old base }
         ensures since { self.new ≡ since base self.old }
         ensures again { BeginsAgain self.old base self.new }

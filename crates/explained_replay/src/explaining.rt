@@ -19,7 +19,7 @@ use explanation_lines::{Explained, put_explanation};
 use ospf_types::key::Dest;
 use ospf_types::memory::Memory;
 use output_format::Format;
-use replay::{CannotWrite, OpenedRecording, ReplayFault, read_recording, write_whole};
+use replay::{WriteError, OpenedRecording, ReplayFault, read_recording, write_whole};
 use std::alloc::Global;
 use std::hash::RandomState;
 use std::io;
@@ -128,7 +128,7 @@ fn write_answer<W: io::Write>(text: &str, out: &mut W) -> Result<(), ReplayFault
 {
     match write_whole(out, text.as_bytes()) {
         Ok(()) => Ok(()),
-        Err(CannotWrite::Failed) => Err(ReplayFault::Write),
-        Err(CannotWrite::Closed) => Err(ReplayFault::Closed),
+        Err(WriteError::Failed) => Err(ReplayFault::Write),
+        Err(WriteError::Closed) => Err(ReplayFault::Closed),
     }
 }

@@ -56,9 +56,9 @@ module _ (w : Layers) (all : List Offer) where
           greatest = greatest;
           least = least;
           rivals = subst (λ (q : Prefix). IsRivalsOf w q group internal greatest least) (sym same) rivals;
-          is = subst (λ (x : Offer). IsJudged w internal greatest least x (record { cost = c.cost; fate = c.fate })) (sym adds.1) adds.2;
+          is = subst (λ (x : Offer). IsJudged w internal greatest least x (record { cost = c.cost; verdict = c.verdict })) (sym adds.1) adds.2;
         };
-        traces = subst (λ (x : Offer). AreTracesFor w x c.fate c.traces.items) (sym adds.1) adds.3;
+        traces = subst (λ (x : Offer). AreTracesFor w x c.verdict c.traces.items) (sym adds.1) adds.3;
       }
 
   -- none of the group yet

@@ -10,8 +10,8 @@ use Rattle.area_trees.specs.Areas.{IsStanding, IsStandingKey, body_at, network_k
 use Rattle.area_trees.proofs.Held.{held_by}
 use Rattle.area_trees.proofs.Standing.{one_standing}
 use Rattle.intra.specs.Inputs.{AreaValue, distance_at}
-use Rattle.explanation.specs.declared.fate.Fate.{Fate}
-use Rattle.explanation.specs.declared.fate.Fate.TheVariants as fate
+use Rattle.explanation.specs.declared.verdict.Verdict.{Verdict}
+use Rattle.explanation.specs.declared.verdict.Verdict.TheVariants as verdict
 use Rattle.explanation.specs.declared.layers.Layers.{Layers}
 use Rattle.explanation.specs.declared.offer.Offer.{Offer}
 use Rattle.explanation.specs.Layers.{AreAreas, HasArea, IsDistanceOf, IsKeyIn, IsKeyStanding}
@@ -63,8 +63,8 @@ module _ (w : Layers) (are : AreAreas w.areas.now) (area : ℕ) (o : Offer) wher
   one_cost c d x y = some_same c d (one_distance w.areas.now are area (Network o.source.key.id) (Some c) (Some d) x.2 y.2)
 
   -- and no reason to have none
-  pub has_cost : (c : ℕ) (f : Fate) → IsTransitCost w area o c → LacksTransitCost w area o f → ⊥
-  has_cost c fate.MaxAge x lacks = let young = x.0 in omega (arith, young, lacks)
-  has_cost c fate.Another x lacks = lacks.3 (one_key_standing w.areas.now are area (Network o.source.key.id) lacks.1 (Some o.source.key) lacks.2 x.1)
-  has_cost c fate.Unreached x lacks = let wrong : Some c ≡ None = one_distance w.areas.now are area (Network o.source.key.id) (Some c) None x.2 lacks.2 in cc
+  pub has_cost : (c : ℕ) (f : Verdict) → IsTransitCost w area o c → LacksTransitCost w area o f → ⊥
+  has_cost c verdict.MaxAge x lacks = let young = x.0 in omega (arith, young, lacks)
+  has_cost c verdict.Another x lacks = lacks.3 (one_key_standing w.areas.now are area (Network o.source.key.id) lacks.1 (Some o.source.key) lacks.2 x.1)
+  has_cost c verdict.Unreached x lacks = let wrong : Some c ≡ None = one_distance w.areas.now are area (Network o.source.key.id) (Some c) None x.2 lacks.2 in cc
   has_cost c _ x lacks = lacks

@@ -8,8 +8,8 @@ use Rattle.event_state.specs.States.{State}
 use Rattle.calculation.specs.Calculations.{entry_at}
 use Rattle.route_layers.specs.Layers.{AreActive}
 use Rattle.explanation.specs.declared.explained.Candidate.{Candidate}
-use Rattle.explanation.specs.declared.fate.Fate.{Fate}
-use Rattle.explanation.specs.declared.fate.Fate.TheVariants.{Taken}
+use Rattle.explanation.specs.declared.verdict.Verdict.{Verdict}
+use Rattle.explanation.specs.declared.verdict.Verdict.TheVariants.{Taken}
 use Rattle.explanation.specs.declared.layers.Layers.{Layers}
 use Rattle.explanation.specs.declared.offer.Offer.{Offer}
 use Rattle.explanation.specs.declared.offered.ExternalKey.{ExternalKey}
@@ -21,15 +21,15 @@ use Rattle.explanation.specs.Networks.{IsJudgedAmong, all_offers, by_networks}
 use Rattle.explanation.specs.Outside.{AreTraces}
 
 -- Of an offer that is taken, a trace for each of the paths that it gives to its network's route. Of others there is none.
-pub record AreTracesFor (w : Layers) (o : Offer) (f : Fate) (traces : List Trace) : Type 0 where
+pub record AreTracesFor (w : Layers) (o : Offer) (f : Verdict) (traces : List Trace) : Type 0 where
   pub taken : f ≡ Taken → (e : Entry) → entry_at w.calculation.now o.network ≡ Some e → AreTraces w o e.paths traces
   pub no_route : entry_at w.calculation.now o.network ≡ None → traces ≡ []
   pub lost : f ≢ Taken → traces ≡ []
 
 -- what became of the offer, beside just those of all for its network
 pub record IsCandidate (w : Layers) (all : List Offer) (c : Candidate) : Type 0 where
-  pub judged : IsJudgedAmong w all c.offer (record { cost = c.cost; fate = c.fate })
-  pub traces : AreTracesFor w c.offer c.fate c.traces.items
+  pub judged : IsJudgedAmong w all c.offer (record { cost = c.cost; verdict = c.verdict })
+  pub traces : AreTracesFor w c.offer c.verdict c.traces.items
 
 -- what became of each of these offers
 pub record AreCandidates (w : Layers) (all offers : List Offer) (candidates : List Candidate) : Type 0 where
@@ -57,7 +57,7 @@ pub record IsExplained (s : State) (address : ℕ) (candidates : List Candidate)
 -- what became of this offer beside these rivals is added
 abbrev pub AddsJudged : Layers → Option Entry → Option ℕ → Option ExternalKey → Offer → List Candidate → List Candidate → Type 0
 AddsJudged w internal greatest least o before after = (c : Candidate) × (c.offer ≡ o)
-    × IsJudged w internal greatest least o (record { cost = c.cost; fate = c.fate }) × AreTracesFor w o c.fate c.traces.items × (after ≡ before ++ c ∷ [])
+    × IsJudged w internal greatest least o (record { cost = c.cost; verdict = c.verdict }) × AreTracesFor w o c.verdict c.traces.items × (after ≡ before ++ c ∷ [])
 
 -- what became of this offer is added
 abbrev pub AddsCandidate : Layers → List Offer → Offer → List Candidate → List Candidate → Type 0

@@ -7,8 +7,8 @@ use Rattle.ospf_types.specs.declared.entry.Entry.{Entry}
 use Rattle.ospf_types.specs.declared.entry.PathType.TheVariants.{Intra}
 use Rattle.ospf_types.specs.declared.key.Scope.{Scope}
 use Rattle.ospf_types.specs.declared.key.Scope.TheVariants.{Area, As}
-use Rattle.explanation.specs.declared.fate.Fate.{Fate}
-use Rattle.explanation.specs.declared.fate.Fate.TheVariants as fate
+use Rattle.explanation.specs.declared.verdict.Verdict.{Verdict}
+use Rattle.explanation.specs.declared.verdict.Verdict.TheVariants as verdict
 use Rattle.explanation.specs.declared.judging.Judged.{Judged}
 use Rattle.explanation.specs.declared.layers.Layers.{Layers}
 use Rattle.explanation.specs.declared.offer.Offer.{Offer}
@@ -29,12 +29,12 @@ abbrev pub rank : ExternalKey → ℕ
 rank k = ((type_rank k.is_type_2 * 2 ^ 32 + k.metric) * 2 ^ 8 + k.class) * 2 ^ 32 + k.cost
 
 -- at which step a key loses to the other, if it does (16.4 (6))
-abbrev pub fate_beside : ExternalKey → ExternalKey → Fate → Type 0
-fate_beside key other fate.Type2 = type_rank other.is_type_2 < type_rank key.is_type_2
-fate_beside key other fate.Metric2 = (type_rank key.is_type_2 ≡ type_rank other.is_type_2) × (other.metric < key.metric)
-fate_beside key other fate.Class = (type_rank key.is_type_2 ≡ type_rank other.is_type_2) × (key.metric ≡ other.metric) × (other.class < key.class)
-fate_beside key other fate.Costlier = (type_rank key.is_type_2 ≡ type_rank other.is_type_2) × (key.metric ≡ other.metric) × (key.class ≡ other.class) × (other.cost < key.cost)
-fate_beside key other fate.Taken = rank key ≤ rank other
+abbrev pub fate_beside : ExternalKey → ExternalKey → Verdict → Type 0
+fate_beside key other verdict.Type2 = type_rank other.is_type_2 < type_rank key.is_type_2
+fate_beside key other verdict.Metric2 = (type_rank key.is_type_2 ≡ type_rank other.is_type_2) × (other.metric < key.metric)
+fate_beside key other verdict.Class = (type_rank key.is_type_2 ≡ type_rank other.is_type_2) × (key.metric ≡ other.metric) × (other.class < key.class)
+fate_beside key other verdict.Costlier = (type_rank key.is_type_2 ≡ type_rank other.is_type_2) × (key.metric ≡ other.metric) × (key.class ≡ other.class) × (other.cost < key.cost)
+fate_beside key other verdict.Taken = rank key ≤ rank other
 fate_beside key other _ = ⊥
 
 -- ---- what the offers for a network are compared with
@@ -55,7 +55,7 @@ HasKey w _ o key = ⊥
 
 -- it is no AS-external-LSA, or has no key for some reason
 abbrev pub HasNoKey : Layers → OfferKind → Offer → Type 0
-HasNoKey w (kind.AsExternal metric external) o = (f : Fate) × LacksKey w o metric external f
+HasNoKey w (kind.AsExternal metric external) o = (f : Verdict) × LacksKey w o metric external f
 HasNoKey w _ o = Unit {0}
 
 -- the offer has a key, and this is no greater; or it has none
@@ -93,29 +93,29 @@ abbrev pub IsComparable : Entry → Offer → Type 0
 IsComparable e o = IsSummary o.kind → e.kind ≢ Intra
 
 -- within the AS, beside the route and such a transit network (16.1, 16.2), the first step that decides; where an offer has paths, there is a route
-abbrev pub IsFateWithin : Option Entry → Option ℕ → Offer → ℕ → ℕ → Fate → Type 0
-IsFateWithin (Some e) greatest o area cost fate.IntraArea = (e.kind ≡ Intra) × IsSummary o.kind
-IsFateWithin (Some e) greatest o area cost fate.Costlier = (e.cost < cost) × IsComparable e o
-IsFateWithin (Some e) greatest o area cost fate.LesserArea = (cost ≤ e.cost) × (e.area ≢ Some area) × IsComparable e o
-IsFateWithin (Some e) greatest o area cost fate.LesserId = (cost ≤ e.cost) × (e.area ≡ Some area) × (o.kind ≡ kind.Transit) × (greatest ≢ Some o.source.key.id)
-IsFateWithin (Some e) greatest o area cost fate.Taken = (cost ≤ e.cost) × (e.area ≡ Some area) × (o.kind ≡ kind.Transit → greatest ≡ Some o.source.key.id) × IsComparable e o
-IsFateWithin None greatest o area cost fate.Unreached = Unit {0}
+abbrev pub IsFateWithin : Option Entry → Option ℕ → Offer → ℕ → ℕ → Verdict → Type 0
+IsFateWithin (Some e) greatest o area cost verdict.IntraArea = (e.kind ≡ Intra) × IsSummary o.kind
+IsFateWithin (Some e) greatest o area cost verdict.Costlier = (e.cost < cost) × IsComparable e o
+IsFateWithin (Some e) greatest o area cost verdict.LesserArea = (cost ≤ e.cost) × (e.area ≢ Some area) × IsComparable e o
+IsFateWithin (Some e) greatest o area cost verdict.LesserId = (cost ≤ e.cost) × (e.area ≡ Some area) × (o.kind ≡ kind.Transit) × (greatest ≢ Some o.source.key.id)
+IsFateWithin (Some e) greatest o area cost verdict.Taken = (cost ≤ e.cost) × (e.area ≡ Some area) × (o.kind ≡ kind.Transit → greatest ≡ Some o.source.key.id) × IsComparable e o
+IsFateWithin None greatest o area cost verdict.Unreached = Unit {0}
 IsFateWithin _ greatest o area cost _ = ⊥
 
 -- outside, beside a route within the AS and the least key (16.4 (6))
-abbrev pub IsFateOutside : Option Entry → Option ExternalKey → ExternalKey → Fate → Type 0
-IsFateOutside (Some e) least key f = f ≡ fate.Internal
+abbrev pub IsFateOutside : Option Entry → Option ExternalKey → ExternalKey → Verdict → Type 0
+IsFateOutside (Some e) least key f = f ≡ verdict.Internal
 IsFateOutside None (Some other) key f = fate_beside key other f
-IsFateOutside None None key f = f ≡ fate.Taken
+IsFateOutside None None key f = f ≡ verdict.Taken
 
 -- what was found, and with it what became of it
-abbrev pub IsJudgedBy : {X : Type 0} → (X → ℕ) → (X → Fate → Type 0) → Result X Fate → Judged → Type 0
-IsJudgedBy cost_of IsFate (Ok x) judged = (judged.cost ≡ Some (cost_of x)) × IsFate x judged.fate
-IsJudgedBy cost_of IsFate (Err f) judged = (judged.cost ≡ None) × (judged.fate ≡ f)
+abbrev pub IsJudgedBy : {X : Type 0} → (X → ℕ) → (X → Verdict → Type 0) → Result X Verdict → Judged → Type 0
+IsJudgedBy cost_of IsFate (Ok x) judged = (judged.cost ≡ Some (cost_of x)) × IsFate x judged.verdict
+IsJudgedBy cost_of IsFate (Err f) judged = (judged.cost ≡ None) × (judged.verdict ≡ f)
 
--- an offer of the area, or outside it, has this cost and fate, or none for this reason
-abbrev pub IsJudgedIn : {X : Type 0} → (X → Type 0) → (Fate → Type 0) → (X → ℕ) → (X → Fate → Type 0) → Judged → Type 0
-IsJudgedIn {X} Has Lacks cost_of IsFate judged = ((x : X) × Has x × (judged.cost ≡ Some (cost_of x)) × IsFate x judged.fate) ⊎ ((judged.cost ≡ None) × Lacks judged.fate)
+-- an offer of the area, or outside it, has this cost and verdict, or none for this reason
+abbrev pub IsJudgedIn : {X : Type 0} → (X → Type 0) → (Verdict → Type 0) → (X → ℕ) → (X → Verdict → Type 0) → Judged → Type 0
+IsJudgedIn {X} Has Lacks cost_of IsFate judged = ((x : X) × Has x × (judged.cost ≡ Some (cost_of x)) × IsFate x judged.verdict) ⊎ ((judged.cost ≡ None) × Lacks judged.verdict)
 
 -- the cost of an offer within the AS, or why it has none
 abbrev pub IsCostWithin : Layers → ℕ → Offer → OfferKind → ℕ → Type 0
@@ -124,16 +124,16 @@ IsCostWithin w area o kind.Transit cost = IsTransitCost w area o cost
 IsCostWithin w area o (kind.Summary metric) cost = IsSummaryCost w area o metric cost
 IsCostWithin w area o (kind.AsExternal metric external) cost = ⊥
 
-abbrev pub LacksCostWithin : Layers → ℕ → Offer → OfferKind → Fate → Type 0
+abbrev pub LacksCostWithin : Layers → ℕ → Offer → OfferKind → Verdict → Type 0
 LacksCostWithin w area o (kind.Stub metric) f = LacksStubCost w area o f
 LacksCostWithin w area o kind.Transit f = LacksTransitCost w area o f
 LacksCostWithin w area o (kind.Summary metric) f = LacksSummaryCost w area o metric f
-LacksCostWithin w area o (kind.AsExternal metric external) f = f ≡ fate.NotExamined
+LacksCostWithin w area o (kind.AsExternal metric external) f = f ≡ verdict.NotExamined
 
 -- an offer within the AS, by the scope of its LSA
 abbrev pub IsJudgedWithin : Layers → Option Entry → Option ℕ → Offer → Scope → Judged → Type 0
 IsJudgedWithin w internal greatest o (Area area) judged = IsJudgedIn (IsCostWithin w area o o.kind) (LacksCostWithin w area o o.kind) (λ c. c) (IsFateWithin internal greatest o area) judged
-IsJudgedWithin w internal greatest o As judged = (judged.cost ≡ None) × (judged.fate ≡ fate.NotExamined)
+IsJudgedWithin w internal greatest o As judged = (judged.cost ≡ None) × (judged.verdict ≡ verdict.NotExamined)
 
 abbrev pub IsJudgedAs : Layers → Option Entry → Option ℕ → Option ExternalKey → Offer → OfferKind → Judged → Type 0
 IsJudgedAs w internal greatest least o (kind.AsExternal metric external) judged = IsJudgedIn (IsExternalKey w o metric external) (LacksKey w o metric external) (λ (k : ExternalKey). k.cost) (IsFateOutside internal least) judged

@@ -8,7 +8,7 @@ use Rattle.ospf_types.specs.declared.prefix.Prefix.{Prefix}
 use Rattle.event_state.specs.States.{database_of, lsas_of}
 use Rattle.intra.specs.Inputs.{AreaValue}
 use Rattle.explanation.specs.Groups.{AreOfNetwork, offers_for}
-use Rattle.explanation.specs.declared.fate.Fate.TheVariants.{Taken}
+use Rattle.explanation.specs.declared.verdict.Verdict.TheVariants.{Taken}
 use Rattle.explanation.specs.declared.judging.Judged.{Judged}
 use Rattle.explanation.specs.declared.layers.Layers.{Layers}
 use Rattle.explanation.specs.declared.offer.Offer.{Offer}
@@ -44,4 +44,4 @@ pub record IsJudgedAmong (w : Layers) (all : List Offer) (o : Offer) (judged : J
 
 -- it is taken
 abbrev pub IsTakenAmong : Layers → List Offer → Offer → Type 0
-IsTakenAmong w all o = (cost : Option ℕ) × IsJudgedAmong w all o (record { cost = cost; fate = Taken })
+IsTakenAmong w all o = (cost : Option ℕ) × IsJudgedAmong w all o (record { cost = cost; verdict = Taken })

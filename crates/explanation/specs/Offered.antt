@@ -9,13 +9,13 @@ use Rattle.ospf_types.specs.declared.prefix.Prefix.{Prefix}
 use Rattle.ospf_types.specs.Inter.{LSInfinity}
 use Rattle.ospf_types.specs.Intra.{B, LiesIn}
 use Rattle.ospf_types.specs.Lsa.{MaxAge}
-use Rattle.path_choice.specs.Reached.{ReachedValue}
+use Rattle.path_choice.specs.ReachedRouter.{ReachedValue}
 use Rattle.intra.specs.Intras.{reached_at}
 use Rattle.active_ranges.specs.Active.{IsActiveIn}
-use Rattle.external.specs.Preferred.{PreferredValue}
+use Rattle.external.specs.AsbrRoute.{PreferredValue}
 use Rattle.external.specs.Forwards.{ForwardValue, WayValue}
-use Rattle.explanation.specs.declared.fate.Fate.{Fate}
-use Rattle.explanation.specs.declared.fate.Fate.TheVariants as fate
+use Rattle.explanation.specs.declared.verdict.Verdict.{Verdict}
+use Rattle.explanation.specs.declared.verdict.Verdict.TheVariants as verdict
 use Rattle.explanation.specs.declared.layers.Layers.{Layers}
 use Rattle.explanation.specs.declared.offer.Offer.{Offer}
 use Rattle.explanation.specs.declared.offered.ExternalKey.{ExternalKey}
@@ -41,10 +41,10 @@ IsStubCost w area o metric cost = (o.age < MaxAge) × (
     ⊎ ((o.source.key.router ≢ root_of w) × ((distance : ℕ) × IsDistanceOf w.areas.now area (Router o.source.key.router) (Some distance) × (cost ≡ distance + metric))))
 
 -- why a stub network has none: the first of these that holds
-abbrev pub LacksStubCost : Layers → ℕ → Offer → Fate → Type 0
-LacksStubCost w area o fate.MaxAge = MaxAge ≤ o.age
-LacksStubCost w area o fate.NoInterface = (o.age < MaxAge) × (o.source.key.router ≡ root_of w) × (HasInterfaceOn w area o.network → ⊥)
-LacksStubCost w area o fate.Unreached = (o.age < MaxAge) × (o.source.key.router ≢ root_of w) × IsDistanceOf w.areas.now area (Router o.source.key.router) None
+abbrev pub LacksStubCost : Layers → ℕ → Offer → Verdict → Type 0
+LacksStubCost w area o verdict.MaxAge = MaxAge ≤ o.age
+LacksStubCost w area o verdict.NoInterface = (o.age < MaxAge) × (o.source.key.router ≡ root_of w) × (HasInterfaceOn w area o.network → ⊥)
+LacksStubCost w area o verdict.Unreached = (o.age < MaxAge) × (o.source.key.router ≢ root_of w) × IsDistanceOf w.areas.now area (Router o.source.key.router) None
 LacksStubCost w area o _ = ⊥
 
 -- the cost of a transit network, for which the LSA stands: its distance
@@ -53,10 +53,10 @@ IsTransitCost w area o cost = (o.age < MaxAge)
     × IsKeyStanding w.areas.now area (Network o.source.key.id) (Some o.source.key) × IsDistanceOf w.areas.now area (Network o.source.key.id) (Some cost)
 
 -- why a transit network has none: the first of these that holds
-abbrev pub LacksTransitCost : Layers → ℕ → Offer → Fate → Type 0
-LacksTransitCost w area o fate.MaxAge = MaxAge ≤ o.age
-LacksTransitCost w area o fate.Another = (o.age < MaxAge) × (key : Option Key) × IsKeyStanding w.areas.now area (Network o.source.key.id) key × (key ≢ Some o.source.key)
-LacksTransitCost w area o fate.Unreached = (o.age < MaxAge)
+abbrev pub LacksTransitCost : Layers → ℕ → Offer → Verdict → Type 0
+LacksTransitCost w area o verdict.MaxAge = MaxAge ≤ o.age
+LacksTransitCost w area o verdict.Another = (o.age < MaxAge) × (key : Option Key) × IsKeyStanding w.areas.now area (Network o.source.key.id) key × (key ≢ Some o.source.key)
+LacksTransitCost w area o verdict.Unreached = (o.age < MaxAge)
     × IsKeyStanding w.areas.now area (Network o.source.key.id) (Some o.source.key) × IsDistanceOf w.areas.now area (Network o.source.key.id) None
 LacksTransitCost w area o _ = ⊥
 
@@ -67,10 +67,10 @@ abbrev pub IsBorderReached : Layers → ℕ → ℕ → ReachedValue → Type 0
 IsBorderReached w area router r = (reached_at w.calculation.now.intra.areas area router ≡ Some r) × (0 < bit_and r.flags B)
 
 -- an LSA that is passed over at once, and the first reason that holds: at LSInfinity, at MaxAge (1), or the router's own (2)
-abbrev pub IsUnfit : Layers → Offer → ℕ → Fate → Type 0
-IsUnfit w o metric fate.Infinity = LSInfinity ≤ metric
-IsUnfit w o metric fate.MaxAge = (metric < LSInfinity) × (MaxAge ≤ o.age)
-IsUnfit w o metric fate.Own = (metric < LSInfinity) × (o.age < MaxAge) × (o.source.key.router ≡ root_of w)
+abbrev pub IsUnfit : Layers → Offer → ℕ → Verdict → Type 0
+IsUnfit w o metric verdict.Infinity = LSInfinity ≤ metric
+IsUnfit w o metric verdict.MaxAge = (metric < LSInfinity) × (MaxAge ≤ o.age)
+IsUnfit w o metric verdict.Own = (metric < LSInfinity) × (o.age < MaxAge) × (o.source.key.router ≡ root_of w)
 IsUnfit w o metric _ = ⊥
 
 -- none of that
@@ -84,11 +84,11 @@ IsSummaryCost w area o metric cost =
     × ((r : ReachedValue) × IsBorderReached w area o.source.key.router r × (cost ≡ r.distance + metric))
 
 -- why a summary has none: the first of the steps that speaks against it, in the order of 16.2
-abbrev pub LacksSummaryCost : Layers → ℕ → Offer → ℕ → Fate → Type 0
-LacksSummaryCost w area o metric fate.NotExamined = is_examined w.active.now area ≡ false
-LacksSummaryCost w area o metric fate.ActiveRange =
+abbrev pub LacksSummaryCost : Layers → ℕ → Offer → ℕ → Verdict → Type 0
+LacksSummaryCost w area o metric verdict.NotExamined = is_examined w.active.now area ≡ false
+LacksSummaryCost w area o metric verdict.ActiveRange =
     (is_examined w.active.now area ≡ true) × IsFit w o metric × IsActiveIn w.calculation.now.active o.network
-LacksSummaryCost w area o metric fate.NoBorderRouter =
+LacksSummaryCost w area o metric verdict.NoBorderRouter =
     (is_examined w.active.now area ≡ true) × IsFit w o metric × (IsActiveIn w.calculation.now.active o.network → ⊥)
     × ((r : ReachedValue) → IsBorderReached w area o.source.key.router r → ⊥)
 LacksSummaryCost w area o metric f = (is_examined w.active.now area ≡ true) × IsUnfit w o metric f
@@ -126,7 +126,7 @@ abbrev pub LeadsNowhere : Layers → ℕ → Type 0
 LeadsNowhere w address = (0 < address) × ((f : ForwardValue) (way : WayValue) → get w.calculation.now.external.forwards address ≡ Some f → f.way ≡ Some way → ⊥)
 
 -- why it is not compared: the first of the steps that speaks against it, in the order of 16.4
-abbrev pub LacksKey : Layers → Offer → ℕ → External → Fate → Type 0
-LacksKey w o metric external fate.NoBoundaryRouter = IsFit w o metric × (get w.calculation.now.external.preferred o.source.key.router ≡ None)
-LacksKey w o metric external fate.NoForward = IsFit w o metric × IsBoundaryReached w o.source.key.router × LeadsNowhere w external.forwarding
+abbrev pub LacksKey : Layers → Offer → ℕ → External → Verdict → Type 0
+LacksKey w o metric external verdict.NoBoundaryRouter = IsFit w o metric × (get w.calculation.now.external.preferred o.source.key.router ≡ None)
+LacksKey w o metric external verdict.NoForward = IsFit w o metric × IsBoundaryReached w o.source.key.router × LeadsNowhere w external.forwarding
 LacksKey w o metric external f = IsUnfit w o metric f

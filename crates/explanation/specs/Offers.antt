@@ -12,7 +12,7 @@ use Rattle.ospf_types.specs.Masks.{masked}
 use Rattle.ospf_types.specs.RangeChanges.{is_same_prefix}
 use Rattle.lsa_codec.specs.Readers.{links_of, without_tos, prefix_of, metric_of, external_of}
 use Rattle.ospf_types.specs.Lsa.{RouterLink}
-use Rattle.explanation.specs.declared.offer.Source.{Source}
+use Rattle.explanation.specs.declared.offer.LsaInstance.{LsaInstance}
 use Rattle.explanation.specs.declared.offer.Offer.{Offer}
 use Rattle.explanation.specs.declared.offer.OfferKind.{OfferKind}
 use Rattle.explanation.specs.declared.offer.OfferKind.TheVariants.{Stub, Transit, Summary, AsExternal}
@@ -20,7 +20,7 @@ use Rattle.explanation.specs.declared.offers.Wanted.{Wanted}
 use Rattle.explanation.specs.declared.offers.Wanted.TheVariants.{Around, Among}
 
 -- the instance, and the database that has it
-abbrev pub source_of : Scope → Lsa → Source
+abbrev pub source_of : Scope → Lsa → LsaInstance
 source_of scope l = record { scope = scope; key = key_of l; seq = l.header.seq }
 
 -- ---- the networks that LSAs are asked for

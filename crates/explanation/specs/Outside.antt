@@ -14,23 +14,23 @@ use Rattle.ospf_types.specs.External.{toward}
 use Rattle.ospf_types.specs.Intra.{E}
 use Rattle.ospf_types.specs.Lsa.{Lsa, MaxAge}
 use Rattle.lsa_codec.specs.Readers.{metric_of}
-use Rattle.path_choice.specs.Reached.{ReachedValue}
+use Rattle.path_choice.specs.ReachedRouter.{ReachedValue}
 use Rattle.intra.specs.Inputs.{AreaValue}
 use Rattle.intra.specs.Intras.{reached_at}
 use Rattle.external.specs.Forwards.{ForwardValue}
-use Rattle.external.specs.Preferred.{PreferredValue}
+use Rattle.external.specs.AsbrRoute.{PreferredValue}
 use Rattle.explanation.specs.Layers.{HasArea, internal_at}
 use Rattle.explanation.specs.Groups.{offers_for}
 use Rattle.explanation.specs.Networks.{IsTakenAmong, all_offers, all_wanted}
 use Rattle.explanation.specs.Offered.{root_of}
 use Rattle.explanation.specs.Offers.{is_one_of, source_of}
-use Rattle.explanation.specs.declared.forward.Forward.{Forward}
+use Rattle.explanation.specs.declared.forward.ForwardingMatch.{ForwardingMatch}
 use Rattle.explanation.specs.declared.grouping.Group.{Group}
 use Rattle.explanation.specs.declared.layers.Layers.{Layers}
 use Rattle.explanation.specs.declared.offer.Offer.{Offer}
 use Rattle.explanation.specs.declared.offer.OfferKind.{OfferKind}
 use Rattle.explanation.specs.declared.offer.OfferKind.TheVariants as kind
-use Rattle.explanation.specs.declared.trace.Place.TheVariants as place
+use Rattle.explanation.specs.declared.trace.TraceNode.TheVariants as place
 use Rattle.explanation.specs.declared.trace.Step.{Step}
 use Rattle.explanation.specs.declared.trace.Trace.{Trace}
 use Rattle.explanation.specs.Giving.{AreOfEach, GivesOne}
@@ -176,18 +176,18 @@ AreMatched w networks offers = (o : Offer) → Contains offers o → IsMatched w
 abbrev pub AreAllOf : Layers → Group → Type 0
 AreAllOf w g = (networks : List Prefix) × Contains networks g.network × (g.offers.items ≡ offers_for g.network (all_wanted (is_one_of networks) w))
 
-abbrev pub networks_of : List Forward → List Prefix
-networks_of forwards = map (λ (f : Forward). f.network) forwards
+abbrev pub networks_of : List ForwardingMatch → List Prefix
+networks_of forwards = map (λ (f : ForwardingMatch). f.network) forwards
 
 -- for each of these networks the traces to it
-pub record AreForwards (w : Layers) (networks : List Prefix) (forwards : List Forward) : Type 0 where
+pub record AreForwards (w : Layers) (networks : List Prefix) (forwards : List ForwardingMatch) : Type 0 where
   pub listed : networks_of forwards ≡ networks
-  pub right : All (λ (f : Forward). AreNetworkTraces w f.network f.traces.items) forwards
+  pub right : All (λ (f : ForwardingMatch). AreNetworkTraces w f.network f.traces.items) forwards
 
 -- the network and the traces to it are added
-abbrev pub AddsForward : Layers → Prefix → List Forward → List Forward → Type 0
-AddsForward w p before after = (f : Forward) × (f.network ≡ p) × AreNetworkTraces w p f.traces.items × (after ≡ before ++ f ∷ [])
+abbrev pub AddsForward : Layers → Prefix → List ForwardingMatch → List ForwardingMatch → Type 0
+AddsForward w p before after = (f : ForwardingMatch) × (f.network ≡ p) × AreNetworkTraces w p f.traces.items × (after ≡ before ++ f ∷ [])
 
 -- these are the traces to the network
-abbrev pub HasTraces : List Forward → Prefix → List Trace → Type 0
-HasTraces forwards p traces = (f : Forward) × Contains forwards f × (f.network ≡ p) × (traces ≡ f.traces.items)
+abbrev pub HasTraces : List ForwardingMatch → Prefix → List Trace → Type 0
+HasTraces forwards p traces = (f : ForwardingMatch) × Contains forwards f × (f.network ≡ p) × (traces ≡ f.traces.items)

@@ -21,9 +21,9 @@ use Rattle.ospf_types.specs.declared.key.Key.{Key}
 use Rattle.explanation.specs.declared.offer.Offer.{Offer}
 use Rattle.explanation.specs.declared.offer.OfferKind.{OfferKind}
 use Rattle.explanation.specs.declared.offer.OfferKind.TheVariants as kind
-use Rattle.explanation.specs.declared.offer.Source.{Source}
-use Rattle.explanation.specs.declared.trace.Place.{Place}
-use Rattle.explanation.specs.declared.trace.Place.TheVariants as place
+use Rattle.explanation.specs.declared.offer.LsaInstance.{LsaInstance}
+use Rattle.explanation.specs.declared.trace.TraceNode.{TraceNode}
+use Rattle.explanation.specs.declared.trace.TraceNode.TheVariants as place
 use Rattle.explanation.specs.declared.trace.Step.{Step}
 use Rattle.explanation.specs.declared.trace.Trace.{Trace}
 use Rattle.explanation.specs.Giving.{AreOfEach, GivesOne}
@@ -31,7 +31,7 @@ use Rattle.explanation.specs.Offers.{source_of}
 use Rattle.explanation.specs.Layers.{HasArea, LacksArea}
 
 -- it is the instance, in the area's database, of the LSA that stands for the vertex
-abbrev pub IsSourceAt : AreaValue → Vertex → Source → Type 0
+abbrev pub IsSourceAt : AreaValue → Vertex → LsaInstance → Type 0
 IsSourceAt a v source = (key : Key) × (l : Lsa) × IsStandingKey a.lsas v key × (get a.lsas key ≡ Some l) × (l.header.age < MaxAge) × (source ≡ source_of (Area a.id) l)
 
 -- the step is this link of the area's graph, and says so by the LSA of the link's tail
@@ -105,7 +105,7 @@ metric_by (kind.Summary metric) = metric
 metric_by (kind.AsExternal metric external) = metric
 
 -- the last step of each of its traces: from there to the network
-abbrev pub last_from : Place → Offer → Step
+abbrev pub last_from : TraceNode → Offer → Step
 last_from from o = record { from = from; to = place.Network o.network; cost = metric_by o.kind; source = o.source }
 
 abbrev pub last_of : Offer → Step

@@ -8,7 +8,7 @@ ghost use Rattle.explanation.specs.Outside.{AreForwards, AreMatched, AreTraces, 
 ghost use Rattle.explanation.specs.Explained.{AddsJudged, AddsNetwork, AreCandidates, AreInOrder, AreNetworks, AreTracesFor, IsExplained};
 
 use crate::all_offers::of_network;
-use crate::fate::Fate;
+use crate::verdict::Verdict;
 use crate::forward::{Forwarded, Forwards, is_taken};
 use crate::judging::{Judged, Rivals};
 use crate::layers::Layers;
@@ -32,7 +32,7 @@ pub struct Candidate {
     /// What its paths cost; of a type 2 external metric, to the forwarding address or the AS boundary router. None where it has
     /// no path.
     pub cost: Option<u32>,
-    pub fate: Fate,
+    pub verdict: Verdict,
     /// If it is taken, a trace for each path that it gives to its network's route; else none.
     pub traces: Vec<Trace>,
 }
@@ -43,7 +43,7 @@ impl Drop for Candidate {
         let Candidate {
             offer: _,
             cost: _,
-            fate: _,
+            verdict: _,
             traces: _traces,
         } = self;
     }
@@ -141,12 +141,12 @@ impl Layers<'_, '_> {
             rivals.now.greatest rivals.now.least offer.now candidates.old.items
             candidates.new.items) }
     {
-        let Judged { cost, fate } = self.judge(offer, rivals);
-        let traces = self.traces_if(*candidates.allocator(), fate, offer, forwards)?;
+        let Judged { cost, verdict } = self.judge(offer, rivals);
+        let traces = self.traces_if(*candidates.allocator(), verdict, offer, forwards)?;
         candidates.push(Candidate {
             offer: *offer,
             cost,
-            fate,
+            verdict,
             traces,
         })?;
         Ok(())
@@ -156,16 +156,16 @@ impl Layers<'_, '_> {
     fn traces_if(
         self,
         alloc: Global,
-        fate: Fate,
+        verdict: Verdict,
         offer: &Offer,
         forwards: &Forwards,
     ) -> Result<Vec<Trace>, Memory>
         requires areas { AreAreas self.areas.now }
         requires forwards { AreForwards self forwards.now.networks forwards.now.items.items }
         requires matched { IsMatched self forwards.now.networks offer.now }
-        ensures { IfOk result (λ traces. AreTracesFor self.entry offer.now fate traces.items) }
+        ensures { IfOk result (λ traces. AreTracesFor self.entry offer.now verdict traces.items) }
     {
-        if !is_taken(fate) {
+        if !is_taken(verdict) {
             return Ok(Vec::new(alloc));
         }
         let Some(entry) = self.calculation.entry(offer.network) else {

@@ -8,14 +8,14 @@ ghost use Rattle.explanation.specs.Networks.{all_offers, all_wanted};
 ghost use Rattle.explanation.specs.Offers.{is_one_of};
 ghost use Rattle.explanation.specs.Outside.{AddsForward, AreAllOf, AreForwarded, AreForwards, AreMatched, AreNetworkTraces, GivesOnward, GivesRoute, HasTraces, IsMatchedAt, match_at, match_by, networks_of};
 
-use crate::fate::Fate;
+use crate::verdict::Verdict;
 use crate::grouping::{Group, grouped};
 use crate::layers::Layers;
 use crate::networks::Networks;
 use crate::offer::{Offer, OfferKind};
 use crate::offers::Wanted;
 use crate::outside::has_path;
-use crate::trace::{Place, Trace};
+use crate::trace::{TraceNode, Trace};
 use ospf_types::hop::{NextHop, Path};
 use ospf_types::key::Scope;
 use ospf_types::memory::Memory;
@@ -23,15 +23,15 @@ use ospf_types::prefix::Prefix;
 use std::alloc::Global;
 
 /// The longest match of forwarding addresses, and the traces to it.
-pub(crate) struct Forward {
+pub(crate) struct ForwardingMatch {
     pub(crate) network: Prefix,
     pub(crate) traces: Vec<Trace>,
 }
 
 // proof: one call drops it, in place of a drop of each part wherever one is held.
-impl Drop for Forward {
+impl Drop for ForwardingMatch {
     fn drop(self) {
-        let Forward {
+        let ForwardingMatch {
             network: _,
             traces: _traces,
         } = self;
@@ -42,7 +42,7 @@ impl Drop for Forward {
 pub(crate) struct Forwards {
     pub(crate) networks: Networks,
     /// One for each of the networks, in their order.
-    pub(crate) items: Vec<Forward>,
+    pub(crate) items: Vec<ForwardingMatch>,
 }
 
 // proof: one call drops it, in place of a drop of each part wherever one is held.
@@ -140,7 +140,7 @@ impl Layers<'_, '_> {
     }
 
     // Adds the network and the traces to it.
-    fn push_forward(self, group: &Group, forwards: &mut Vec<Forward>) -> Result<(), Memory>
+    fn push_forward(self, group: &Group, forwards: &mut Vec<ForwardingMatch>) -> Result<(), Memory>
         requires areas { AreAreas self.areas.now }
         requires all { AreAllOf self group.now }
         ensures { OnOk result (AddsForward self.entry group.now.network forwards.old.items
@@ -150,7 +150,7 @@ impl Layers<'_, '_> {
         // proof: a network has its own address.
         let _address = network.address();
         let traces = self.network_traces(*forwards.allocator(), network, &group.offers)?;
-        forwards.push(Forward { network, traces })?;
+        forwards.push(ForwardingMatch { network, traces })?;
         Ok(())
     }
 
@@ -169,7 +169,7 @@ impl Layers<'_, '_> {
         let mut traces = Vec::new(alloc);
         for by in offers {
             let judged = self.judge(by, &rivals);
-            if is_taken(judged.fate) {
+            if is_taken(judged.verdict) {
                 self.push_route(by, &mut traces)?;
             }
         }
@@ -235,16 +235,16 @@ fn push_onward(
         return Ok(());
     }
     let mut steps = Vec::from_slice(alloc, &inner.steps)?;
-    steps.push(forwarded.offer.last_step(Place::Network(network)))?;
+    steps.push(forwarded.offer.last_step(TraceNode::Network(network)))?;
     traces.push(Trace { path, steps })?;
     Ok(())
 }
 
 /// Whether the paths of the offer are among those of the route.
-pub(crate) fn is_taken(fate: Fate) -> bool
-    ensures { IsTrue result ↔ (fate ≡ Fate.Taken) }
+pub(crate) fn is_taken(verdict: Verdict) -> bool
+    ensures { IsTrue result ↔ (verdict ≡ Verdict.Taken) }
 {
-    matches!(fate, Fate::Taken)
+    matches!(verdict, Verdict::Taken)
 }
 
 // The next hop toward the address: on a network of the root that is the address itself.

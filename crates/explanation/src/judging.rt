@@ -3,7 +3,7 @@ ghost use Rattle.std.specs.Prelude.{◌≡◌, ◌↔◌, ◌<◌, IfErr, IfNone
 ghost use Rattle.explanation.specs.Layers.{AreAreas};
 ghost use Rattle.explanation.specs.Judging.{HasKey, HasNoKey, IsCostWithin, IsFateOutside, IsFateWithin, IsGreater, IsGreatestId, IsJudged, IsJudgedBy, IsLeastKey, IsLesser, IsRivalsOf, IsSummary, IsTransitAt, LacksCostWithin, fate_beside, rank};
 
-use crate::fate::Fate;
+use crate::verdict::Verdict;
 use crate::layers::Layers;
 use crate::offer::{Offer, OfferKind};
 use crate::offered::ExternalKey;
@@ -16,7 +16,7 @@ use ospf_types::prefix::Prefix;
 pub(crate) struct Judged {
     /// What its paths cost; none where it has none.
     pub(crate) cost: Option<u32>,
-    pub(crate) fate: Fate,
+    pub(crate) verdict: Verdict,
 }
 
 /// What the offers for a network are compared with.
@@ -32,68 +32,68 @@ pub(crate) struct Rivals<'c> {
 
 impl Rivals<'_> {
     // What an offer within the AS comes to, by the cost that was found.
-    fn judge_within(&self, offer: &Offer, area: u32, found: Result<u32, Fate>) -> Judged
+    fn judge_within(&self, offer: &Offer, area: u32, found: Result<u32, Verdict>) -> Judged
         ensures { IsJudgedBy (λ cost. cost) (IsFateWithin (option_copied self.now.internal)
             self.now.greatest offer.now area) found result }
     {
         match found {
             Ok(cost) => Judged {
                 cost: Some(cost),
-                fate: self.fate_within(offer, area, cost),
+                verdict: self.fate_within(offer, area, cost),
             },
-            Err(fate) => Judged { cost: None, fate },
+            Err(verdict) => Judged { cost: None, verdict },
         }
     }
 
-    fn fate_within(&self, offer: &Offer, area: u32, cost: u32) -> Fate
+    fn fate_within(&self, offer: &Offer, area: u32, cost: u32) -> Verdict
         ensures { IsFateWithin (option_copied self.now.internal) self.now.greatest offer.now area
             cost result }
     {
         let Some(entry) = self.internal else {
-            return Fate::Unreached;
+            return Verdict::Unreached;
         };
         // 16.2 (6)
         if is_summary(offer.kind) && is_intra(entry) {
-            return Fate::IntraArea;
+            return Verdict::IntraArea;
         }
         // 16.1 (2d), 16.2 (7)
         if cost > entry.cost {
-            return Fate::Costlier;
+            return Verdict::Costlier;
         }
         if entry.area != Some(area) {
-            return Fate::LesserArea;
+            return Verdict::LesserArea;
         }
         // 16.1 (4)
         if is_transit(offer.kind) && self.greatest != Some(offer.source.key.id) {
-            return Fate::LesserId;
+            return Verdict::LesserId;
         }
-        Fate::Taken
+        Verdict::Taken
     }
 
     // What an AS-external-LSA comes to, by the key that was found.
-    fn judge_external(&self, found: Result<ExternalKey, Fate>) -> Judged
+    fn judge_external(&self, found: Result<ExternalKey, Verdict>) -> Judged
         ensures { IsJudgedBy (λ key. key.cost) (IsFateOutside (option_copied self.now.internal)
             self.now.least) found result }
     {
         match found {
             Ok(key) => Judged {
                 cost: Some(key.cost),
-                fate: self.fate_outside(key),
+                verdict: self.fate_outside(key),
             },
-            Err(fate) => Judged { cost: None, fate },
+            Err(verdict) => Judged { cost: None, verdict },
         }
     }
 
-    fn fate_outside(&self, key: ExternalKey) -> Fate
+    fn fate_outside(&self, key: ExternalKey) -> Verdict
         ensures { IsFateOutside (option_copied self.now.internal) self.now.least key result }
     {
         // 16.4 (6a)
         if self.internal.is_some() {
-            return Fate::Internal;
+            return Verdict::Internal;
         }
         match self.least {
             Some(least) => key.fate_beside(least),
-            None => Fate::Taken,
+            None => Verdict::Taken,
         }
     }
 }
@@ -154,34 +154,34 @@ impl ExternalKey {
     }
 
     // What becomes of a path with this key beside one with the other.
-    fn fate_beside(self, other: ExternalKey) -> Fate
+    fn fate_beside(self, other: ExternalKey) -> Verdict
         ensures { fate_beside self other result }
     {
         // 16.4 (6b)
         if self.is_type_2 && !other.is_type_2 {
-            return Fate::Type2;
+            return Verdict::Type2;
         }
         if self.is_type_2 != other.is_type_2 {
-            return Fate::Taken;
+            return Verdict::Taken;
         }
         if self.metric > other.metric {
-            return Fate::Metric2;
+            return Verdict::Metric2;
         }
         if self.metric < other.metric {
-            return Fate::Taken;
+            return Verdict::Taken;
         }
         // 16.4 (6c)
         if self.class > other.class {
-            return Fate::Class;
+            return Verdict::Class;
         }
         if self.class < other.class {
-            return Fate::Taken;
+            return Verdict::Taken;
         }
         // 16.4 (6d)
         if self.cost > other.cost {
-            return Fate::Costlier;
+            return Verdict::Costlier;
         }
-        Fate::Taken
+        Verdict::Taken
     }
 }
 
@@ -216,13 +216,13 @@ impl<'c> Layers<'c, '_> {
             Scope::Area(area) => { rivals.judge_within(offer, area, self.cost_within(area, offer)) }
             Scope::As => Judged {
                 cost: None,
-                fate: Fate::NotExamined,
+                verdict: Verdict::NotExamined,
             },
         }
     }
 
     // The cost of an offer within the AS.
-    fn cost_within(self, area: u32, offer: &Offer) -> Result<u32, Fate>
+    fn cost_within(self, area: u32, offer: &Offer) -> Result<u32, Verdict>
         requires { AreAreas self.areas.now }
         ensures cost { IfOk result (IsCostWithin self.entry area offer.now offer.now.kind) }
         ensures none { IfErr result (LacksCostWithin self.entry area offer.now offer.now.kind) }
@@ -231,7 +231,7 @@ impl<'c> Layers<'c, '_> {
             OfferKind::Stub(metric) => self.stub_cost(area, offer, metric),
             OfferKind::Transit => self.transit_cost(area, offer),
             OfferKind::Summary(metric) => self.summary_cost(area, offer, metric),
-            OfferKind::AsExternal(_, _) => Err(Fate::NotExamined),
+            OfferKind::AsExternal(_, _) => Err(Verdict::NotExamined),
         }
     }
 

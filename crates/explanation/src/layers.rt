@@ -10,7 +10,7 @@ use intra::AreaInputs;
 use ospf_types::entry::{Entry, Vertex};
 use ospf_types::key::{Dest, Key};
 use ospf_types::prefix::Prefix;
-use path_choice::Reached;
+use path_choice::ReachedRouter;
 
 // The Area ID of the backbone (RFC 2328, 3.1).
 const BACKBONE: u32 = 0;
@@ -96,7 +96,7 @@ impl<'c, 'a> Layers<'c, 'a> {
     }
 
     /// The AS boundary router or border router, where it is reached in the area.
-    pub(crate) fn reached(self, area: u32, router: u32) -> Option<&'c Reached>
+    pub(crate) fn reached(self, area: u32, router: u32) -> Option<&'c ReachedRouter>
         ensures { option_copied result ≡ reached_at self.entry.calculation.now.intra.areas area router }
     {
         self.calculation.intra().router(area, router)

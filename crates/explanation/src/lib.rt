@@ -4,7 +4,7 @@
 
 mod all_offers;
 mod explained;
-mod fate;
+mod verdict;
 mod forward;
 mod grouping;
 mod judging;
@@ -19,6 +19,6 @@ mod trace;
 mod traces;
 
 pub use explained::{Candidate, explain};
-pub use fate::Fate;
-pub use offer::{Offer, OfferKind, Source};
-pub use trace::{Place, Step, Trace};
+pub use verdict::Verdict;
+pub use offer::{Offer, OfferKind, LsaInstance};
+pub use trace::{TraceNode, Step, Trace};

@@ -2,7 +2,7 @@
 ghost use Rattle.std.specs.Prelude.{◌≡◌, Contains, IfNone, IfSome};
 ghost use Rattle.std.specs.List.Sorted.{IsStrictlySortedBy};
 ghost use Rattle.ospf_types.specs.Network.{network_cmp};
-ghost use Rattle.result_map.specs.Lists.{HasJust};
+ghost use Rattle.result_map.specs.Lists.{ListsExactly};
 ghost use Rattle.explanation.specs.Offers.{IsPlaceOf, is_one_of};
 
 use ospf_types::prefix::Prefix;
@@ -35,7 +35,7 @@ impl Model for Networks {
 
 impl Networks {
     pub(crate) fn of(networks: Vec<Prefix>) -> Networks
-        ensures { HasJust (Contains networks.items) result }
+        ensures { ListsExactly (Contains networks.items) result }
     {
         Networks {
             items: ascending(networks),

@@ -9,20 +9,20 @@ use ospf_types::prefix::Prefix;
 
 /// An instance of an LSA, and the database that has it.
 #[derive(Clone, Copy, Debug, PartialEq, Eq)]
-pub struct Source {
+pub struct LsaInstance {
     pub scope: Scope,
     pub key: Key,
     /// LS sequence number: the 32 bits of a signed number.
     pub seq: u32,
 }
 
-impl Source {
-    pub(crate) fn of(scope: Scope, lsa: &Checked) -> Source
+impl LsaInstance {
+    pub(crate) fn of(scope: Scope, lsa: &Checked) -> LsaInstance
         ensures { result ≡ source_of scope lsa.now }
     {
         let key = lsa.key();
         let seq = lsa.header().seq;
-        Source { scope, key, seq }
+        LsaInstance { scope, key, seq }
     }
 }
 
@@ -30,7 +30,7 @@ impl Source {
 #[derive(Clone, Copy, Debug, PartialEq, Eq)]
 pub struct Offer {
     pub network: Prefix,
-    pub source: Source,
+    pub source: LsaInstance,
     /// The LSA's present age, in seconds.
     pub age: u16,
     pub kind: OfferKind,

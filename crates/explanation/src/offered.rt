@@ -7,7 +7,7 @@ ghost use Rattle.intra.specs.Intras.{most_cost};
 ghost use Rattle.explanation.specs.Layers.{AreAreas};
 ghost use Rattle.explanation.specs.Offered.{HasInterfaceOn, IsExternalKey, IsFit, IsForwardedKey, IsOn, IsStubCost, IsSummaryCost, IsTransitCost, IsUnfit, LacksKey, LacksStubCost, LacksSummaryCost, LacksTransitCost, LeadsAt, LeadsNowhere, key_by};
 
-use crate::fate::Fate;
+use crate::verdict::Verdict;
 use crate::layers::Layers;
 use crate::offer::Offer;
 use ospf_types::config::Interface;
@@ -28,68 +28,68 @@ pub(crate) struct ExternalKey {
 
 impl Layers<'_, '_> {
     /// The cost of a stub network (16.1, the second stage).
-    pub(crate) fn stub_cost(self, area: u32, offer: &Offer, metric: u16) -> Result<u32, Fate>
+    pub(crate) fn stub_cost(self, area: u32, offer: &Offer, metric: u16) -> Result<u32, Verdict>
         ensures cost { IfOk result (IsStubCost self.entry area offer.now metric) }
         ensures none { IfErr result (LacksStubCost self.entry area offer.now) }
     {
         // 16.1 (2b)
         if offer.age >= MAX_AGE {
-            return Err(Fate::MaxAge);
+            return Err(Verdict::MaxAge);
         }
         let router = offer.source.key.router;
         if router == self.root() {
             if self.is_on(area, offer.network) {
                 return Ok(u32::from(metric));
             }
-            return Err(Fate::NoInterface);
+            return Err(Verdict::NoInterface);
         }
         match self.distance(area, Vertex::Router(router)) {
             Some(distance) => Ok(distance + u32::from(metric)),
-            None => Err(Fate::Unreached),
+            None => Err(Verdict::Unreached),
         }
     }
 
     /// The cost of a transit network (16.1 (4)).
-    pub(crate) fn transit_cost(self, area: u32, offer: &Offer) -> Result<u32, Fate>
+    pub(crate) fn transit_cost(self, area: u32, offer: &Offer) -> Result<u32, Verdict>
         requires { AreAreas self.areas.now }
         ensures cost { IfOk result (IsTransitCost self.entry area offer.now) }
         ensures none { IfErr result (LacksTransitCost self.entry area offer.now) }
     {
         // 16.1 (2b)
         if offer.age >= MAX_AGE {
-            return Err(Fate::MaxAge);
+            return Err(Verdict::MaxAge);
         }
         let key = offer.source.key;
         let vertex = Vertex::Network(key.id);
         if self.standing(area, vertex) != Some(key) {
-            return Err(Fate::Another);
+            return Err(Verdict::Another);
         }
         match self.distance(area, vertex) {
             Some(distance) => Ok(distance),
-            None => Err(Fate::Unreached),
+            None => Err(Verdict::Unreached),
         }
     }
 
     /// The cost of a summary (16.2).
-    pub(crate) fn summary_cost(self, area: u32, offer: &Offer, metric: u32) -> Result<u32, Fate>
+    pub(crate) fn summary_cost(self, area: u32, offer: &Offer, metric: u32) -> Result<u32, Verdict>
         ensures cost { IfOk result (IsSummaryCost self.entry area offer.now metric) }
         ensures none { IfErr result (LacksSummaryCost self.entry area offer.now metric) }
     {
         if !self.is_examined(area) {
-            return Err(Fate::NotExamined);
+            return Err(Verdict::NotExamined);
         }
         // 16.2 (1), (2)
-        if let Some(fate) = self.unfit(offer, metric) {
-            return Err(fate);
+        if let Some(verdict) = self.unfit(offer, metric) {
+            return Err(verdict);
         }
         // 16.2 (3)
         if self.calculation.active().contains(offer.network) {
-            return Err(Fate::ActiveRange);
+            return Err(Verdict::ActiveRange);
         }
         // 16.2 (4)
         match self.reached(area, offer.source.key.router) {
-            Some(border) if border.is_border() => Ok(border.distance() + metric),
-            _ => Err(Fate::NoBorderRouter),
+            Some(border) if border.is_abr() => Ok(border.distance() + metric),
+            _ => Err(Verdict::NoBorderRouter),
         }
     }
 
@@ -99,13 +99,13 @@ impl Layers<'_, '_> {
         offer: &Offer,
         metric: u32,
         external: External,
-    ) -> Result<ExternalKey, Fate>
+    ) -> Result<ExternalKey, Verdict>
         ensures key { IfOk result (IsExternalKey self.entry offer.now metric external) }
         ensures none { IfErr result (LacksKey self.entry offer.now metric external) }
     {
         // 16.4 (1), (2)
-        if let Some(fate) = self.unfit(offer, metric) {
-            return Err(fate);
+        if let Some(verdict) = self.unfit(offer, metric) {
+            return Err(verdict);
         }
         // 16.4 (3)
         let Some(preferred) = self
@@ -113,7 +113,7 @@ impl Layers<'_, '_> {
             .external()
             .preferred(offer.source.key.router)
         else {
-            return Err(Fate::NoBoundaryRouter);
+            return Err(Verdict::NoBoundaryRouter);
         };
         if external.forwarding == 0 {
             let (class, distance) = (preferred.class(), preferred.cost());
@@ -123,16 +123,16 @@ impl Layers<'_, '_> {
     }
 
     // What it is compared by where it has a forwarding address.
-    fn forwarded_key(self, metric: u32, external: External) -> Result<ExternalKey, Fate>
+    fn forwarded_key(self, metric: u32, external: External) -> Result<ExternalKey, Verdict>
         requires metric { metric < LSInfinity }
         requires some { 0 < external.forwarding }
         ensures key { IfOk result (IsForwardedKey self.entry metric external) }
-        ensures none { IfErr result (λ fate.
-            (fate ≡ Fate.NoForward) × LeadsNowhere self.entry external.forwarding) }
+        ensures none { IfErr result (λ verdict.
+            (verdict ≡ Verdict.NoForward) × LeadsNowhere self.entry external.forwarding) }
     {
         match self.forward(external.forwarding) {
             Some((class, distance)) => { Ok(key_by(external.is_type_2, metric, class, distance)) }
-            None => Err(Fate::NoForward),
+            None => Err(Verdict::NoForward),
         }
     }
 
@@ -148,18 +148,18 @@ impl Layers<'_, '_> {
     }
 
     // Why a summary-LSA or an AS-external-LSA is passed over at once.
-    fn unfit(self, offer: &Offer, metric: u32) -> Option<Fate>
+    fn unfit(self, offer: &Offer, metric: u32) -> Option<Verdict>
         ensures some { IfSome result (IsUnfit self.entry offer.now metric) }
         ensures none { IfNone result (IsFit self.entry offer.now metric) }
     {
         if metric >= LS_INFINITY {
-            return Some(Fate::Infinity);
+            return Some(Verdict::Infinity);
         }
         if offer.age >= MAX_AGE {
-            return Some(Fate::MaxAge);
+            return Some(Verdict::MaxAge);
         }
         if offer.source.key.router == self.root() {
-            return Some(Fate::Own);
+            return Some(Verdict::Own);
         }
         None
     }

@@ -4,7 +4,7 @@ ghost use Rattle.explanation.specs.Offers as said;
 ghost use Rattle.explanation.specs.Offers.{is_wanted, offers_among, offers_of, own_if};
 
 use crate::networks::Networks;
-use crate::offer::{Offer, OfferKind, Source};
+use crate::offer::{Offer, OfferKind, LsaInstance};
 use lsa_codec::Checked;
 use ospf_types::key::Scope;
 use ospf_types::lsa::{Link, LinkKind};
@@ -80,7 +80,7 @@ impl Asked<'_> {
     {
         match link.kind {
             LinkKind::Stub => {
-                let network = Prefix::of_mask(link.id, link.detail);
+                let network = Prefix::from_mask(link.id, link.detail);
                 self.offer(lsa, network, OfferKind::Stub(link.metric))
             }
             LinkKind::PointToPoint | LinkKind::Transit | LinkKind::Virtual => None,
@@ -106,7 +106,7 @@ impl Asked<'_> {
         }
         Some(Offer {
             network,
-            source: Source::of(self.scope, lsa),
+            source: LsaInstance::of(self.scope, lsa),
             age: lsa.header().age,
             kind,
         })

@@ -6,12 +6,12 @@ ghost use Rattle.explanation.specs.Giving.{Adds};
 ghost use Rattle.explanation.specs.Outside.{AreOutside, AreTold, AreWithin, GivesTold, IsBoundaryIn, IsOwnStub, IsToldStep};
 
 use crate::layers::Layers;
-use crate::offer::{Offer, OfferKind, Source};
-use crate::trace::{Place, Step, Trace};
+use crate::offer::{Offer, OfferKind, LsaInstance};
+use crate::trace::{TraceNode, Step, Trace};
 use ospf_types::entry::Vertex;
 use ospf_types::hop::Path;
 use ospf_types::key::{Dest, Key, Scope};
-use ospf_types::lsa::{BOUNDARY_SUMMARY_LSA, MAX_AGE};
+use ospf_types::lsa::{ASBR_SUMMARY_LSA, MAX_AGE};
 use ospf_types::memory::Memory;
 use std::alloc::Global;
 
@@ -84,7 +84,7 @@ impl Layers<'_, '_> {
         let preferred = self.calculation.external().preferred(router)?;
         let area = preferred.area();
         let reached = self.reached(area, router)?;
-        if !reached.is_boundary() {
+        if !reached.is_asbr() {
             return None;
         }
         Some(area)
@@ -99,7 +99,7 @@ impl Layers<'_, '_> {
     {
         let within = self.area(area)?;
         let (lsa, age) = within.database.get(Key {
-            kind: BOUNDARY_SUMMARY_LSA,
+            kind: ASBR_SUMMARY_LSA,
             id: router,
             router: border,
         })?;
@@ -108,10 +108,10 @@ impl Layers<'_, '_> {
         }
         let cost = lsa.metric()?;
         Some(Step {
-            from: Place::Vertex(Vertex::Router(border)),
-            to: Place::Vertex(Vertex::Router(router)),
+            from: TraceNode::Vertex(Vertex::Router(border)),
+            to: TraceNode::Vertex(Vertex::Router(router)),
             cost,
-            source: Source::of(Scope::Area(area), lsa),
+            source: LsaInstance::of(Scope::Area(area), lsa),
         })
     }
 }
@@ -163,7 +163,7 @@ impl Layers<'_, '_> {
         }
         let mut steps = self.steps_to(alloc, area, Vertex::Router(border), path.hop)?;
         steps.push(step)?;
-        steps.push(offer.last_step(Place::Vertex(offer.vertex())))?;
+        steps.push(offer.last_step(TraceNode::Vertex(offer.vertex())))?;
         traces.push(Trace { path, steps })?;
         Ok(())
     }

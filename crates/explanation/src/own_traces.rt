@@ -6,7 +6,7 @@ ghost use Rattle.explanation.specs.Traces.{AreOwnTraces, GivesOwn, IsOver};
 use crate::layers::Layers;
 use crate::offer::Offer;
 use crate::offered::is_on;
-use crate::trace::{Place, Trace};
+use crate::trace::{TraceNode, Trace};
 use ospf_types::entry::Vertex;
 use ospf_types::hop::{NextHop, Path};
 use ospf_types::memory::Memory;
@@ -45,7 +45,7 @@ impl Layers<'_, '_> {
         if !self.is_over(area, offer, path) {
             return Ok(());
         }
-        let last = offer.last_step(Place::Vertex(offer.vertex()));
+        let last = offer.last_step(TraceNode::Vertex(offer.vertex()));
         let steps = Vec::from_slice(*traces.allocator(), &[last])?;
         traces.push(Trace { path: *path, steps })?;
         Ok(())

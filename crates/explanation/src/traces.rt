@@ -9,8 +9,8 @@ ghost use Rattle.explanation.specs.Giving.{Adds};
 ghost use Rattle.explanation.specs.Traces.{AreLinksIn, AreLinkSteps, AreSteps, AreTracesBy, AreTracesTo, GivesTo, IsOneMore, IsSourceAt, advertiser_by, last_from, metric_by, vertex_by};
 
 use crate::layers::Layers;
-use crate::offer::{Offer, OfferKind, Source};
-use crate::trace::{Place, Step, Trace};
+use crate::offer::{Offer, OfferKind, LsaInstance};
+use crate::trace::{TraceNode, Step, Trace};
 use intra::AreaInputs;
 use ospf_types::entry::Vertex;
 use ospf_types::hop::{NextHop, Path};
@@ -62,7 +62,7 @@ impl Layers<'_, '_> {
             AreTracesBy self.entry.areas.now area offer.now paths.now traces.items) }
     {
         let vertex = offer.vertex();
-        let on = [offer.last_step(Place::Vertex(vertex))];
+        let on = [offer.last_step(TraceNode::Vertex(vertex))];
         let target = Target {
             area,
             vertex,
@@ -144,8 +144,8 @@ fn push_link(area: &AreaInputs<'_>, link: &Link, steps: &mut Vec<Step>) -> Resul
         unreachable!()
     };
     steps.push(Step {
-        from: Place::Vertex(from),
-        to: Place::Vertex(link.to.vertex()),
+        from: TraceNode::Vertex(from),
+        to: TraceNode::Vertex(link.to.vertex()),
         cost: u32::from(link.cost),
         source,
     })?;
@@ -153,14 +153,14 @@ fn push_link(area: &AreaInputs<'_>, link: &Link, steps: &mut Vec<Step>) -> Resul
 }
 
 // The instance that stands for the vertex in the area, if there is one.
-fn source_at(area: &AreaInputs<'_>, vertex: Vertex) -> Option<Source>
+fn source_at(area: &AreaInputs<'_>, vertex: Vertex) -> Option<LsaInstance>
     requires { HasTree area.now }
     ensures some { IfSome result (IsSourceAt area.now vertex) }
     ensures none { IfNone result (IsStanding area.now.lsas vertex None) }
 {
     let lsa = area.tree.standing(area.database, vertex)?;
     let (lsa, _) = area.database.get(lsa.key())?;
-    Some(Source::of(Scope::Area(area.id), lsa))
+    Some(LsaInstance::of(Scope::Area(area.id), lsa))
 }
 
 impl Offer {
@@ -199,12 +199,12 @@ impl Offer {
     }
 
     /// The last step of its traces, from there to the network.
-    pub(crate) fn last_step(&self, from: Place) -> Step
+    pub(crate) fn last_step(&self, from: TraceNode) -> Step
         ensures { result ≡ last_from from self.now }
     {
         Step {
             from,
-            to: Place::Network(self.network),
+            to: TraceNode::Network(self.network),
             cost: self.metric(),
             source: self.source,
         }

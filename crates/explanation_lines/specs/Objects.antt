@@ -17,9 +17,9 @@ use Rattle.explanation.specs.declared.explained.Candidate.{Candidate}
 use Rattle.explanation.specs.declared.offer.Offer.{Offer}
 use Rattle.explanation.specs.declared.offer.OfferKind.{OfferKind}
 use Rattle.explanation.specs.declared.offer.OfferKind.TheVariants.{Stub, Transit, Summary, AsExternal}
-use Rattle.explanation.specs.declared.offer.Source.{Source}
-use Rattle.explanation.specs.declared.trace.Place.{Place}
-use Rattle.explanation.specs.declared.trace.Place.TheVariants as place
+use Rattle.explanation.specs.declared.offer.LsaInstance.{LsaInstance}
+use Rattle.explanation.specs.declared.trace.TraceNode.{TraceNode}
+use Rattle.explanation.specs.declared.trace.TraceNode.TheVariants as place
 use Rattle.explanation.specs.declared.trace.Step.{Step}
 use Rattle.explanation_lines.specs.Reasons.{is_taken, step_text, reason_text}
 use Rattle.explanation_lines.specs.Words.{external_type}
@@ -70,7 +70,7 @@ cost_data None = null
 cost_data (Some cost) = number_data cost
 
 -- the key of the LSA and the sequence number of the instance
-abbrev pub source_data : Source → Data
+abbrev pub source_data : LsaInstance → Data
 source_data s = object_of (
     (codes "id", address_data s.key.id)
     ∷ (codes "kind", number_data s.key.kind)
@@ -111,11 +111,11 @@ offered_members cost o =
 -- an offer, and what became of it
 abbrev pub candidate_data : Candidate → Data
 candidate_data c =
-    if is_taken c.fate
+    if is_taken c.verdict
     then object_of (offered_members c.cost c.offer ++ (codes "type", string (codes "taken")) ∷ [])
     else object_of (offered_members c.cost c.offer
-    ++ (codes "reason", string (reason_text c.fate))
-    ∷ (codes "step", string (step_text c.offer.kind c.fate))
+    ++ (codes "reason", string (reason_text c.verdict))
+    ∷ (codes "step", string (step_text c.offer.kind c.verdict))
     ∷ (codes "type", string (codes "lost"))
     ∷ [])
 
@@ -129,7 +129,7 @@ vertex_data (Router router) = object_of ((codes "router", address_data router) �
 vertex_data (Network id) = object_of ((codes "network", address_data id) ∷ [])
 
 -- a vertex, or a network
-abbrev pub place_data : Place → Data
+abbrev pub place_data : TraceNode → Data
 place_data (place.Vertex v) = vertex_data v
 place_data (place.Network p) = object_of ((codes "prefix", network_data p) ∷ [])
 

@@ -1,16 +1,16 @@
 -- At which step of RFC 2328, 16 an offer was lost, and why.
 use Rattle.std.specs.Prelude.{ℕ, Bool, true, false, List, codes}
-use Rattle.explanation.specs.declared.fate.Fate.{Fate}
-use Rattle.explanation.specs.declared.fate.Fate.TheVariants.{Taken, MaxAge, Infinity, Own, Another, Unreached, NoInterface, LesserId, LesserArea, NotExamined, ActiveRange, NoBorderRouter, IntraArea, NoBoundaryRouter, NoForward, Internal, Type2, Metric2, Class, Costlier}
+use Rattle.explanation.specs.declared.verdict.Verdict.{Verdict}
+use Rattle.explanation.specs.declared.verdict.Verdict.TheVariants.{Taken, MaxAge, Infinity, Own, Another, Unreached, NoInterface, LesserId, LesserArea, NotExamined, ActiveRange, NoBorderRouter, IntraArea, NoBoundaryRouter, NoForward, Internal, Type2, Metric2, Class, Costlier}
 use Rattle.explanation.specs.declared.offer.OfferKind.{OfferKind}
 use Rattle.explanation.specs.declared.offer.OfferKind.TheVariants.{Stub, Transit, Summary, AsExternal}
 
-abbrev pub is_taken : Fate → Bool
+abbrev pub is_taken : Verdict → Bool
 is_taken Taken = true
 is_taken _ = false
 
 -- of what router-LSAs and network-LSAs offer
-abbrev pub intra_step : Fate → List ℕ
+abbrev pub intra_step : Verdict → List ℕ
 intra_step MaxAge = codes "16.1 (2b)"
 intra_step Another = codes "16.1 (2b)"
 intra_step Unreached = codes "16.1 (2b)"
@@ -19,7 +19,7 @@ intra_step LesserArea = codes "16.8"
 intra_step _ = codes "16.1"
 
 -- of what summary-LSAs offer
-abbrev pub inter_step : Fate → List ℕ
+abbrev pub inter_step : Verdict → List ℕ
 inter_step MaxAge = codes "16.2 (1)"
 inter_step Infinity = codes "16.2 (1)"
 inter_step Own = codes "16.2 (2)"
@@ -31,7 +31,7 @@ inter_step LesserArea = codes "16.8"
 inter_step _ = codes "16.2"
 
 -- of what AS-external-LSAs offer
-abbrev pub external_step : Fate → List ℕ
+abbrev pub external_step : Verdict → List ℕ
 external_step MaxAge = codes "16.4 (1)"
 external_step Infinity = codes "16.4 (1)"
 external_step Own = codes "16.4 (2)"
@@ -44,14 +44,14 @@ external_step Class = codes "16.4 (6c)"
 external_step Costlier = codes "16.4 (6d)"
 external_step _ = codes "16.4"
 
--- the step that decides; where the kind cannot have the fate, the section that examines the kind
-abbrev pub step_text : OfferKind → Fate → List ℕ
-step_text (Stub metric) fate = intra_step fate
-step_text Transit fate = intra_step fate
-step_text (Summary metric) fate = inter_step fate
-step_text (AsExternal metric external) fate = external_step fate
+-- the step that decides; where the kind cannot have the verdict, the section that examines the kind
+abbrev pub step_text : OfferKind → Verdict → List ℕ
+step_text (Stub metric) verdict = intra_step verdict
+step_text Transit verdict = intra_step verdict
+step_text (Summary metric) verdict = inter_step verdict
+step_text (AsExternal metric external) verdict = external_step verdict
 
-abbrev pub reason_text : Fate → List ℕ
+abbrev pub reason_text : Verdict → List ℕ
 reason_text Taken = codes "its paths are among those of the route"
 reason_text MaxAge = codes "the LSA is at MaxAge"
 reason_text Infinity = codes "its metric is LSInfinity"

@@ -17,9 +17,9 @@ use Rattle.route_table.specs.Texts.{match_text}
 use Rattle.explanation.specs.declared.explained.Candidate.{Candidate}
 use Rattle.explanation.specs.declared.offer.OfferKind.{OfferKind}
 use Rattle.explanation.specs.declared.offer.OfferKind.TheVariants.{Stub, Transit, Summary, AsExternal}
-use Rattle.explanation.specs.declared.offer.Source.{Source}
-use Rattle.explanation.specs.declared.trace.Place.{Place}
-use Rattle.explanation.specs.declared.trace.Place.TheVariants as place
+use Rattle.explanation.specs.declared.offer.LsaInstance.{LsaInstance}
+use Rattle.explanation.specs.declared.trace.TraceNode.{TraceNode}
+use Rattle.explanation.specs.declared.trace.TraceNode.TheVariants as place
 use Rattle.explanation.specs.declared.trace.Step.{Step}
 use Rattle.explanation_lines.specs.Reasons.{is_taken, step_text, reason_text}
 
@@ -54,7 +54,7 @@ database_text (Area area) = address_text area
 database_text As = codes "as"
 
 -- the key of the LSA and the sequence number of the instance
-abbrev pub source_text : Source → List ℕ
+abbrev pub source_text : LsaInstance → List ℕ
 source_text s =
     codes "lsa " ++ database_text s.scope ++ codes " " ++ decimal s.key.kind ++ codes " " ++ address_text s.key.id ++ codes " " ++ address_text s.key.router ++ codes " " ++ encode_lower (to_be_bytes w32 s.seq)
 
@@ -65,9 +65,9 @@ offered_text c = cost_text c.cost ++ codes " " ++ offer_text c.offer.kind ++ cod
 -- an offer, and what became of it
 abbrev pub candidate_words : Candidate → List ℕ
 candidate_words c =
-    if is_taken c.fate
+    if is_taken c.verdict
     then codes "taken " ++ offered_text c
-    else codes "lost " ++ offered_text c ++ codes " at " ++ step_text c.offer.kind c.fate ++ codes ": " ++ reason_text c.fate
+    else codes "lost " ++ offered_text c ++ codes " at " ++ step_text c.offer.kind c.verdict ++ codes ": " ++ reason_text c.verdict
 
 -- a path of a route
 abbrev pub path_words : Path → List ℕ
@@ -79,7 +79,7 @@ vertex_text (Router router) = codes "router:" ++ address_text router
 vertex_text (Network id) = codes "network:" ++ address_text id
 
 -- a vertex, or a network
-abbrev pub place_text : Place → List ℕ
+abbrev pub place_text : TraceNode → List ℕ
 place_text (place.Vertex v) = vertex_text v
 place_text (place.Network p) = prefix_text p
 

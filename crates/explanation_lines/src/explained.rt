@@ -159,7 +159,7 @@ fn put_judged(format: Format, candidate: &Candidate, text: &mut String) -> Resul
         ++ candidate_text format candidate.now) }
 {
     put_candidate(format, candidate, text)?;
-    if !is_taken(candidate.fate) {
+    if !is_taken(candidate.verdict) {
         return Ok(());
     }
     put_traces(format, candidate.traces.as_slice(), text)

@@ -10,6 +10,6 @@ mod explained;
 mod lines;
 mod objects;
 mod reasons;
-mod words;
+mod text_lines;
 
 pub use explained::{Explained, put_explanation};

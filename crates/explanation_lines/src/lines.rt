@@ -2,7 +2,7 @@
 ghost use Rattle.std.specs.Prelude.{◌≡◌, ◌++◌, OnOk, option_copied, string_bytes};
 ghost use Rattle.explanation_lines.specs.Lines.{candidate_line, link_line, lookup_line, network_line, path_line};
 
-use crate::{objects, words};
+use crate::{objects, text_lines};
 use explanation::{Candidate, Step};
 use ospf_types::hop::Path;
 use ospf_types::memory::Memory;
@@ -28,7 +28,7 @@ pub(crate) fn put_lookup(
         ++ lookup_line format lookup.address lookup.serial found.now) }
 {
     match format {
-        Format::Text => words::put_lookup(lookup, found, text),
+        Format::Text => text_lines::put_lookup(lookup, found, text),
         Format::Json => objects::put_lookup(lookup, found, text),
     }
 }
@@ -44,7 +44,7 @@ pub(crate) fn put_network(
         ++ network_line format network (option_copied item.entry)) }
 {
     match format {
-        Format::Text => words::put_network(network, item, text),
+        Format::Text => text_lines::put_network(network, item, text),
         Format::Json => objects::put_network(network, item, text),
     }
 }
@@ -59,7 +59,7 @@ pub(crate) fn put_candidate(
         ++ candidate_line format candidate.now) }
 {
     match format {
-        Format::Text => words::put_candidate(candidate, text),
+        Format::Text => text_lines::put_candidate(candidate, text),
         Format::Json => objects::put_candidate(candidate, text),
     }
 }
@@ -70,7 +70,7 @@ pub(crate) fn put_path(format: Format, path: &Path, text: &mut String) -> Result
         ++ path_line format path.now) }
 {
     match format {
-        Format::Text => words::put_path(path, text),
+        Format::Text => text_lines::put_path(path, text),
         Format::Json => objects::put_path(path, text),
     }
 }
@@ -81,7 +81,7 @@ pub(crate) fn put_link(format: Format, step: &Step, text: &mut String) -> Result
         ++ link_line format step.now) }
 {
     match format {
-        Format::Text => words::put_link(step, text),
+        Format::Text => text_lines::put_link(step, text),
         Format::Json => objects::put_link(step, text),
     }
 }

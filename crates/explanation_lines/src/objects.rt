@@ -10,8 +10,8 @@ ghost use Rattle.explanation_lines.specs.Lines.{candidate_line, link_line, looku
 
 use crate::lines::Lookup;
 use crate::reasons::{is_taken, reason_of, step_of};
-use crate::words::external_type;
-use explanation::{Candidate, Offer, OfferKind, Place, Source, Step};
+use crate::text_lines::external_type;
+use explanation::{Candidate, Offer, OfferKind, TraceNode, LsaInstance, Step};
 use json_objects::Object;
 use ospf_types::entry::Vertex;
 use ospf_types::hop::Path;
@@ -91,15 +91,15 @@ pub(crate) fn put_candidate(candidate: &Candidate, text: &mut String) -> Result<
 fn candidate_object(alloc: Global, candidate: &Candidate) -> Result<Object, Memory>
     ensures { IfOk result (λ o. object (members_view o) ≡ candidate_data candidate.now) }
 {
-    let fate = candidate.fate;
+    let verdict = candidate.verdict;
     let mut object = offered_object(alloc, candidate.cost, &candidate.offer)?;
-    if is_taken(fate) {
+    if is_taken(verdict) {
         object.put_text("type", "taken")?;
         return Ok(object);
     }
     object.put_text("type", "lost")?;
-    object.put_text("step", step_of(candidate.offer.kind, fate))?;
-    object.put_text("reason", reason_of(fate))?;
+    object.put_text("step", step_of(candidate.offer.kind, verdict))?;
+    object.put_text("reason", reason_of(verdict))?;
     Ok(object)
 }
 
@@ -142,7 +142,7 @@ fn put_cost(object: &mut Object, cost: Option<u32>) -> Result<(), Memory>
 }
 
 // The key of an LSA, and its sequence number in hexadecimal, under `lsa`.
-fn put_source(object: &mut Object, source: &Source) -> Result<(), Memory>
+fn put_source(object: &mut Object, source: &LsaInstance) -> Result<(), Memory>
     ensures { OnOk result (PutsMember (codes "lsa") (source_data source.now)
         object.old object.new) }
 {
@@ -150,7 +150,7 @@ fn put_source(object: &mut Object, source: &Source) -> Result<(), Memory>
     object.put("lsa", value)
 }
 
-fn source_value(alloc: Global, source: &Source) -> Result<Value, Memory>
+fn source_value(alloc: Global, source: &LsaInstance) -> Result<Value, Memory>
     ensures value { IfOk result (λ v. view v ≡ source_data source.now) }
     ensures without_fractions { IfOk result (λ v. has_float (view v) ≡ false) }
 {
@@ -185,20 +185,20 @@ pub(crate) fn put_link(step: &Step, text: &mut String) -> Result<(), Memory>
 }
 
 // A router by its Router ID, a transit network by its Link State ID, or a network, as an object under the name.
-fn put_place(object: &mut Object, name: &str, place: Place) -> Result<(), Memory>
+fn put_place(object: &mut Object, name: &str, place: TraceNode) -> Result<(), Memory>
     ensures { OnOk result (PutsMember name.now (place_data place) object.old object.new) }
 {
     let value = place_value(object.alloc(), place)?;
     object.put(name, value)
 }
 
-fn place_value(alloc: Global, place: Place) -> Result<Value, Memory>
+fn place_value(alloc: Global, place: TraceNode) -> Result<Value, Memory>
     ensures value { IfOk result (λ v. view v ≡ place_data place) }
     ensures without_fractions { IfOk result (λ v. has_float (view v) ≡ false) }
 {
     match place {
-        Place::Vertex(vertex) => vertex_value(alloc, vertex),
-        Place::Network(network) => {
+        TraceNode::Vertex(vertex) => vertex_value(alloc, vertex),
+        TraceNode::Network(network) => {
             let mut object = Object::new(alloc);
             object.put_network("prefix", network)?;
             Ok(object.into_value())

@@ -2,100 +2,100 @@
 ghost use Rattle.std.specs.Prelude.{◌≡◌};
 ghost use Rattle.explanation_lines.specs.Reasons as reasons;
 
-use explanation::{Fate, OfferKind};
+use explanation::{Verdict, OfferKind};
 
 /// Whether the paths of the offer are among those of the route.
-pub(crate) fn is_taken(fate: Fate) -> bool
-    ensures { result ≡ reasons.is_taken fate }
+pub(crate) fn is_taken(verdict: Verdict) -> bool
+    ensures { result ≡ reasons.is_taken verdict }
 {
-    matches!(fate, Fate::Taken)
+    matches!(verdict, Verdict::Taken)
 }
 
-/// The step that decides, as `16.2 (4)`; where the kind cannot have the fate, the section that examines the kind.
-pub(crate) fn step_of(kind: OfferKind, fate: Fate) -> &'static str
-    ensures { result.now ≡ reasons.step_text kind fate }
+/// The step that decides, as `16.2 (4)`; where the kind cannot have the verdict, the section that examines the kind.
+pub(crate) fn step_of(kind: OfferKind, verdict: Verdict) -> &'static str
+    ensures { result.now ≡ reasons.step_text kind verdict }
 {
     match kind {
-        OfferKind::Stub(_) | OfferKind::Transit => intra_step(fate),
-        OfferKind::Summary(_) => inter_step(fate),
-        OfferKind::AsExternal(_, _) => external_step(fate),
+        OfferKind::Stub(_) | OfferKind::Transit => intra_step(verdict),
+        OfferKind::Summary(_) => inter_step(verdict),
+        OfferKind::AsExternal(_, _) => external_step(verdict),
     }
 }
 
 // Of what router-LSAs and network-LSAs offer.
-fn intra_step(fate: Fate) -> &'static str
-    ensures { result.now ≡ reasons.intra_step fate }
+fn intra_step(verdict: Verdict) -> &'static str
+    ensures { result.now ≡ reasons.intra_step verdict }
 {
-    match fate {
-        Fate::MaxAge | Fate::Another | Fate::Unreached => "16.1 (2b)",
-        Fate::LesserId => "16.1 (4)",
-        Fate::LesserArea => "16.8",
+    match verdict {
+        Verdict::MaxAge | Verdict::Another | Verdict::Unreached => "16.1 (2b)",
+        Verdict::LesserId => "16.1 (4)",
+        Verdict::LesserArea => "16.8",
         _ => "16.1",
     }
 }
 
 // Of what summary-LSAs offer.
-fn inter_step(fate: Fate) -> &'static str
-    ensures { result.now ≡ reasons.inter_step fate }
+fn inter_step(verdict: Verdict) -> &'static str
+    ensures { result.now ≡ reasons.inter_step verdict }
 {
-    match fate {
-        Fate::MaxAge | Fate::Infinity => "16.2 (1)",
-        Fate::Own => "16.2 (2)",
-        Fate::ActiveRange => "16.2 (3)",
-        Fate::NoBorderRouter => "16.2 (4)",
-        Fate::IntraArea => "16.2 (6)",
-        Fate::Costlier => "16.2 (7)",
-        Fate::LesserArea => "16.8",
+    match verdict {
+        Verdict::MaxAge | Verdict::Infinity => "16.2 (1)",
+        Verdict::Own => "16.2 (2)",
+        Verdict::ActiveRange => "16.2 (3)",
+        Verdict::NoBorderRouter => "16.2 (4)",
+        Verdict::IntraArea => "16.2 (6)",
+        Verdict::Costlier => "16.2 (7)",
+        Verdict::LesserArea => "16.8",
         _ => "16.2",
     }
 }
 
 // Of what AS-external-LSAs offer.
-fn external_step(fate: Fate) -> &'static str
-    ensures { result.now ≡ reasons.external_step fate }
+fn external_step(verdict: Verdict) -> &'static str
+    ensures { result.now ≡ reasons.external_step verdict }
 {
-    match fate {
-        Fate::MaxAge | Fate::Infinity => "16.4 (1)",
-        Fate::Own => "16.4 (2)",
-        Fate::NoBoundaryRouter | Fate::NoForward => "16.4 (3)",
-        Fate::Internal => "16.4 (6a)",
-        Fate::Type2 | Fate::Metric2 => "16.4 (6b)",
-        Fate::Class => "16.4 (6c)",
-        Fate::Costlier => "16.4 (6d)",
+    match verdict {
+        Verdict::MaxAge | Verdict::Infinity => "16.4 (1)",
+        Verdict::Own => "16.4 (2)",
+        Verdict::NoBoundaryRouter | Verdict::NoForward => "16.4 (3)",
+        Verdict::Internal => "16.4 (6a)",
+        Verdict::Type2 | Verdict::Metric2 => "16.4 (6b)",
+        Verdict::Class => "16.4 (6c)",
+        Verdict::Costlier => "16.4 (6d)",
         _ => "16.4",
     }
 }
 
 /// Why the offer was lost, or that it was taken.
-pub(crate) fn reason_of(fate: Fate) -> &'static str
-    ensures { result.now ≡ reasons.reason_text fate }
+pub(crate) fn reason_of(verdict: Verdict) -> &'static str
+    ensures { result.now ≡ reasons.reason_text verdict }
 {
-    match fate {
-        Fate::Taken => "its paths are among those of the route",
-        Fate::MaxAge => "the LSA is at MaxAge",
-        Fate::Infinity => "its metric is LSInfinity",
-        Fate::Own => "the router itself originated it",
-        Fate::Another => "another network-LSA stands for the transit network",
-        Fate::Unreached => "no links that both ends have lead there",
-        Fate::NoInterface => "no interface of the area that is up lies in it",
-        Fate::LesserId => {
+    match verdict {
+        Verdict::Taken => "its paths are among those of the route",
+        Verdict::MaxAge => "the LSA is at MaxAge",
+        Verdict::Infinity => "its metric is LSInfinity",
+        Verdict::Own => "the router itself originated it",
+        Verdict::Another => "another network-LSA stands for the transit network",
+        Verdict::Unreached => "no links that both ends have lead there",
+        Verdict::NoInterface => "no interface of the area that is up lies in it",
+        Verdict::LesserId => {
             "another transit network of this prefix, at the same distance, has a greater Link State ID"
         }
-        Fate::LesserArea => "another area offers the same cost, and has a greater Area ID",
-        Fate::NotExamined => "the summary-LSAs of the area are not examined",
-        Fate::ActiveRange => "the network is that of an active range",
-        Fate::NoBorderRouter => "the border router is not reached in the area",
-        Fate::IntraArea => "there is an intra-area route",
-        Fate::NoBoundaryRouter => "the AS boundary router is not reached",
-        Fate::NoForward => {
+        Verdict::LesserArea => "another area offers the same cost, and has a greater Area ID",
+        Verdict::NotExamined => "the summary-LSAs of the area are not examined",
+        Verdict::ActiveRange => "the network is that of an active range",
+        Verdict::NoBorderRouter => "the border router is not reached in the area",
+        Verdict::IntraArea => "there is an intra-area route",
+        Verdict::NoBoundaryRouter => "the AS boundary router is not reached",
+        Verdict::NoForward => {
             "the forwarding address is in no network that has an intra-area or inter-area route"
         }
-        Fate::Internal => "there is an intra-area or inter-area route",
-        Fate::Type2 => "another one has a metric of type 1",
-        Fate::Metric2 => "another one has a lesser metric of type 2",
-        Fate::Class => {
+        Verdict::Internal => "there is an intra-area or inter-area route",
+        Verdict::Type2 => "another one has a metric of type 1",
+        Verdict::Metric2 => "another one has a lesser metric of type 2",
+        Verdict::Class => {
             "another one leads over an intra-area path through another area than the backbone"
         }
-        Fate::Costlier => "another one costs less",
+        Verdict::Costlier => "another one costs less",
     }
 }

@@ -15,15 +15,15 @@ use Rattle.ospf_types.specs.Routes.{entry_of, external_type}
 use Rattle.path_choice.specs.Choices.{Chosen, IsChosen}
 use Rattle.path_choice.specs.Takes.{OfferedBySome}
 use Rattle.path_choice.proofs.Taking.{takes_none, takes_same, taken_chosen}
-use Rattle.offer_index.specs.Advertised.{AdvertisedValue}
+use Rattle.offer_index.specs.AdvertisedRoute.{AdvertisedValue}
 use Rattle.offer_index.specs.Indexes.{OfferIndexValue, IsInGroup}
-use Rattle.offer_index.specs.declared.lsa_group.LsaGroup.TheVariants.{To}
+use Rattle.offer_index.specs.declared.index_key.IndexKey.TheVariants.{To}
 use Rattle.external.specs.Choosing.{TakesPaths, PathsOffer, LeadsOffer, KeyOffers, NetworkOffers}
 use Rattle.external.specs.Externals.{IsEntryFor}
 use Rattle.external.specs.Forwards.{ForwardValue, ForwardsByAddress, internal_entry}
 use Rattle.external.specs.Inputs.{ExternalInputsValue}
 use Rattle.external.specs.Offers.{AdvertisedOffers, PreferredLeads, ForwardLeads, OffersBy, preference_of}
-use Rattle.external.specs.Preferred.{PreferredValue, PreferredByRouter}
+use Rattle.external.specs.AsbrRoute.{PreferredValue, PreferredByRouter}
 
 -- the choice among paths so far
 abbrev PathChoice : Type 0

@@ -27,16 +27,16 @@ use Rattle.ospf_types.specs.Intra.{E}
 use Rattle.ospf_types.specs.Keys.{key_cmp}
 use Rattle.ospf_types.specs.Network.{network_cmp}
 use Rattle.intra.specs.Intras.{reached_at}
-use Rattle.intra.specs.Reached.{ReachedValue, HandsOut}
+use Rattle.intra.specs.ReachedRouter.{ReachedValue, HandsOut}
 use Rattle.intra.proofs.Frame.{best_same}
-use Rattle.offer_index.specs.Advertised.{AdvertisedValue}
+use Rattle.offer_index.specs.AdvertisedRoute.{AdvertisedValue}
 use Rattle.offer_index.specs.Indexes.{OfferIndexValue, ChangedOffersValue, AreTouched, IsIndexOf, IsForwardedInto, IsForwardedTo, IsLedTo}
 use Rattle.external.specs.Changes.{InputsDifferAmong}
 use Rattle.external.specs.Externals.{ExternalValue, IsEntryFor, IsExternalOf, IsForwardIn}
 use Rattle.external.specs.Forwards.{ForwardValue, ForwardsByAddress, IsForwardOf, IsMatchOf, LeadsBy, Matches, class_in, internal_entry}
 use Rattle.external.specs.Inputs.{ExternalInputsValue}
 use Rattle.external.specs.Offers.{OffersOf}
-use Rattle.external.specs.Preferred.{PreferredByRouter, PreferredValue, EntryOffers, IsPreferredFor, RouterOffers}
+use Rattle.external.specs.AsbrRoute.{PreferredByRouter, PreferredValue, EntryOffers, IsPreferredFor, RouterOffers}
 use Rattle.external.specs.Updating.{IsNoShorter, IsNoShorterThan, StandsBut}
 
 -- ---- results of the same offers

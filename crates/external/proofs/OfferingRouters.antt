@@ -9,9 +9,9 @@ use Rattle.ospf_types.specs.Boundary.{Preference}
 use Rattle.ospf_types.specs.Intra.{E}
 use Rattle.ospf_types.proofs.Elements.{first_element, later_element}
 use Rattle.intra.specs.Intras.{AreaIntraValue, IsKeptIn, reached_at}
-use Rattle.intra.specs.Reached.{ReachedValue, HandsOut}
+use Rattle.intra.specs.ReachedRouter.{ReachedValue, HandsOut}
 use Rattle.external.specs.Inputs.{ExternalInputsValue}
-use Rattle.external.specs.Preferred.{RouterOffers}
+use Rattle.external.specs.AsbrRoute.{RouterOffers}
 
 kept_in : (areas : List AreaIntraValue) (area r : ℕ) → IsSome (reached_at areas area r) → IsKeptIn areas r
 kept_in [] area r some = absurd cc

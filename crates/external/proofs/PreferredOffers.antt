@@ -11,12 +11,12 @@ use Rattle.ospf_types.specs.Boundary.{Preference, preference_cmp, class_of}
 use Rattle.ospf_types.specs.Hops.{hop_cmp}
 use Rattle.ospf_types.specs.Intra.{E}
 use Rattle.path_choice.specs.Choices.{Chosen, IsChosen}
-use Rattle.intra.specs.Reached.{ReachedValue}
+use Rattle.intra.specs.ReachedRouter.{ReachedValue}
 use Rattle.path_choice.specs.Takes.{OnlyOffer, OfferedBySome}
 use Rattle.path_choice.proofs.Taking.{takes_none, takes_same, takes_two, taken_chosen}
 use Rattle.external.specs.Choosing.{TakesHops, HopsOffer, AreaOffers}
 use Rattle.external.specs.Inputs.{ExternalInputsValue}
-use Rattle.external.specs.Preferred.{PreferredValue, ReachedOffers, EntryOffers, RouterOffers, IsPreferredFor}
+use Rattle.external.specs.AsbrRoute.{PreferredValue, ReachedOffers, EntryOffers, RouterOffers, IsPreferredFor}
 
 -- the choice among next hops so far
 abbrev HopChoice : Type 0

@@ -23,12 +23,12 @@ use Rattle.ospf_types.proofs.Orders.{preference_total, preference_exact}
 use Rattle.lsdb.specs.Contents.{body_at}
 use Rattle.area_trees.proofs.Held.{under_key, among_values, held_by, used_of}
 use Rattle.intra.proofs.Frame.{best_same}
-use Rattle.offer_index.specs.Advertised.{AdvertisedValue, advertised_at, unless_useless}
+use Rattle.offer_index.specs.AdvertisedRoute.{AdvertisedValue, advertised_at, unless_useless}
 use Rattle.external.specs.Externals.{ExternalValue, IsEntryFor, IsExternalOf, IsForwardIn}
 use Rattle.external.specs.Forwards.{ForwardValue}
 use Rattle.external.specs.Inputs.{ExternalInputsValue}
 use Rattle.external.specs.Offers.{ForwardLeads, IsAdvertised, Leads, OffersOf, PreferredLeads, preference_of}
-use Rattle.external.specs.Preferred.{PreferredValue, RouterOffers, IsPreferredFor}
+use Rattle.external.specs.AsbrRoute.{PreferredValue, RouterOffers, IsPreferredFor}
 use Rattle.external.specs.Right.{AreInputsOf, IsRightFor}
 use Rattle.external.proofs.RightPreferred.{router_offered}
 use Rattle.external.proofs.RightForwards.{ForwardReaches, nothing_inside, forward_right}

@@ -34,8 +34,8 @@ use Rattle.external.specs.Right.{AreInputsOf}
 abbrev Over : Entry → ℕ → ℕ → ℕ → NextHop → Type 0
 Over e own class cost h = (path : Path) × (e.cost ≡ cost) × (own ≡ class) × Contains e.paths path × (path.hop ≡ h)
 
-abbrev Reached : Inputs → Prefix → Type 0
-Reached s p = (class cost : ℕ) × (h : NextHop) × InternalReaches s p class cost h
+abbrev ReachedRouter : Inputs → Prefix → Type 0
+ReachedRouter s p = (class cost : ℕ) × (h : NextHop) × InternalReaches s p class cost h
 
 -- the entry has a path, and says what the definitions say
 record IsInternal (s : Inputs) (p : Prefix) (e : Entry) (own : ℕ) : Type 0 where
@@ -109,7 +109,7 @@ module _ (s : Inputs) (v : ExternalInputsValue) (are : AreInputsOf s v) (p : Pre
   internal_is : IsInternalIn s p (class_at v p) (internal_entry v p)
   internal_is = by_entries (get v.intra.entries p) (get v.inter.entries (Net p)) refl refl (are.intra.entries p) (are.inter.networks p)
 
-  some_is : (o : Option Entry) → IsInternalIn s p (class_at v p) o → IsSome o ↔ Reached s p
+  some_is : (o : Option Entry) → IsInternalIn s p (class_at v p) o → IsSome o ↔ ReachedRouter s p
   some_is None is = (
     λ some. absurd (true≢false (sym some)),
     λ r. elim r.3 [
@@ -160,7 +160,7 @@ module _ (s : Inputs) (v : ExternalInputsValue) (are : AreInputsOf s v) (p : Pre
   internal_right : (class cost : ℕ) (h : NextHop) → InternalLeads v p class cost h ↔ InternalReaches s p class cost h
   internal_right = leads_is (internal_entry v p) refl internal_is
 
-  matches_right : Matches v p ↔ (Reached s p ⊎ IsActivePrefix s p)
+  matches_right : Matches v p ↔ (ReachedRouter s p ⊎ IsActivePrefix s p)
   matches_right = (
     λ m. elim m [ inl some ↦ inl ((some_is (internal_entry v p) internal_is).0 some) | inr active ↦ inr ((are.ranges p).0 active) ],
     λ m. elim m [ inl reached ↦ inl ((some_is (internal_entry v p) internal_is).1 reached) | inr active ↦ inr ((are.ranges p).1 active) ],
@@ -173,7 +173,7 @@ abbrev pub ForwardReaches : Inputs → ℕ → ℕ → ℕ → NextHop → Type 
 ForwardReaches s address class x h = (p : Prefix) × (first : NextHop) × IsForward s address p × InternalReaches s p class x first × (h ≡ toward address first)
 
 module _ (s : Inputs) (v : ExternalInputsValue) (are : AreInputsOf s v) (address : ℕ) where
-  forward_of : (p : Prefix) → IsLongest v address p → Reached s p → IsForward s address p
+  forward_of : (p : Prefix) → IsLongest v address p → ReachedRouter s p → IsForward s address p
   forward_of p is reached = record {
     within = is.within;
     contains = is.contains;

@@ -19,12 +19,12 @@ use Rattle.ospf_types.specs.Ranges.{IsExamined}
 use Rattle.ospf_types.proofs.Elements.{mapped_element, mapped_from}
 use Rattle.ospf_types.proofs.Examined.{examined_once}
 use Rattle.intra.specs.Intras.{reached_at}
-use Rattle.intra.specs.Reached.{HandsOut}
+use Rattle.intra.specs.ReachedRouter.{HandsOut}
 use Rattle.inter.specs.Inters.{IsEntryFor}
 use Rattle.inter.specs.Right.{IsEntryOf}
 use Rattle.inter.proofs.Right.{reached_right}
 use Rattle.external.specs.Inputs.{ExternalInputsValue}
-use Rattle.external.specs.Preferred.{EntryOffers, RouterOffers}
+use Rattle.external.specs.AsbrRoute.{EntryOffers, RouterOffers}
 use Rattle.external.specs.Right.{AreInputsOf}
 
 not_less : (m n : ℕ) → nat_cmp m n ≢ Less → n ≤ m

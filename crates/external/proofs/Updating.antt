@@ -15,17 +15,17 @@ use Rattle.ospf_types.specs.External.{ExternalPreference}
 use Rattle.result_map.specs.Lists.{GainsAll, HasMore, IsOfSome}
 use Rattle.result_map.proofs.Among.{net_among, router_among}
 use Rattle.intra.specs.Intras.{EntriesByPrefix}
-use Rattle.offer_index.specs.Advertised.{AdvertisedValue}
+use Rattle.offer_index.specs.AdvertisedRoute.{AdvertisedValue}
 use Rattle.offer_index.specs.Indexes.{ChangedOffersValue, IsIndexOf, OfferIndexValue}
 use Rattle.external.specs.Changes.{DiffersAt}
 use Rattle.external.specs.Externals.{ExternalValue, IsEntryFor}
 use Rattle.external.specs.Forwards.{ForwardValue, ForwardsByAddress}
 use Rattle.external.specs.Inputs.{ExternalInputsValue}
 use Rattle.external.specs.Offers.{AdvertisedOffers, ForwardLeads, OffersBy, OffersOf}
-use Rattle.external.specs.Preferred.{PreferredByRouter, PreferredValue}
+use Rattle.external.specs.AsbrRoute.{PreferredByRouter, PreferredValue}
 use Rattle.external.specs.Updating.{IsAlso, IsEntryBy, IsLedBy, IsLedByAddress, IsListed, StandsBut}
-use Rattle.external.specs.contracts.forward.Forward as kept_forward
-use Rattle.external.specs.contracts.preferred.Preferred as kept_entry
+use Rattle.external.specs.contracts.forward.ForwardingMatch as kept_forward
+use Rattle.external.specs.contracts.preferred.AsbrRoute as kept_entry
 use Rattle.external.proofs.Frame.{entry_same}
 use Rattle.ospf_types.proofs.Stable.{same_value}
 

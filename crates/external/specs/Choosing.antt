@@ -12,13 +12,13 @@ use Rattle.ospf_types.specs.Hops.{hop_cmp, path_cmp}
 use Rattle.ospf_types.specs.Inter.{through}
 use Rattle.ospf_types.specs.Intra.{E}
 use Rattle.path_choice.specs.Choices.{Chosen}
-use Rattle.intra.specs.Reached.{ReachedValue, HandsOut}
+use Rattle.intra.specs.ReachedRouter.{ReachedValue, HandsOut}
 use Rattle.path_choice.specs.Takes.{Takes, OnlyOffer, OfferedBySome}
-use Rattle.offer_index.specs.Advertised.{AdvertisedValue}
+use Rattle.offer_index.specs.AdvertisedRoute.{AdvertisedValue}
 use Rattle.offer_index.specs.Indexes.{AdvertisedByKey, OfferIndexValue, IsInGroup}
-use Rattle.offer_index.specs.declared.lsa_group.LsaGroup.TheVariants.{To}
+use Rattle.offer_index.specs.declared.index_key.IndexKey.TheVariants.{To}
 use Rattle.external.specs.Inputs.{ExternalInputsValue}
-use Rattle.external.specs.Preferred.{PreferredByRouter, ReachedOffers}
+use Rattle.external.specs.AsbrRoute.{PreferredByRouter, ReachedOffers}
 use Rattle.external.specs.Forwards.{ForwardsByAddress}
 use Rattle.external.specs.Offers.{AdvertisedOffers, preference_of}
 

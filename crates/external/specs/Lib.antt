@@ -1,5 +1,5 @@
 pub mod Inputs
-pub mod Preferred
+pub mod AsbrRoute
 pub mod Forwards
 pub mod Offers
 pub mod Choosing

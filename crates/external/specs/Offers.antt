@@ -10,9 +10,9 @@ use Rattle.ospf_types.specs.declared.prefix.Prefix.{Prefix}
 use Rattle.ospf_types.specs.External.{ExternalPreference}
 use Rattle.ospf_types.specs.Inter.{through}
 use Rattle.lsdb.specs.Contents.{body_at}
-use Rattle.offer_index.specs.Advertised.{AdvertisedValue, advertised_at}
+use Rattle.offer_index.specs.AdvertisedRoute.{AdvertisedValue, advertised_at}
 use Rattle.external.specs.Inputs.{ExternalInputsValue}
-use Rattle.external.specs.Preferred.{PreferredValue, PreferredByRouter}
+use Rattle.external.specs.AsbrRoute.{PreferredValue, PreferredByRouter}
 use Rattle.external.specs.Forwards.{ForwardValue, ForwardsByAddress, WayOffers, internal_entry}
 
 -- type 1 before type 2, the metric Y of type 2, the class, and then X + Y for type 1 and X for type 2

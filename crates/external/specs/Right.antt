@@ -11,7 +11,7 @@ use Rattle.intra.specs.Right.{IsRightFor as IsIntraRight}
 use Rattle.active_ranges.specs.Right.{IsRightFor as AreRangesRight}
 use Rattle.inter.specs.Right.{IsRightFor as IsInterRight}
 use Rattle.external.specs.Inputs.{ExternalInputsValue}
-use Rattle.external.specs.Preferred.{IsPreferredFor}
+use Rattle.external.specs.AsbrRoute.{IsPreferredFor}
 use Rattle.external.specs.Externals.{ExternalValue, IsEntryFor}
 
 -- what the routes are calculated from is what the definitions speak of

@@ -8,13 +8,13 @@ ghost use Rattle.inter.specs.Inters.{most_cost};
 ghost use Rattle.external.specs.Choosing.{TakesPaths, LeadsOffer, KeyOffers, KeysOffer, NetworkOffers};
 ghost use Rattle.external.specs.Forwards.{WayOffers, forwards_in};
 ghost use Rattle.external.specs.Offers.{AdvertisedOffers, ForwardLeads, preference_of};
-ghost use Rattle.external.specs.Preferred.{preferred_in};
+ghost use Rattle.external.specs.AsbrRoute.{preferred_in};
 ghost use Rattle.external.specs.Updating.{IsEntryBy};
 
-use crate::forward::{Forward, Way, has_internal};
+use crate::forward::{ForwardingMatch, ForwardingPath, has_internal};
 use crate::inputs::ExternalInputs;
-use crate::preferred::Preferred;
-use offer_index::{Advertised, LsaGroup, OfferIndex};
+use crate::preferred::AsbrRoute;
+use offer_index::{AdvertisedRoute, IndexKey, AdvertisedIndex};
 use ospf_types::entry::{Entry, PathType, Paths};
 use ospf_types::hop::Path;
 use ospf_types::key::{Dest, Key};
@@ -61,7 +61,7 @@ impl ExactOrd for ExternalKey {
 
 impl ExternalKey {
     // That of a route, over a way of this class and distance.
-    fn of(route: Advertised, class: u8, distance: u32) -> ExternalKey
+    fn of(route: AdvertisedRoute, class: u8, distance: u32) -> ExternalKey
         requires { distance < most_cost }
         ensures { result ≡ preference_of route class distance }
     {
@@ -99,11 +99,11 @@ impl ExternalKey {
 pub(crate) struct Choosing<'a> {
     pub(crate) inputs: &'a ExternalInputs<'a>,
     /// What AS-external-LSAs advertise.
-    pub(crate) index: &'a OfferIndex,
+    pub(crate) index: &'a AdvertisedIndex,
     /// The preferred entries of AS boundary routers.
-    pub(crate) preferred: &'a ResultMap<u32, Preferred>,
+    pub(crate) preferred: &'a ResultMap<u32, AsbrRoute>,
     /// Where forwarding addresses lead.
-    pub(crate) forwards: &'a ResultMap<u32, Forward>,
+    pub(crate) forwards: &'a ResultMap<u32, ForwardingMatch>,
 }
 
 impl<'a> Choose<Prefix, Entry> for Choosing<'a> {
@@ -153,7 +153,7 @@ impl Choosing<'_> {
     {
         let mut keys = Vec::new(alloc);
         self.index
-            .list_keys(LsaGroup::To(Dest::Net(network)), &mut keys)?;
+            .list_keys(IndexKey::To(Dest::Net(network)), &mut keys)?;
         self.offer_keys(best, keys.as_slice())
     }
 
@@ -190,8 +190,8 @@ impl Choosing<'_> {
         &self,
         best: &mut Best<ExternalKey, Path>,
         key: Key,
-        route: Advertised,
-        entry: &Preferred,
+        route: AdvertisedRoute,
+        entry: &AsbrRoute,
     ) -> Result<(), Memory>
         ensures { OnOk result (TakesPaths (AdvertisedOffers (Some entry.now)
             (map.get (forwards_in self.now.forwards.now) route.forwarding) key route)
@@ -229,8 +229,8 @@ fn entry(choice: Choice<ExternalKey, Path>) -> Entry
 fn offer_forward(
     best: &mut Best<ExternalKey, Path>,
     router: u32,
-    route: Advertised,
-    forward: &Forward,
+    route: AdvertisedRoute,
+    forward: &ForwardingMatch,
 ) -> Result<(), Memory>
     ensures { OnOk result
         (TakesPaths (LeadsOffer (ForwardLeads (Some forward.now)) router route) best.old best.new) }
@@ -245,8 +245,8 @@ fn offer_forward(
 fn offer_way(
     best: &mut Best<ExternalKey, Path>,
     router: u32,
-    route: Advertised,
-    way: &Way,
+    route: AdvertisedRoute,
+    way: &ForwardingPath,
 ) -> Result<(), Memory>
     ensures { OnOk result
         (TakesPaths (LeadsOffer (WayOffers (Some way.now)) router route) best.old best.new) }

@@ -3,21 +3,21 @@ ghost use Rattle.std.specs.FinMap as map;
 ghost use Rattle.std.specs.List.{AllPairs};
 ghost use Rattle.std.specs.List.Sorted.{IsStrictlySortedBy};
 ghost use Rattle.ospf_types.specs.Keys.{dest_cmp};
-ghost use Rattle.active_ranges.specs.Lists.{HasJust};
+ghost use Rattle.active_ranges.specs.Lists.{ListsExactly};
 ghost use Rattle.external.specs.Externals.{HasEntry, HasPreferred, IsExternalOf, no_routes, spent_routes};
 ghost use Rattle.external.specs.Changes.{AreRoutesBehind, DiffersAt};
 ghost use Rattle.external.specs.Updating.{HasBoundaryRouters, StandsBut, StandsButRouters};
 ghost use Rattle.external.specs.Right.{IsRightWith};
 
 use crate::choose::Choosing;
-use crate::forward::Forward;
+use crate::forward::ForwardingMatch;
 use crate::inputs::ExternalInputs;
-use crate::preferred::Preferred;
+use crate::preferred::AsbrRoute;
 use crate::update::{
     Forwarding, Preferring, list_dests_by_addresses, list_dests_by_routers, list_dests_led_to,
 };
 use intra::Dirty;
-use offer_index::{ChangedOffers, OfferIndex, ScopeDatabase};
+use offer_index::{AffectedDests, AdvertisedIndex, ScopeDatabase};
 use ospf_types::entry::Entry;
 use ospf_types::key::{Dest, Scope};
 use ospf_types::memory::Memory;
@@ -31,9 +31,9 @@ use std::marker::Model;
 /// router.
 pub struct External {
     hashing: RandomState,
-    index: OfferIndex,
-    preferred: ResultMap<u32, Preferred>,
-    forwards: ResultMap<u32, Forward>,
+    index: AdvertisedIndex,
+    preferred: ResultMap<u32, AsbrRoute>,
+    forwards: ResultMap<u32, ForwardingMatch>,
     entries: ResultMap<Prefix, Entry>,
     spent: bool,
 }
@@ -58,12 +58,12 @@ impl Model for External {
     ghost use Rattle.ospf_types.specs.Network.{network_code};
     ghost use Rattle.ospf_types.specs.contracts.entry.Entry as entry;
     ghost use Rattle.intra.specs.Intras.{EntriesByPrefix};
-    ghost use Rattle.offer_index.specs.contracts.index.OfferIndex as kept_index;
-    ghost use Rattle.external.specs.Preferred.{PreferredByRouter};
+    ghost use Rattle.offer_index.specs.contracts.index.AdvertisedIndex as kept_index;
+    ghost use Rattle.external.specs.AsbrRoute.{PreferredByRouter};
     ghost use Rattle.external.specs.Forwards.{ForwardsByAddress};
     ghost use Rattle.external.specs.Externals.{ExternalValue};
-    ghost use Rattle.external.specs.contracts.preferred.Preferred as kept_entry;
-    ghost use Rattle.external.specs.contracts.forward.Forward as kept_forward;
+    ghost use Rattle.external.specs.contracts.preferred.AsbrRoute as kept_entry;
+    ghost use Rattle.external.specs.contracts.forward.ForwardingMatch as kept_forward;
 
     ghost Value = { ExternalValue };
 
@@ -106,7 +106,7 @@ impl External {
         ensures kept { OnOk result (IsExternalOf inputs.now self.new) }
         ensures right { OnOk result (IsRightWith inputs.now self.new) }
         ensures in_order { IfOk result (λ dests. IsStrictlySortedBy dest_cmp dests.items) }
-        ensures exact { IfOk result (λ dests. HasJust (DiffersAt self.old self.new) dests.items) }
+        ensures exact { IfOk result (λ dests. ListsExactly (DiffersAt self.old self.new) dests.items) }
         ensures spent { OnErr result (self.new ≡ spent_routes) }
     {
         let dests = self.update_parts(alloc, inputs, dirty);
@@ -125,14 +125,14 @@ impl External {
 
     /// The networks that have an entry, in no stated order, each once.
     pub fn networks(&self, alloc: Global) -> Result<Vec<Prefix>, Memory>
-        ensures exact { IfOk result (λ networks. HasJust (HasEntry self.now) networks.items) }
+        ensures exact { IfOk result (λ networks. ListsExactly (HasEntry self.now) networks.items) }
         ensures each_once { IfOk result (λ networks. AllPairs (λ p q. p ≢ q) networks.items) }
     {
         self.entries.keys(alloc)
     }
 
     /// The preferred entry of an AS boundary router; none where it is not reached, or where all is spent.
-    pub fn preferred(&self, router: u32) -> Option<&Preferred>
+    pub fn preferred(&self, router: u32) -> Option<&AsbrRoute>
         ensures { option_copied result ≡ map.get self.now.preferred router }
     {
         self.preferred.get(router)
@@ -140,7 +140,7 @@ impl External {
 
     /// Where a forwarding address leads (RFC 2328, 16.4 (3)); none where no AS-external-LSA that counts has it, or where
     /// all is spent.
-    pub fn forward(&self, address: u32) -> Option<&Forward>
+    pub fn forward(&self, address: u32) -> Option<&ForwardingMatch>
         ensures { option_copied result ≡ map.get self.now.forwards address }
     {
         self.forwards.get(address)
@@ -148,7 +148,7 @@ impl External {
 
     /// The AS boundary routers that have a preferred entry, in no stated order, each once.
     pub fn routers(&self, alloc: Global) -> Result<Vec<u32>, Memory>
-        ensures exact { IfOk result (λ routers. HasJust (HasPreferred self.now) routers.items) }
+        ensures exact { IfOk result (λ routers. ListsExactly (HasPreferred self.now) routers.items) }
         ensures each_once { IfOk result (λ routers. AllPairs (λ q r. q ≢ r) routers.items) }
     {
         self.preferred.keys(alloc)
@@ -169,7 +169,7 @@ impl External {
     {
         External {
             hashing,
-            index: OfferIndex::new(alloc, hashing),
+            index: AdvertisedIndex::new(alloc, hashing),
             preferred: ResultMap::new(alloc, hashing),
             forwards: ResultMap::new(alloc, hashing),
             entries: ResultMap::new(alloc, hashing),
@@ -188,7 +188,7 @@ impl External {
             self.old }
         ensures kept { OnOk result (IsExternalOf inputs.now self.new) }
         ensures in_order { IfOk result (λ dests. IsStrictlySortedBy dest_cmp dests.items) }
-        ensures exact { IfOk result (λ dests. HasJust (DiffersAt self.old self.new) dests.items) }
+        ensures exact { IfOk result (λ dests. ListsExactly (DiffersAt self.old self.new) dests.items) }
     {
         let affected = self.follow(alloc, inputs, dirty)?;
         self.update_results(alloc, inputs, dirty.dests.as_slice(), affected)
@@ -200,7 +200,7 @@ impl External {
         alloc: Global,
         inputs: &ExternalInputs<'_>,
         dirty: &Dirty,
-    ) -> Result<ChangedOffers, Memory>
+    ) -> Result<AffectedDests, Memory>
         requires before { AreRoutesBehind dirty.now.keys.items dirty.now.dests.items inputs.now
             self.old }
         ensures preferred { OnOk result (self.new.preferred ≡ self.old.preferred) }
@@ -208,7 +208,7 @@ impl External {
         ensures stands { IfOk result
             (λ affected. StandsBut inputs.now dirty.now.dests.items affected self.new) }
     {
-        let mut affected = ChangedOffers::none(alloc);
+        let mut affected = AffectedDests::none(alloc);
         let from = ScopeDatabase {
             root: inputs.root,
             scope: Scope::As,
@@ -224,11 +224,11 @@ impl External {
         &mut self,
         alloc: Global,
         inputs: &ExternalInputs<'_>,
-    ) -> Result<ChangedOffers, Memory>
+    ) -> Result<AffectedDests, Memory>
         requires { self.old ≡ no_routes }
         ensures { IfOk result (λ affected. StandsButRouters inputs.now affected self.new) }
     {
-        let mut affected = ChangedOffers::none(alloc);
+        let mut affected = AffectedDests::none(alloc);
         let from = ScopeDatabase {
             root: inputs.root,
             scope: Scope::As,
@@ -244,19 +244,19 @@ impl External {
         alloc: Global,
         inputs: &ExternalInputs<'_>,
         dests: &[Dest],
-        affected: ChangedOffers,
+        affected: AffectedDests,
     ) -> Result<Vec<Dest>, Memory>
         requires { StandsBut inputs.now dests.now affected self.old }
         ensures kept { OnOk result (IsExternalOf inputs.now self.new) }
         ensures in_order { IfOk result (λ others. IsStrictlySortedBy dest_cmp others.items) }
-        ensures exact { IfOk result (λ others. HasJust (DiffersAt self.old self.new) others.items) }
+        ensures exact { IfOk result (λ others. ListsExactly (DiffersAt self.old self.new) others.items) }
     {
-        let ChangedOffers {
+        let AffectedDests {
             dests: mut leading,
             addresses,
         } = affected;
         let index = &self.index;
-        // Preferred entries first, then where forwarding addresses lead, then the networks behind what differs.
+        // AsbrRoute entries first, then where forwarding addresses lead, then the networks behind what differs.
         let named = routers_among(alloc, dests)?;
         let preferring = Preferring { inputs };
         let routers = self.preferred.follow(alloc, named, &preferring)?;
@@ -280,7 +280,7 @@ impl External {
     fn spend(&mut self, alloc: Global)
         ensures { self.new ≡ spent_routes }
     {
-        self.index = OfferIndex::new(alloc, self.hashing);
+        self.index = AdvertisedIndex::new(alloc, self.hashing);
         self.preferred.clear();
         self.forwards.clear();
         self.entries.clear();

@@ -16,16 +16,16 @@ use std::alloc::Global;
 use std::marker::Model;
 
 /// A way to a forwarding address: its class, its cost, and its next hops, each toward the address.
-pub struct Way {
+pub struct ForwardingPath {
     class: u8,
     cost: u32,
     hops: Vec<NextHop>,
 }
 
 // proof: one call drops it, in place of a drop of each part wherever one is held.
-impl Drop for Way {
+impl Drop for ForwardingPath {
     fn drop(self) {
-        let Way {
+        let ForwardingPath {
             class: _,
             cost: _,
             hops: _hops,
@@ -33,7 +33,7 @@ impl Drop for Way {
     }
 }
 
-impl Model for Way {
+impl Model for ForwardingPath {
     ghost use Rattle.std.specs.Prelude.{◌<◌};
     ghost use Rattle.inter.specs.Inters.{most_cost};
     ghost use Rattle.external.specs.Forwards.{WayValue};
@@ -45,7 +45,7 @@ impl Model for Way {
     ghost invariant = { λ w. w.cost < most_cost };
 }
 
-impl Way {
+impl ForwardingPath {
     /// 0 where the entry is an intra-area path through another area than the backbone, and else 1; with RFC1583Compatibility
     /// enabled 0 (RFC 2328, 16.4.1).
     pub fn class(&self) -> u8
@@ -70,36 +70,36 @@ impl Way {
     }
 
     // Whether class and cost are equal.
-    fn has_numbers_of(&self, other: &Way) -> bool
+    fn has_numbers_of(&self, other: &ForwardingPath) -> bool
         ensures { IsTrue result ↔ HaveOneCost self.now other.now }
     {
         self.class == other.class && self.cost == other.cost
     }
 }
 
-impl Same for Way {
-    fn is_same(&self, other: &Way) -> bool {
+impl Same for ForwardingPath {
+    fn is_same(&self, other: &ForwardingPath) -> bool {
         self.has_numbers_of(other) && self.hops == other.hops
     }
 }
 
 /// The longest match of a forwarding address, and the way there; none where the match is a discard.
-pub struct Forward {
+pub struct ForwardingMatch {
     matched: Option<Prefix>,
-    way: Option<Way>,
+    way: Option<ForwardingPath>,
 }
 
 // proof: one call drops it, in place of a drop of each part wherever one is held.
-impl Drop for Forward {
+impl Drop for ForwardingMatch {
     fn drop(self) {
-        let Forward {
+        let ForwardingMatch {
             matched: _matched,
             way: _way,
         } = self;
     }
 }
 
-impl Model for Forward {
+impl Model for ForwardingMatch {
     ghost use Rattle.external.specs.Forwards.{ForwardValue};
 
     ghost Value = { ForwardValue };
@@ -107,7 +107,7 @@ impl Model for Forward {
     ghost view = { λ f. record { matched = f.matched; way = f.way } };
 }
 
-impl Forward {
+impl ForwardingMatch {
     /// The longest match of the address; none where nothing contains it.
     pub fn matched(&self) -> Option<Prefix>
         ensures { result ≡ self.now.matched }
@@ -116,15 +116,15 @@ impl Forward {
     }
 
     /// The way there; none where nothing matches, and where the match is a discard.
-    pub fn way(&self) -> Option<&Way>
+    pub fn way(&self) -> Option<&ForwardingPath>
         ensures { option_copied result ≡ self.now.way }
     {
         self.way.as_ref()
     }
 }
 
-impl Same for Forward {
-    fn is_same(&self, other: &Forward) -> bool {
+impl Same for ForwardingMatch {
+    fn is_same(&self, other: &ForwardingMatch) -> bool {
         self.matched == other.matched && are_same(self.way.as_ref(), other.way.as_ref())
     }
 }
@@ -134,16 +134,16 @@ pub(crate) fn look_up(
     alloc: Global,
     inputs: &ExternalInputs<'_>,
     address: u32,
-) -> Result<Forward, Memory>
+) -> Result<ForwardingMatch, Memory>
     ensures { IfOk result (IsForwardOf inputs.now address) }
 {
     // 16.4 (3): the match of the forwarding address must be an intra-area or inter-area path.
     match longest_match(inputs, address) {
-        Some(network) => Ok(Forward {
+        Some(network) => Ok(ForwardingMatch {
             matched: Some(network),
             way: way_by(alloc, inputs, network, address)?,
         }),
-        None => Ok(Forward {
+        None => Ok(ForwardingMatch {
             matched: None,
             way: None,
         }),
@@ -197,11 +197,11 @@ fn way_by(
     inputs: &ExternalInputs<'_>,
     network: Prefix,
     address: u32,
-) -> Result<Option<Way>, Memory>
+) -> Result<Option<ForwardingPath>, Memory>
     ensures { IfOk result (IsWayBy inputs.now address (Some network)) }
 {
     match internal(inputs, network) {
-        Some(entry) => Ok(Some(Way {
+        Some(entry) => Ok(Some(ForwardingPath {
             class: class_at(inputs, network, entry.area),
             cost: entry.cost,
             hops: hops_toward(alloc, address, entry.paths.as_slice())?,

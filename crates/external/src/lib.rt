@@ -11,6 +11,6 @@ mod preferred;
 mod update;
 
 pub use external::External;
-pub use forward::{Forward, Way};
+pub use forward::{ForwardingMatch, ForwardingPath};
 pub use inputs::ExternalInputs;
-pub use preferred::Preferred;
+pub use preferred::AsbrRoute;

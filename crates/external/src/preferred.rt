@@ -4,14 +4,14 @@ ghost use Rattle.ospf_types.specs.Boundary.{class_of};
 ghost use Rattle.path_choice.specs.Takes.{OnlyOffer, OfferedBySome};
 ghost use Rattle.inter.specs.Inters.{most_cost};
 ghost use Rattle.external.specs.Choosing.{TakesHops, HopsOffer, AreaOffers, AreasOffer};
-ghost use Rattle.external.specs.Preferred.{RouterOffers, ReachedOffers, EntryOffers, InterEntryOffers, IsPreferredFor};
+ghost use Rattle.external.specs.AsbrRoute.{RouterOffers, ReachedOffers, EntryOffers, InterEntryOffers, IsPreferredFor};
 
 use crate::inputs::ExternalInputs;
 use ospf_types::entry::Entry;
 use ospf_types::hop::{NextHop, Path};
 use ospf_types::key::Dest;
 use ospf_types::memory::Memory;
-use path_choice::{Best, Choice, ExactOrd, Reached};
+use path_choice::{Best, Choice, ExactOrd, ReachedRouter};
 use result_map::Same;
 use smallvec::SmallVec;
 use std::alloc::Global;
@@ -20,7 +20,7 @@ use std::marker::Model;
 
 /// The preferred entry of an AS boundary router: an intra-area path through another area than the backbone before all
 /// others (unless RFC1583Compatibility is enabled), then the lesser cost, then the greater Area ID.
-pub struct Preferred {
+pub struct AsbrRoute {
     class: u8,
     cost: u32,
     area: u32,
@@ -28,9 +28,9 @@ pub struct Preferred {
 }
 
 // proof: one call drops it, in place of a drop of each part wherever one is held.
-impl Drop for Preferred {
+impl Drop for AsbrRoute {
     fn drop(self) {
-        let Preferred {
+        let AsbrRoute {
             class: _,
             cost: _,
             area: _,
@@ -39,10 +39,10 @@ impl Drop for Preferred {
     }
 }
 
-impl Model for Preferred {
+impl Model for AsbrRoute {
     ghost use Rattle.std.specs.Prelude.{◌<◌};
     ghost use Rattle.inter.specs.Inters.{most_cost};
-    ghost use Rattle.external.specs.Preferred.{PreferredValue};
+    ghost use Rattle.external.specs.AsbrRoute.{PreferredValue};
 
     ghost Value = { PreferredValue };
 
@@ -100,7 +100,7 @@ impl PreferenceKey {
     }
 }
 
-impl Preferred {
+impl AsbrRoute {
     /// The cost, a sum of metrics.
     pub fn cost(&self) -> u32
         ensures value { result ≡ self.now.preference.cost }
@@ -132,15 +132,15 @@ impl Preferred {
     }
 
     // Whether class, cost and area are equal.
-    fn has_preference_of(&self, other: &Preferred) -> bool
+    fn has_preference_of(&self, other: &AsbrRoute) -> bool
         ensures { IsTrue result ↔ (self.now.preference ≡ other.now.preference) }
     {
         self.class == other.class && self.cost == other.cost && self.area == other.area
     }
 }
 
-impl Same for Preferred {
-    fn is_same(&self, other: &Preferred) -> bool {
+impl Same for AsbrRoute {
+    fn is_same(&self, other: &AsbrRoute) -> bool {
         self.has_preference_of(other) && self.hops == other.hops
     }
 }
@@ -150,7 +150,7 @@ pub(crate) fn choose_preferred(
     alloc: Global,
     inputs: &ExternalInputs<'_>,
     router: u32,
-) -> Result<Option<Preferred>, Memory>
+) -> Result<Option<AsbrRoute>, Memory>
     ensures { IfOk result (IsPreferredFor (RouterOffers inputs.now router)) }
 {
     let mut best = Best::new(alloc);
@@ -179,11 +179,11 @@ pub(crate) fn class_of(compat: bool, within: Option<u32>) -> u8
 }
 
 // The preferred entry of a choice.
-fn from_choice(choice: Choice<PreferenceKey, NextHop>) -> Preferred
+fn from_choice(choice: Choice<PreferenceKey, NextHop>) -> AsbrRoute
     ensures { result ≡ record { preference = choice.key; hops = choice.items } }
 {
     let (key, hops) = choice.into_parts();
-    Preferred {
+    AsbrRoute {
         class: key.class,
         cost: key.cost,
         area: key.area.0,
@@ -225,12 +225,12 @@ fn offer_reached(
     best: &mut Best<PreferenceKey, NextHop>,
     compat: bool,
     area: u32,
-    reached: &Reached,
+    reached: &ReachedRouter,
 ) -> Result<(), Memory>
     ensures { OnOk result
         (TakesHops (AreaOffers compat area (Some reached.now)) best.old best.new) }
 {
-    if !reached.is_boundary() {
+    if !reached.is_asbr() {
         return Ok(());
     }
     let key = PreferenceKey::new(class_of(compat, Some(area)), reached.distance(), area);

@@ -1,18 +1,18 @@
 //! What is worked out again where something may differ: preferred entries, then where forwarding addresses lead, then networks.
 ghost use Rattle.std.specs.Prelude.{◌↔◌, IfOk, OnOk, IsTrue, option_copied};
 ghost use Rattle.std.specs.Ordering.{nat_cmp};
-ghost use Rattle.result_map.specs.Chosen.{AreChosen, HasOther};
+ghost use Rattle.result_map.specs.Chosen.{AreChosen, HasChanged};
 ghost use Rattle.result_map.specs.Dests.{IsNetworkAmong};
-ghost use Rattle.result_map.specs.Lists.{GainsAll, HasAll, HasJust, HasMore, IsOfSome};
+ghost use Rattle.result_map.specs.Lists.{GainsAll, HasAll, ListsExactly, HasMore, IsOfSome};
 ghost use Rattle.result_map.specs.Results.{result_at};
 ghost use Rattle.external.specs.Externals.{IsForwardIn};
 ghost use Rattle.external.specs.Forwards.{forwards_in};
 ghost use Rattle.external.specs.Updating.{IsAddressDue, IsAlso, IsDueAt, IsDueInDest, IsDueInNetwork, IsLedBy, IsLedByAddress, IsNoShorter, IsNoShorterThan, StandsButDue};
 
-use crate::forward::{Forward, look_up};
+use crate::forward::{ForwardingMatch, look_up};
 use crate::inputs::ExternalInputs;
-use crate::preferred::{Preferred, choose_preferred};
-use offer_index::{LsaGroup, OfferIndex};
+use crate::preferred::{AsbrRoute, choose_preferred};
+use offer_index::{IndexKey, AdvertisedIndex};
 use ospf_types::key::Dest;
 use ospf_types::memory::Memory;
 use ospf_types::prefix::Prefix;
@@ -27,8 +27,8 @@ pub(crate) struct Preferring<'a> {
     pub(crate) inputs: &'a ExternalInputs<'a>,
 }
 
-impl<'a> Choose<u32, Preferred> for Preferring<'a> {
-    ghost use Rattle.external.specs.Preferred.{RouterOffers, IsPreferredFor};
+impl<'a> Choose<u32, AsbrRoute> for Preferring<'a> {
+    ghost use Rattle.external.specs.AsbrRoute.{RouterOffers, IsPreferredFor};
 
     ghost IsChosen = { λ by router fresh. IsPreferredFor (RouterOffers by.inputs.now router) fresh };
 
@@ -36,8 +36,8 @@ impl<'a> Choose<u32, Preferred> for Preferring<'a> {
         &self,
         alloc: Global,
         key: u32,
-        _standing: Option<&Preferred>,
-    ) -> Result<Option<Preferred>, Memory> {
+        _standing: Option<&AsbrRoute>,
+    ) -> Result<Option<AsbrRoute>, Memory> {
         choose_preferred(alloc, self.inputs, key)
     }
 }
@@ -46,10 +46,10 @@ impl<'a> Choose<u32, Preferred> for Preferring<'a> {
 #[derive(Drop)]
 pub(crate) struct Forwarding<'a> {
     pub(crate) inputs: &'a ExternalInputs<'a>,
-    pub(crate) index: &'a OfferIndex,
+    pub(crate) index: &'a AdvertisedIndex,
 }
 
-impl<'a> Choose<u32, Forward> for Forwarding<'a> {
+impl<'a> Choose<u32, ForwardingMatch> for Forwarding<'a> {
     ghost use Rattle.external.specs.Externals.{IsForwardIn};
 
     ghost IsChosen = { λ by address fresh. IsForwardIn by.inputs.now by.index.now address fresh };
@@ -58,8 +58,8 @@ impl<'a> Choose<u32, Forward> for Forwarding<'a> {
         &self,
         alloc: Global,
         key: u32,
-        _standing: Option<&Forward>,
-    ) -> Result<Option<Forward>, Memory> {
+        _standing: Option<&ForwardingMatch>,
+    ) -> Result<Option<ForwardingMatch>, Memory> {
         if !self.index.has_address(key) {
             return Ok(None);
         }
@@ -78,14 +78,14 @@ impl Forwarding<'_> {
         alloc: Global,
         named: &[Dest],
         addresses: Vec<u32>,
-        forwards: &mut ResultMap<u32, Forward>,
+        forwards: &mut ResultMap<u32, ForwardingMatch>,
     ) -> Result<Vec<u32>, Memory>
         requires { StandsButDue self.now.inputs.now self.now.index.now (IsNetworkAmong named.now)
             addresses.items (forwards_in forwards.old) }
         ensures chosen { OnOk result (AreChosen
             (IsForwardIn self.now.inputs.now self.now.index.now) (result_at nat_cmp forwards.new)) }
-        ensures exact { IfOk result (λ moved. HasJust
-            (HasOther (result_at nat_cmp forwards.old) (result_at nat_cmp forwards.new))
+        ensures exact { IfOk result (λ moved. ListsExactly
+            (HasChanged (result_at nat_cmp forwards.old) (result_at nat_cmp forwards.new))
             moved.items) }
     {
         let matches = AddressMatches {
@@ -101,8 +101,8 @@ impl Forwarding<'_> {
 /// The forwarding addresses of what is advertised, with the longest match of each as it was last looked up.
 #[derive(Drop)]
 struct AddressMatches<'a> {
-    index: &'a OfferIndex,
-    forwards: &'a ResultMap<u32, Forward>,
+    index: &'a AdvertisedIndex,
+    forwards: &'a ResultMap<u32, ForwardingMatch>,
 }
 
 impl AddressMatches<'_> {
@@ -167,7 +167,7 @@ impl AddressMatches<'_> {
 }
 
 // Whether the network is as long as the match that is kept, or longer.
-fn is_no_shorter(kept: Option<&Forward>, network: Prefix) -> bool
+fn is_no_shorter(kept: Option<&ForwardingMatch>, network: Prefix) -> bool
     ensures { IsTrue result ↔ IsNoShorter (option_copied kept.entry) network }
 {
     match kept {
@@ -189,7 +189,7 @@ fn is_no_shorter_than(matched: Option<Prefix>, network: Prefix) -> bool
 
 /// Adds the destinations that the routers' LSAs lead to.
 pub(crate) fn list_dests_by_routers(
-    index: &OfferIndex,
+    index: &AdvertisedIndex,
     routers: &[u32],
     dests: &mut Vec<Dest>,
 ) -> Result<(), Memory>
@@ -197,14 +197,14 @@ pub(crate) fn list_dests_by_routers(
         (HasMore (IsOfSome routers.now (IsLedBy index.now)) dests.old.items dests.new.items) }
 {
     for router in routers {
-        index.list_dests(LsaGroup::By(*router), dests)?;
+        index.list_dests(IndexKey::By(*router), dests)?;
     }
     Ok(())
 }
 
 /// Adds the destinations to which LSAs with these forwarding addresses lead.
 pub(crate) fn list_dests_by_addresses(
-    index: &OfferIndex,
+    index: &AdvertisedIndex,
     addresses: &[u32],
     dests: &mut Vec<Dest>,
 ) -> Result<(), Memory>
@@ -212,14 +212,14 @@ pub(crate) fn list_dests_by_addresses(
         dests.old.items dests.new.items) }
 {
     for address in addresses {
-        index.list_dests(LsaGroup::Forwarded(*address), dests)?;
+        index.list_dests(IndexKey::Forwarded(*address), dests)?;
     }
     Ok(())
 }
 
 /// Adds those of the destinations that something leads to. To the others nothing is offered: they have no entry.
 pub(crate) fn list_dests_led_to(
-    index: &OfferIndex,
+    index: &AdvertisedIndex,
     dests: &[Dest],
     leading: &mut Vec<Dest>,
 ) -> Result<(), Memory>
@@ -233,7 +233,7 @@ pub(crate) fn list_dests_led_to(
 }
 
 // Adds the destination if something leads to it.
-fn list_if_led_to(index: &OfferIndex, dest: &Dest, leading: &mut Vec<Dest>) -> Result<(), Memory>
+fn list_if_led_to(index: &AdvertisedIndex, dest: &Dest, leading: &mut Vec<Dest>) -> Result<(), Memory>
     ensures { OnOk result (GainsAll (IsAlso index.now dest.now)
         leading.old.items leading.new.items) }
 {

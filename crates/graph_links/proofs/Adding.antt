@@ -7,10 +7,10 @@ use Rattle.std.proofs.lemmas.List.Elements.{Contains-append_left, Contains-appen
 use Rattle.ospf_types.specs.declared.label.Label.{Label}
 use Rattle.ospf_types.specs.declared.label.Label.TheVariants.{Over, At, Plain}
 use Rattle.ospf_types.proofs.Elements.{no_element, first_element}
-use Rattle.graph_links.specs.declared.end.End.{End}
+use Rattle.graph_links.specs.declared.link_end.LinkEnd.{LinkEnd}
 use Rattle.graph_links.specs.declared.link.Link.{Link}
 use Rattle.graph_links.specs.declared.link.Up.{Up}
-use Rattle.graph_links.specs.declared.ways.Way.{Way}
+use Rattle.graph_links.specs.declared.parallel_links.ParallelLink.{ParallelLink}
 use Rattle.graph_links.specs.Pairs.{Adds, IsOutLabel, IsWay, IsWayOver, label_over}
 
 module _ {X : Type 0} where
@@ -61,50 +61,50 @@ module _ (root router : ℕ) (detail : ℕ) where
   label_right us vs (At addresses) h = h
 
 -- a way goes over some of the interfaces or over others
-pub over_either : (root router : ℕ) (us vs : List Up) (e : End) (w : Way) → IsWay root (us ++ vs) router e w ↔ (IsWay root us router e w ⊎ IsWay root vs router e w)
+pub over_either : (root router : ℕ) (us vs : List Up) (e : LinkEnd) (w : ParallelLink) → IsWay root (us ++ vs) router e w ↔ (IsWay root us router e w ⊎ IsWay root vs router e w)
 over_either root router us vs e w = (
   λ h. ⊎_elim (λ (i : IsOutLabel root us router e.detail (label_over w.interface)). inl (h.0, h.1, i)) (λ (i : IsOutLabel root vs router e.detail (label_over w.interface)). inr (h.0, h.1, i)) (label_either root router e.detail us vs (label_over w.interface) h.2),
   λ h. ⊎_elim (λ (i : IsWay root us router e w). (i.0, i.1, label_left root router e.detail us vs (label_over w.interface) i.2)) (λ (i : IsWay root vs router e w). (i.0, i.1, label_right root router e.detail us vs (label_over w.interface) i.2)) h,
 )
 
 -- a way over one end more
-pub over_one_more : (root router : ℕ) (ups : List Up) (es : List End) (e : End) (w : Way) → IsWayOver root ups router (es ++ e ∷ []) w ↔ (IsWayOver root ups router es w ⊎ IsWay root ups router e w)
+pub over_one_more : (root router : ℕ) (ups : List Up) (es : List LinkEnd) (e : LinkEnd) (w : ParallelLink) → IsWayOver root ups router (es ++ e ∷ []) w ↔ (IsWayOver root ups router es w ⊎ IsWay root ups router e w)
 over_one_more root router ups es e w = (
-  λ h. ⊎_elim (λ (c : Contains es h.0). inl (h.0, c, h.2)) (λ (s : e ≡ h.0). inr (subst (λ (x : End). IsWay root ups router x w) (sym s) h.2)) (Contains-push_cases es e h.0 h.1),
+  λ h. ⊎_elim (λ (c : Contains es h.0). inl (h.0, c, h.2)) (λ (s : e ≡ h.0). inr (subst (λ (x : LinkEnd). IsWay root ups router x w) (sym s) h.2)) (Contains-push_cases es e h.0 h.1),
   λ h. ⊎_elim (λ (o : IsWayOver root ups router es w). (o.0, Contains-append_left es (e ∷ []) o.0 o.1, o.2)) (λ (i : IsWay root ups router e w). (e, Contains-append_right es (e ∷ []) e (first_element e []), i)) h,
 )
 
 -- the loop over interfaces, one on
-pub over_on : (root : ℕ) (e : End) (ups : List Up) (i : ℕ) (none : Up) (xs ys zs : List Way) → i < length ups
+pub over_on : (root : ℕ) (e : LinkEnd) (ups : List Up) (i : ℕ) (none : Up) (xs ys zs : List ParallelLink) → i < length ups
     → Adds xs ys (IsWay root (take i ups) root e) → Adds ys zs (IsWay root (get_or ups i none ∷ []) root e) → Adds xs zs (IsWay root (take (i + 1) ups) root e)
 over_on root e ups i none xs ys zs lt first then =
     adds_both xs ys zs (IsWay root (take i ups) root e) (IsWay root (get_or ups i none ∷ []) root e) (IsWay root (take (i + 1) ups) root e) first then
     (λ w. subst (λ (us : List Up). IsWay root us root e w ↔ (IsWay root (take i ups) root e w ⊎ IsWay root (get_or ups i none ∷ []) root e w)) (sym (take_more ups i none lt)) (over_either root root (take i ups) (get_or ups i none ∷ []) e w))
 
 -- and at its end
-pub over_all : (root : ℕ) (e : End) (ups : List Up) (i : ℕ) (xs ys : List Way) → length ups ≤ i → Adds xs ys (IsWay root (take i ups) root e) → Adds xs ys (IsWay root ups root e)
+pub over_all : (root : ℕ) (e : LinkEnd) (ups : List Up) (i : ℕ) (xs ys : List ParallelLink) → length ups ≤ i → Adds xs ys (IsWay root (take i ups) root e) → Adds xs ys (IsWay root ups root e)
 over_all root e ups i xs ys le adds = subst (λ (us : List Up). Adds xs ys (IsWay root us root e)) (take_all i ups le) adds
 
 -- the ways are those over these ends
-abbrev pub AreWaysBy : ℕ → List Up → ℕ → List End → List Way → Type 0
-AreWaysBy root ups router ends ways = (w : Way) → Contains ways w ↔ IsWayOver root ups router ends w
+abbrev pub AreWaysBy : ℕ → List Up → ℕ → List LinkEnd → List ParallelLink → Type 0
+AreWaysBy root ups router ends ways = (w : ParallelLink) → Contains ways w ↔ IsWayOver root ups router ends w
 
-pub ways_none : (root router : ℕ) (ups : List Up) (ways : List Way) → ways ≡ [] → AreWaysBy root ups router [] ways
+pub ways_none : (root router : ℕ) (ups : List Up) (ways : List ParallelLink) → ways ≡ [] → AreWaysBy root ups router [] ways
 ways_none root router ups ways none w = (
-  λ c. absurd (no_element w (subst (λ (ws : List Way). Contains ws w) none c)),
+  λ c. absurd (no_element w (subst (λ (ws : List ParallelLink). Contains ws w) none c)),
   λ h. absurd (no_element h.0 h.1),
 )
 
 -- the loop over ends, one on
-pub ways_on : (root router : ℕ) (ups : List Up) (es : List End) (i : ℕ) (d : End) (ways ways_new : List Way) → i < length es
+pub ways_on : (root router : ℕ) (ups : List Up) (es : List LinkEnd) (i : ℕ) (d : LinkEnd) (ways ways_new : List ParallelLink) → i < length es
     → AreWaysBy root ups router (take i es) ways → Adds ways ways_new (IsWay root ups router (get_or es i d)) → AreWaysBy root ups router (take (i + 1) es) ways_new
 ways_on root router ups es i d ways ways_new lt before then w =
     let more : IsWayOver root ups router (take (i + 1) es) w ↔ (IsWayOver root ups router (take i es) w ⊎ IsWay root ups router (get_or es i d) w) =
-    subst (λ (fs : List End). IsWayOver root ups router fs w ↔ (IsWayOver root ups router (take i es) w ⊎ IsWay root ups router (get_or es i d) w)) (sym (take_more es i d lt)) (over_one_more root router ups (take i es) (get_or es i d) w) in (
+    subst (λ (fs : List LinkEnd). IsWayOver root ups router fs w ↔ (IsWayOver root ups router (take i es) w ⊎ IsWay root ups router (get_or es i d) w)) (sym (take_more es i d lt)) (over_one_more root router ups (take i es) (get_or es i d) w) in (
       λ c. more.1 (elim ((then w).0 c) [ inl was ↦ inl ((before w).0 was) | inr one ↦ inr one ]),
       λ h. (then w).1 (elim (more.0 h) [ inl was ↦ inl ((before w).1 was) | inr one ↦ inr one ]),
     )
 
 -- and at its end
-pub ways_all : (root router : ℕ) (ups : List Up) (es : List End) (i : ℕ) (ways : List Way) → length es ≤ i → AreWaysBy root ups router (take i es) ways → AreWaysBy root ups router es ways
-ways_all root router ups es i ways le are = subst (λ (fs : List End). AreWaysBy root ups router fs ways) (take_all i es le) are
+pub ways_all : (root router : ℕ) (ups : List Up) (es : List LinkEnd) (i : ℕ) (ways : List ParallelLink) → length es ≤ i → AreWaysBy root ups router (take i es) ways → AreWaysBy root ups router es ways
+ways_all root router ups es i ways le are = subst (λ (fs : List LinkEnd). AreWaysBy root ups router fs ways) (take_all i es le) are

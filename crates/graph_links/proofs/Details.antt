@@ -16,7 +16,7 @@ use Rattle.ospf_types.specs.declared.entry.Vertex.{Vertex}
 use Rattle.ospf_types.specs.Vertices.{vertex_cmp}
 use Rattle.ospf_types.proofs.Elements.{mapped_element, mapped_from}
 use Rattle.ospf_types.proofs.OneBest.{same_list}
-use Rattle.graph_links.specs.declared.end.End.{End}
+use Rattle.graph_links.specs.declared.link_end.LinkEnd.{LinkEnd}
 use Rattle.graph_links.specs.EndOrder.{end_cmp}
 use Rattle.graph_links.specs.Pairs.{AreDetailsTo, is_last}
 use Rattle.graph_links.proofs.EndOrders.{vertex_total}
@@ -53,7 +53,7 @@ pub rest_added : (before : List ℕ) (last : Option ℕ) (x : ℕ) (xs whole : L
 rest_added before last x xs whole h = with_rest (is_last last x) before (rest_of (Some x) xs) x ∙ ap (λ (rest : List ℕ). before ++ rest) (sym (rest_step last x xs)) ∙ h
 
 -- of two ends at one vertex, in order, the second has no lesser Link Data
-not_lesser : (a b : End) → a.to ≡ b.to → end_cmp a b ≡ Less → is_lt (nat_cmp b.detail a.detail) ≡ false
+not_lesser : (a b : LinkEnd) → a.to ≡ b.to → end_cmp a b ≡ Less → is_lt (nat_cmp b.detail a.detail) ≡ false
 not_lesser a b same less =
     let tie : vertex_cmp a.to b.to ≡ Equal = ap (λ (v : Vertex). vertex_cmp v b.to) same ∙ tied_itself vertex_total b.to in
     let second : ordering_then Equal (ordering_then (nat_cmp a.detail b.detail) (nat_cmp a.metric b.metric)) ≡ Less = subst (λ (o : Ordering). ordering_then o (ordering_then (nat_cmp a.detail b.detail) (nat_cmp a.metric b.metric)) ≡ Less) tie less in
@@ -64,44 +64,44 @@ not_lesser a b same less =
     ] refl second
 
 -- the Link Data of ends at one vertex, in order, do not fall
-details_sorted : (v : Vertex) (es : List End) → IsStrictlySortedBy end_cmp es → ((e : End) → Contains es e → e.to ≡ v) → IsSorted nat_cmp (map (λ (e : End). e.detail) es)
+details_sorted : (v : Vertex) (es : List LinkEnd) → IsStrictlySortedBy end_cmp es → ((e : LinkEnd) → Contains es e → e.to ≡ v) → IsSorted nat_cmp (map (λ (e : LinkEnd). e.detail) es)
 details_sorted v es sorted at k d low high =
-    let n = length-map es (λ (e : End). e.detail) in
+    let n = length-map es (λ (e : LinkEnd). e.detail) in
     let lt : k + 1 < length es = omega arith in
-    let none : End = record { to = v; detail = d; metric = 0 } in
-    let a : End = get_or es k none in
-    let b : End = get_or es (k + 1) none in
+    let none : LinkEnd = record { to = v; detail = d; metric = 0 } in
+    let a : LinkEnd = get_or es k none in
+    let b : LinkEnd = get_or es (k + 1) none in
     let same : a.to ≡ b.to = at a (k, omega arith, get_or_default es k a none (omega arith)) ∙ sym (at b (k + 1, lt, get_or_default es (k + 1) b none lt)) in
-    ap (λ (x : ℕ). is_lt (nat_cmp x (get_or (map (λ (e : End). e.detail) es) k d))) (get_or-map (λ (e : End). e.detail) es (k + 1) none d lt)
-    ∙ ap (λ (x : ℕ). is_lt (nat_cmp b.detail x)) (get_or-map (λ (e : End). e.detail) es k none d (omega arith))
+    ap (λ (x : ℕ). is_lt (nat_cmp x (get_or (map (λ (e : LinkEnd). e.detail) es) k d))) (get_or-map (λ (e : LinkEnd). e.detail) es (k + 1) none d lt)
+    ∙ ap (λ (x : ℕ). is_lt (nat_cmp b.detail x)) (get_or-map (λ (e : LinkEnd). e.detail) es k none d (omega arith))
     ∙ not_lesser a b same (Less-from_sorted end_cmp es k (k + 1) none sorted (omega arith) lt)
 
 -- of the ends at a vertex, each Link Data once is all that the vertex has there
-pub details_of_ends : (v : Vertex) (all es : List End) → IsStrictlySortedBy end_cmp es → ((e : End) → Contains es e ↔ (Contains all e × (e.to ≡ v))) → AreDetailsTo v all (dedup eqb (map (λ (e : End). e.detail) es))
+pub details_of_ends : (v : Vertex) (all es : List LinkEnd) → IsStrictlySortedBy end_cmp es → ((e : LinkEnd) → Contains es e ↔ (Contains all e × (e.to ≡ v))) → AreDetailsTo v all (dedup eqb (map (λ (e : LinkEnd). e.detail) es))
 details_of_ends v all es sorted exact = record {
-  ascending = IsStrictlyIncreasing-dedup (map (λ (e : End). e.detail) es) (details_sorted v es sorted (λ e c. ((exact e).0 c).1));
+  ascending = IsStrictlyIncreasing-dedup (map (λ (e : LinkEnd). e.detail) es) (details_sorted v es sorted (λ e c. ((exact e).0 c).1));
   same = λ address. (
-    λ c. let from = mapped_from (λ (e : End). e.detail) es address (Contains-from_dedup eqb (map (λ (e : End). e.detail) es) address c) in
+    λ c. let from = mapped_from (λ (e : LinkEnd). e.detail) es address (Contains-from_dedup eqb (map (λ (e : LinkEnd). e.detail) es) address c) in
         let here = (exact from.0).0 from.1 in
         (from.0, here.0, here.1, from.2),
-    λ end. subst (Contains (dedup eqb (map (λ (e : End). e.detail) es))) end.3
-        (Contains-dedup_nat (map (λ (e : End). e.detail) es) end.0.detail (mapped_element (λ (e : End). e.detail) es end.0 ((exact end.0).1 (end.1, end.2)))),
+    λ end. subst (Contains (dedup eqb (map (λ (e : LinkEnd). e.detail) es))) end.3
+        (Contains-dedup_nat (map (λ (e : LinkEnd). e.detail) es) end.0.detail (mapped_element (λ (e : LinkEnd). e.detail) es end.0 ((exact end.0).1 (end.1, end.2)))),
   );
 }
 
 -- there is one list of them
-pub one_list_of_details : (v : Vertex) (ends : List End) (xs ys : List ℕ) → AreDetailsTo v ends xs → AreDetailsTo v ends ys → xs ≡ ys
+pub one_list_of_details : (v : Vertex) (ends : List LinkEnd) (xs ys : List ℕ) → AreDetailsTo v ends xs → AreDetailsTo v ends ys → xs ≡ ys
 one_list_of_details v ends xs ys p q =
     same_list nat_cmp_total exact_unsigned xs ys (sorted_from_strictly_increasing xs p.ascending) (sorted_from_strictly_increasing ys q.ascending)
     (λ address. (λ c. (q.same address).1 ((p.same address).0 c), λ c. (p.same address).1 ((q.same address).0 c)))
 
 -- the loop that adds each once, one end on
-pub rest_on : (before after : List ℕ) (last : Option ℕ) (es : List End) (i : ℕ) (none : End) (whole : List ℕ) → i < length es
-    → before ++ rest_of last (map (λ (e : End). e.detail) (drop i es)) ≡ whole
+pub rest_on : (before after : List ℕ) (last : Option ℕ) (es : List LinkEnd) (i : ℕ) (none : LinkEnd) (whole : List ℕ) → i < length es
+    → before ++ rest_of last (map (λ (e : LinkEnd). e.detail) (drop i es)) ≡ whole
     → after ≡ cond (is_last last (get_or es i none).detail) before (before ++ (get_or es i none).detail ∷ [])
-    → after ++ rest_of (Some (get_or es i none).detail) (map (λ (e : End). e.detail) (drop (i + 1) es)) ≡ whole
+    → after ++ rest_of (Some (get_or es i none).detail) (map (λ (e : LinkEnd). e.detail) (drop (i + 1) es)) ≡ whole
 rest_on before after last es i none whole lt h is =
-    let next : before ++ rest_of last ((get_or es i none).detail ∷ map (λ (e : End). e.detail) (drop (i + 1) es)) ≡ whole =
-    ap (λ (rest : List End). before ++ rest_of last (map (λ (e : End). e.detail) rest)) (sym (drop_more es i none lt)) ∙ h in
-    ap (λ (xs : List ℕ). xs ++ rest_of (Some (get_or es i none).detail) (map (λ (e : End). e.detail) (drop (i + 1) es))) is
-    ∙ rest_added before last (get_or es i none).detail (map (λ (e : End). e.detail) (drop (i + 1) es)) whole next
+    let next : before ++ rest_of last ((get_or es i none).detail ∷ map (λ (e : LinkEnd). e.detail) (drop (i + 1) es)) ≡ whole =
+    ap (λ (rest : List LinkEnd). before ++ rest_of last (map (λ (e : LinkEnd). e.detail) rest)) (sym (drop_more es i none lt)) ∙ h in
+    ap (λ (xs : List ℕ). xs ++ rest_of (Some (get_or es i none).detail) (map (λ (e : LinkEnd). e.detail) (drop (i + 1) es))) is
+    ∙ rest_added before last (get_or es i none).detail (map (λ (e : LinkEnd). e.detail) (drop (i + 1) es)) whole next

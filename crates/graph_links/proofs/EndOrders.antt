@@ -10,9 +10,9 @@ use Rattle.ospf_types.specs.declared.entry.Vertex.TheVariants.{Router, Network}
 use Rattle.ospf_types.specs.contracts.entry.VertexOrd.TheImpl as vertex_order
 use Rattle.ospf_types.specs.contracts.entry.VertexPartialEq.TheImpl as vertex_equality
 use Rattle.ospf_types.specs.Vertices.{vertex_rank, vertex_cmp}
-use Rattle.graph_links.specs.declared.end.End.{End}
-use Rattle.graph_links.specs.contracts.end.EndOrd.TheImpl as end_order
-use Rattle.graph_links.specs.contracts.end.EndPartialEq.TheImpl as end_equality
+use Rattle.graph_links.specs.declared.link_end.LinkEnd.{LinkEnd}
+use Rattle.graph_links.specs.contracts.link_end.LinkEndOrd.TheImpl as end_order
+use Rattle.graph_links.specs.contracts.link_end.LinkEndPartialEq.TheImpl as end_equality
 use Rattle.graph_links.specs.EndOrder.{end_cmp}
 
 pub vertex_total : IsTotalOrder vertex_cmp
@@ -35,7 +35,7 @@ end_total = then_total (on_total (λ e. e.to) vertex_total) (then_total (on_tota
 
 pub end_exact : CmpEqualImpliesEq end_cmp
 end_exact a b h =
-    ap (λ (p : Vertex × (ℕ × ℕ)). let e : End = record { to = p.0; detail = p.1.0; metric = p.1.1 } in e)
+    ap (λ (p : Vertex × (ℕ × ℕ)). let e : LinkEnd = record { to = p.0; detail = p.1.0; metric = p.1.1 } in e)
     (exact_pairs vertex_cmp (λ (x y : ℕ × ℕ). ordering_then (nat_cmp x.0 y.0) (nat_cmp x.1 y.1)) vertex_exact (exact_pairs nat_cmp nat_cmp exact_unsigned exact_unsigned) (a.to, (a.detail, a.metric)) (b.to, (b.detail, b.metric)) h)
 
 -- the derived order of vertices is the one that the definitions state
@@ -45,7 +45,7 @@ vertex_cmp_at (Router r) (Network n) = refl
 vertex_cmp_at (Network n) (Router r) = refl
 vertex_cmp_at (Network n) (Network m) = refl
 
-end_cmp_at : (a b : End) → end_order.ghosts.cmp a b ≡ end_cmp a b
+end_cmp_at : (a b : LinkEnd) → end_order.ghosts.cmp a b ≡ end_cmp a b
 end_cmp_at a b = ap (λ (o : Ordering). ordering_then o (ordering_then (nat_cmp a.detail b.detail) (nat_cmp a.metric b.metric))) (vertex_cmp_at a.to b.to)
 
 -- the derived order of ends is the one that the definitions state
@@ -60,7 +60,7 @@ vertex_tied (Network n) (Router r) = refl
 vertex_tied (Network n) (Network m) = unsigned_ties n m
 
 -- ends are equal by `==` where they tie
-pub end_tied : (a b : End) → (end_equality.eq-value).it a b ≡ eq_by_cmp end_cmp a b
+pub end_tied : (a b : LinkEnd) → (end_equality.eq-value).it a b ≡ eq_by_cmp end_cmp a b
 end_tied a b =
     both_tied ((vertex_equality.eq-value).it a.to b.to) ((a.detail == b.detail) && (a.metric == b.metric)) (vertex_cmp a.to b.to) (ordering_then (nat_cmp a.detail b.detail) (nat_cmp a.metric b.metric))
     (vertex_tied a.to b.to) (both_tied (a.detail == b.detail) (a.metric == b.metric) (nat_cmp a.detail b.detail) (nat_cmp a.metric b.metric) (unsigned_ties a.detail b.detail) (unsigned_ties a.metric b.metric))

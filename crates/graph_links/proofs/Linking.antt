@@ -8,10 +8,10 @@ use Rattle.std.specs.declared.cmp.Ordering.TheVariants.{Equal}
 use Rattle.ospf_types.specs.declared.entry.Vertex.{Vertex}
 use Rattle.ospf_types.specs.Distances.{Links}
 use Rattle.ospf_types.proofs.Elements.{no_element, first_element}
-use Rattle.graph_links.specs.declared.end.End.{End}
+use Rattle.graph_links.specs.declared.link_end.LinkEnd.{LinkEnd}
 use Rattle.graph_links.specs.declared.link.Link.{Link}
 use Rattle.graph_links.specs.declared.link.Up.{Up}
-use Rattle.graph_links.specs.contracts.end.EndOrd.TheImpl as end_order
+use Rattle.graph_links.specs.contracts.link_end.LinkEndOrd.TheImpl as end_order
 use Rattle.graph_links.specs.EndOrder.{end_cmp}
 use Rattle.graph_links.specs.Pairs.{AreAllAt, Names, IsPairLink}
 use Rattle.graph_links.specs.Sides.{Leading, LinksBy, ends_or, IsOutTo, IsIntoFrom}
@@ -20,8 +20,8 @@ use Rattle.graph_links.proofs.Growing.{front}
 use Rattle.graph_links.proofs.PairAlike.{pair_names, pair_named}
 
 -- an end that a search comes upon is there
-pub searched : (r : Result ℕ ℕ) (ends : List End) (end : End) → IfOk r (HoldsAt (λ y. end_order.ghosts.cmp y end ≡ Equal) ends) → IsSearchInRange r (length ends) → is_ok r ≡ true → Contains ends end
-searched (Ok i) ends end at within ok = (i, within, end_exact (get_or ends i end) end (ap (λ (cmp : End → End → Ordering). cmp (get_or ends i end) end) (sym end_cmp_is) ∙ at end))
+pub searched : (r : Result ℕ ℕ) (ends : List LinkEnd) (end : LinkEnd) → IfOk r (HoldsAt (λ y. end_order.ghosts.cmp y end ≡ Equal) ends) → IsSearchInRange r (length ends) → is_ok r ≡ true → Contains ends end
+searched (Ok i) ends end at within ok = (i, within, end_exact (get_or ends i end) end (ap (λ (cmp : LinkEnd → LinkEnd → Ordering). cmp (get_or ends i end) end) (sym end_cmp_is) ∙ at end))
 searched (Err i) ends end at within ok = absurd cc
 
 -- ---- links from one vertex to another
@@ -30,22 +30,22 @@ searched (Err i) ends end at within ok = absurd cc
 abbrev pub IsListed : Links → Vertex → Vertex → List Link → List Link → Type 0
 IsListed Link_of v w old new = (l : Link) → Contains new l ↔ (Contains old l ⊎ IsOutTo Link_of v l w)
 
-pub as_listed : (root : ℕ) (ups : List Up) (leading : Leading) (v w from to : Vertex) (ends back : List End) (old new : List Link) → from ≡ v → to ≡ w → ends ≡ ends_or (leading v) → back ≡ ends_or (leading w)
+pub as_listed : (root : ℕ) (ups : List Up) (leading : Leading) (v w from to : Vertex) (ends back : List LinkEnd) (old new : List Link) → from ≡ v → to ≡ w → ends ≡ ends_or (leading v) → back ≡ ends_or (leading w)
     → ((l : Link) → Contains new l ↔ (Contains old l ⊎ ((l.from ≡ from) × (l.to ≡ to) × IsPairLink root ups from ends to back l.cost l.label)))
     → IsListed (LinksBy root ups leading) v w old new
 as_listed root ups leading v w from to ends back old new from_is to_is ends_are back_are lists l =
-    let Pair : Vertex → Vertex → List End → List End → Type 0 = λ a b x y. Contains new l ↔ (Contains old l ⊎ ((l.from ≡ a) × (l.to ≡ b) × IsPairLink root ups a x b y l.cost l.label)) in
-    let here : Pair v w (ends_or (leading v)) (ends_or (leading w)) =
-    subst (λ (t : (Vertex × Vertex) × (List End × List End)). Pair t.0.0 t.0.1 t.1.0 t.1.1) (λ i. ((from_is i, to_is i), (ends_are i, back_are i))) (lists l) in
+    let VertexPair : Vertex → Vertex → List LinkEnd → List LinkEnd → Type 0 = λ a b x y. Contains new l ↔ (Contains old l ⊎ ((l.from ≡ a) × (l.to ≡ b) × IsPairLink root ups a x b y l.cost l.label)) in
+    let here : VertexPair v w (ends_or (leading v)) (ends_or (leading w)) =
+    subst (λ (t : (Vertex × Vertex) × (List LinkEnd × List LinkEnd)). VertexPair t.0.0 t.0.1 t.1.0 t.1.1) (λ i. ((from_is i, to_is i), (ends_are i, back_are i))) (lists l) in
     let Link_of : Vertex × Vertex → Type 0 = λ p. LinksBy root ups leading p.0 p.1 l.cost l.label in (
       λ c. ⊎_elim (λ (o : Contains old l). inl o) (λ (n : (l.from ≡ v) × (l.to ≡ w) × LinksBy root ups leading v w l.cost l.label). inr (n.0, n.1, subst Link_of (λ i. (sym n.0 i, sym n.1 i)) n.2)) (here.0 c),
       λ c. here.1 (⊎_elim (λ (o : Contains old l). inl o) (λ (n : IsOutTo (LinksBy root ups leading) v l w). inr (n.0, n.1, subst Link_of (λ i. (n.0 i, n.1 i)) n.2)) c),
     )
 
 -- where the other has no end at the vertex, there are none either way
-module _ (root : ℕ) (ups : List Up) (leading : Leading) (v w : Vertex) (back : List End) (none : back ≡ []) (exact : (e : End) → Contains back e ↔ (Contains (ends_or (leading w)) e × (e.to ≡ v))) where
+module _ (root : ℕ) (ups : List Up) (leading : Leading) (v w : Vertex) (back : List LinkEnd) (none : back ≡ []) (exact : (e : LinkEnd) → Contains back e ↔ (Contains (ends_or (leading w)) e × (e.to ≡ v))) where
   not_named : Names (ends_or (leading w)) v → ⊥
-  not_named named = no_element named.0 (subst (λ (es : List End). Contains es named.0) none ((exact named.0).1 (named.1, named.2)))
+  not_named named = no_element named.0 (subst (λ (es : List LinkEnd). Contains es named.0) none ((exact named.0).1 (named.1, named.2)))
 
   pub none_out : (l : Link) → IsOutTo (LinksBy root ups leading) v l w → ⊥
   none_out l is =
@@ -62,7 +62,7 @@ pub none_listed : (links : List Link) (P : Link → Type 0) → ((l : Link) → 
 none_listed links P none l = (λ c. inl c, λ h. ⊎_elim (λ (c : Contains links l). c) (λ (p : P l). absurd (none l p)) h)
 
 -- ends that are not none are all that there are at the vertex
-pub some_at : (v : Vertex) (all ends : List End) → IsStrictlySortedBy end_cmp ends → ((e : End) → Contains ends e ↔ (Contains all e × (e.to ≡ v))) → ends ≢ [] → AreAllAt v all ends
+pub some_at : (v : Vertex) (all ends : List LinkEnd) → IsStrictlySortedBy end_cmp ends → ((e : LinkEnd) → Contains ends e ↔ (Contains all e × (e.to ≡ v))) → ends ≢ [] → AreAllAt v all ends
 some_at v all [] sorted exact some = absurd (some refl)
 some_at v all (e ∷ es) sorted exact some = record { in_order = sorted; exact = exact; some = (e, first_element e es, ((exact e).0 (first_element e es)).1) }
 

@@ -11,8 +11,8 @@ use Rattle.ospf_types.specs.declared.entry.Vertex.{Vertex}
 use Rattle.ospf_types.specs.Distances.{Links}
 use Rattle.ospf_types.specs.Vertices.{vertex_cmp}
 use Rattle.ospf_types.proofs.Elements.{no_element, mapped_element, mapped_from}
-use Rattle.graph_links.specs.declared.end.End.{End}
-use Rattle.graph_links.specs.declared.fresh.Fresh.{Fresh}
+use Rattle.graph_links.specs.declared.link_end.LinkEnd.{LinkEnd}
+use Rattle.graph_links.specs.declared.row_update.RowUpdate.{RowUpdate}
 use Rattle.graph_links.specs.declared.link.Link.{Link}
 use Rattle.graph_links.specs.declared.link.Up.{Up}
 use Rattle.graph_links.specs.declared.row.Row.{Row}
@@ -33,7 +33,7 @@ none_out root ups leading v none = (
     λ h.
         let link = subst (λ (u : Vertex). LinksBy root ups leading u l.to l.cost l.label) h.0 h.1 in
         let named = pair_names root ups v l.to (ends_or (leading v)) (ends_or (leading l.to)) l.cost l.label link in
-        absurd (no_element named.0 (subst (λ (o : Option (List End)). Contains (ends_or o) named.0) none named.1)),
+        absurd (no_element named.0 (subst (λ (o : Option (List LinkEnd)). Contains (ends_or o) named.0) none named.1)),
   ),
   apart_nil,
 )
@@ -46,7 +46,7 @@ fresh_out : (root : ℕ) (ups : List Up) (leading : Leading) (v : Vertex) (o : O
 fresh_out root ups leading v None is = none_out root ups leading v is
 fresh_out root ups leading v (Some row) is = (is.1.out, is.1.out_once)
 
-module _ (root root_new : ℕ) (ups ups_new : List Up) (rows : RowList) (after : Leading) (touched : List Vertex) (fresh : List Fresh) where
+module _ (root root_new : ℕ) (ups ups_new : List Up) (rows : RowList) (after : Leading) (touched : List Vertex) (fresh : List RowUpdate) where
   abbrev Was : Links
   Was = LinksBy root ups (row_ends rows)
 
@@ -57,8 +57,8 @@ module _ (root root_new : ℕ) (ups ups_new : List Up) (rows : RowList) (after :
     before : (v : Vertex) → AreAllOut Was v (out_of (find vertex_cmp v rows))
     before v = row_out root ups (row_ends rows) v (find vertex_cmp v rows) (right v) (λ none. ap (option_map (λ (row : Row). row.ends.items)) none)
 
-    now : (f : Fresh) → Contains fresh f → AreAllOut Is f.vertex (out_of f.row)
-    now f there = fresh_out root_new ups_new after f.vertex f.row (All-contains (λ (g : Fresh). IsFreshRow after Is g.vertex g.row) fresh f are.rows there)
+    now : (f : RowUpdate) → Contains fresh f → AreAllOut Is f.vertex (out_of f.row)
+    now f there = fresh_out root_new ups_new after f.vertex f.row (All-contains (λ (g : RowUpdate). IsFreshRow after Is g.vertex g.row) fresh f are.rows there)
 
     pub own_links : AreOwn rows fresh
     own_links f there =
@@ -66,11 +66,11 @@ module _ (root root_new : ℕ) (ups ups_new : List Up) (rows : RowList) (after :
         let is = now f there in
         ((was.1, λ l c. ((was.0 l).0 c).0), (is.1, λ l c. ((is.0 l).0 c).0))
 
-    touched_by : (f : Fresh) → Contains fresh f → Contains touched f.vertex
-    touched_by f there = subst (λ (vs : List Vertex). Contains vs f.vertex) are.each (mapped_element (λ (g : Fresh). g.vertex) fresh f there)
+    touched_by : (f : RowUpdate) → Contains fresh f → Contains touched f.vertex
+    touched_by f there = subst (λ (vs : List Vertex). Contains vs f.vertex) are.each (mapped_element (λ (g : RowUpdate). g.vertex) fresh f there)
 
-    fresh_of : (v : Vertex) → Contains touched v → (f : Fresh) × Contains fresh f × (f.vertex ≡ v)
-    fresh_of v there = mapped_from (λ (g : Fresh). g.vertex) fresh v (subst (λ (vs : List Vertex). Contains vs v) (sym are.each) there)
+    fresh_of : (v : Vertex) → Contains touched v → (f : RowUpdate) × Contains fresh f × (f.vertex ≡ v)
+    fresh_of v there = mapped_from (λ (g : RowUpdate). g.vertex) fresh v (subst (λ (vs : List Vertex). Contains vs v) (sym are.each) there)
 
     pub taken_missing : (gone : List Link) → AreOfFresh (IsTaken rows) fresh gone → AreMissing touched Was Is gone
     taken_missing gone of l = (
@@ -94,5 +94,5 @@ module _ (root root_new : ℕ) (ups ups_new : List Up) (rows : RowList) (after :
           (of l).1 (f.0, f.1, (((now f.0 f.1).0 l).1 (sym f.2, h.1), λ c. h.2 (((before f.0.vertex).0 l).0 c).1)),
     )
 
-    pub fresh_once : AllPairs (λ v w. v ≢ w) touched → AllPairs (λ v w. v ≢ w) (map (λ (f : Fresh). f.vertex) fresh)
+    pub fresh_once : AllPairs (λ v w. v ≢ w) touched → AllPairs (λ v w. v ≢ w) (map (λ (f : RowUpdate). f.vertex) fresh)
     fresh_once once = subst (λ (vs : List Vertex). AllPairs (λ v w. v ≢ w) vs) (sym are.each) once

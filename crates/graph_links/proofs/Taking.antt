@@ -9,7 +9,7 @@ use Rattle.std.proofs.lemmas.List.{drop_all, drop_more, take_all, take_more, get
 use Rattle.std.proofs.lemmas.List.Elements.{Contains-append_left, Contains-append_right, Contains-append_cases}
 use Rattle.ospf_types.specs.declared.entry.Vertex.{Vertex}
 use Rattle.ospf_types.proofs.Elements.{no_element, first_or_later, mapped_element}
-use Rattle.graph_links.specs.declared.fresh.Fresh.{Fresh}
+use Rattle.graph_links.specs.declared.row_update.RowUpdate.{RowUpdate}
 use Rattle.graph_links.specs.declared.link.Link.{Link}
 use Rattle.graph_links.specs.Pairs.{AreApart}
 use Rattle.graph_links.specs.Sides.{AreLinksOut, AreOfFresh}
@@ -113,17 +113,17 @@ grown_behind n xs ys old new same apart grown l =
 
 -- ---- lists that grow with each fresh row
 
-abbrev vertex_of : Fresh → Vertex
+abbrev vertex_of : RowUpdate → Vertex
 vertex_of f = f.vertex
 
-module _ (P : Link → Fresh → Type 0) where
+module _ (P : Link → RowUpdate → Type 0) where
   pub of_none : (links : List Link) → links ≡ [] → AreOfFresh P [] links
   of_none links none l = (
     λ c. absurd (no_element l (subst (λ (ls : List Link). Contains ls l) none c)),
     λ h. absurd (no_element h.0 h.1),
   )
 
-  pub of_more : (fresh : List Fresh) (i : ℕ) (d : Fresh) → i < length fresh → (old new : List Link) → AreOfFresh P (take i fresh) old → ((l : Link) → Contains new l ↔ (Contains old l ⊎ P l (get_or fresh i d)))
+  pub of_more : (fresh : List RowUpdate) (i : ℕ) (d : RowUpdate) → i < length fresh → (old new : List Link) → AreOfFresh P (take i fresh) old → ((l : Link) → Contains new l ↔ (Contains old l ⊎ P l (get_or fresh i d)))
       → AreOfFresh P (take (i + 1) fresh) new
   of_more fresh i d lt old new before one l =
       let all = more_at fresh i d lt in (
@@ -135,16 +135,16 @@ module _ (P : Link → Fresh → Type 0) where
             (λ (same : h.0 ≡ get_or fresh i d). (one l).1 (inr (subst (P l) same h.2))) ((all h.0).0 h.1),
       )
 
-  pub of_all : (fresh : List Fresh) (i : ℕ) (links : List Link) → length fresh ≤ i → AreOfFresh P (take i fresh) links → AreOfFresh P fresh links
-  of_all fresh i links past are = subst (λ (fs : List Fresh). AreOfFresh P fs links) (take_all i fresh past) are
+  pub of_all : (fresh : List RowUpdate) (i : ℕ) (links : List Link) → length fresh ≤ i → AreOfFresh P (take i fresh) links → AreOfFresh P fresh links
+  of_all fresh i links past are = subst (λ (fs : List RowUpdate). AreOfFresh P fs links) (take_all i fresh past) are
 
-  mapped_front : (i : ℕ) (fs : List Fresh) → map vertex_of (take i fs) ≡ take i (map vertex_of fs)
+  mapped_front : (i : ℕ) (fs : List RowUpdate) → map vertex_of (take i fs) ≡ take i (map vertex_of fs)
   mapped_front zero fs = refl
   mapped_front (suc i) [] = refl
   mapped_front (suc i) (f ∷ fs) = ap (λ (vs : List Vertex). vertex_of f ∷ vs) (mapped_front i fs)
 
   -- links of the next row were of none before
-  pub kept_apart : (fresh : List Fresh) (at : (l : Link) (f : Fresh) → Contains fresh f → P l f → l.from ≡ f.vertex) (i : ℕ) (d : Fresh) → i < length fresh → Apart (map vertex_of fresh) → (old more : List Link)
+  pub kept_apart : (fresh : List RowUpdate) (at : (l : Link) (f : RowUpdate) → Contains fresh f → P l f → l.from ≡ f.vertex) (i : ℕ) (d : RowUpdate) → i < length fresh → Apart (map vertex_of fresh) → (old more : List Link)
       → AreOfFresh P (take i fresh) old → AreLinksOut (get_or fresh i d).vertex more → AreApart old → AreApart (old ++ more)
   kept_apart fresh at i d lt once old more are out apart =
       let here : get_or (map vertex_of fresh) i d.vertex ≡ (get_or fresh i d).vertex = get_or-map vertex_of fresh i d d.vertex lt in

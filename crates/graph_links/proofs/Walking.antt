@@ -17,7 +17,7 @@ use Rattle.ospf_types.specs.declared.entry.Vertex.{Vertex}
 use Rattle.ospf_types.specs.Distances.{Links}
 use Rattle.ospf_types.specs.Vertices.{vertex_cmp}
 use Rattle.ospf_types.proofs.Elements.{no_element}
-use Rattle.graph_links.specs.declared.end.End.{End}
+use Rattle.graph_links.specs.declared.link_end.LinkEnd.{LinkEnd}
 use Rattle.graph_links.specs.declared.link.Link.{Link}
 use Rattle.graph_links.specs.EndOrder.{end_cmp}
 use Rattle.graph_links.specs.declared.link.Up.{Up}
@@ -28,16 +28,16 @@ use Rattle.graph_links.proofs.EndOrders.{vertex_total, vertex_exact}
 use Rattle.graph_links.proofs.PairAlike.{pair_names, pair_named}
 
 -- the ends before the place are at lesser vertices than those from it on
-abbrev pub IsCut : List End → ℕ → Type 0
-IsCut xs i = (j k : ℕ) (d : End) → j < i → i ≤ k → k < length xs → vertex_cmp (get_or xs j d).to (get_or xs k d).to ≡ Less
+abbrev pub IsCut : List LinkEnd → ℕ → Type 0
+IsCut xs i = (j k : ℕ) (d : LinkEnd) → j < i → i ≤ k → k < length xs → vertex_cmp (get_or xs j d).to (get_or xs k d).to ≡ Less
 
-pub cut_none : (xs : List End) → IsCut xs 0
+pub cut_none : (xs : List LinkEnd) → IsCut xs 0
 cut_none xs j k d lt ge within = absurd (omega (arith, lt))
 
 -- the end at such a place is the first at its vertex
-pub cut_first : (xs : List End) (i : ℕ) (d : End) (v : Vertex) → IsStrictlySortedBy end_cmp xs → IsCut xs i → i < length xs → (get_or xs i d).to ≡ v → IsFirst v xs i
+pub cut_first : (xs : List LinkEnd) (i : ℕ) (d : LinkEnd) (v : Vertex) → IsStrictlySortedBy end_cmp xs → IsCut xs i → i < length xs → (get_or xs i d).to ≡ v → IsFirst v xs i
 cut_first xs i d v sorted cut within at =
-    let here : (e : End) → (get_or xs i e).to ≡ v = λ e. ap (λ (x : End). x.to) (sym (get_or_default xs i d e within)) ∙ at in (
+    let here : (e : LinkEnd) → (get_or xs i e).to ≡ v = λ e. ap (λ (x : LinkEnd). x.to) (sym (get_or_default xs i d e within)) ∙ at in (
       λ k e zero lt. subst (λ (w : Vertex). vertex_cmp (get_or xs k e).to w ≡ Less) (here e) (cut k i e lt (omega arith) within),
       λ k e ge short less.
           ⊎_elim
@@ -67,12 +67,12 @@ below_or_at u v w low high =
     ] refl low
 
 -- and past the ends at a vertex there is such a place
-pub cut_past : (v : Vertex) (xs : List End) (past : ℕ) → IsPast v xs past → IsCut xs past
+pub cut_past : (v : Vertex) (xs : List LinkEnd) (past : ℕ) → IsPast v xs past → IsCut xs past
 cut_past v xs past split j k d lt ge within =
     let high : vertex_cmp v (get_or xs k d).to ≡ Less = vertex_total.antisymm v (get_or xs k d).to ∙ ap ordering_reverse (split.1 k d ge within) in
     below_or_at (get_or xs j d).to v (get_or xs k d).to (split.0 j d (omega arith) lt) high
 
-module _ (v : Vertex) (xs : List End) (first past : ℕ) (d : End) (within : first < length xs) (at : (get_or xs first d).to ≡ v) (short : past ≤ length xs) (low : IsFirst v xs first) (high : IsPast v xs past) where
+module _ (v : Vertex) (xs : List LinkEnd) (first past : ℕ) (d : LinkEnd) (within : first < length xs) (at : (get_or xs first d).to ≡ v) (short : past ≤ length xs) (low : IsFirst v xs first) (high : IsPast v xs past) where
   -- the group is not empty
   pub goes_on : first < past
   goes_on = ⊎_elim (λ (lt : first < past). lt)
@@ -90,7 +90,7 @@ module _ (v : Vertex) (xs : List End) (first past : ℕ) (d : End) (within : fir
   all_at sorted = record {
     in_order = between_in_order v xs first past bounded short low high sorted;
     exact = between_exact v xs first past bounded short low high;
-    some = let e : End = get_or xs first d in (e, (between_exact v xs first past bounded short low high e).1 ((first, within, sym (get_or_default xs first d e within)), at), at);
+    some = let e : LinkEnd = get_or xs first d in (e, (between_exact v xs first past bounded short low high e).1 ((first, within, sym (get_or_default xs first d e within)), at), at);
   }
 
   split_front : take past xs ≡ take first xs ++ slice_range xs first past
@@ -102,23 +102,23 @@ module _ (v : Vertex) (xs : List End) (first past : ℕ) (d : End) (within : fir
   -- one vertex more
   pub names_more : (w : Vertex) → Names (take past xs) w ↔ (Names (take first xs) w ⊎ (w ≡ v))
   names_more w =
-      let group : (e : End) → Contains (slice_range xs first past) e ↔ (Contains xs e × (e.to ≡ v)) = between_exact v xs first past bounded short low high in
-      let e : End = get_or xs first d in
+      let group : (e : LinkEnd) → Contains (slice_range xs first past) e ↔ (Contains xs e × (e.to ≡ v)) = between_exact v xs first past bounded short low high in
+      let e : LinkEnd = get_or xs first d in
       let own : Contains (slice_range xs first past) e = (group e).1 ((first, within, sym (get_or_default xs first d e within)), at) in
-      subst (λ (ys : List End). Names ys w ↔ (Names (take first xs) w ⊎ (w ≡ v))) (sym split_front) (
+      subst (λ (ys : List LinkEnd). Names ys w ↔ (Names (take first xs) w ⊎ (w ≡ v))) (sym split_front) (
         λ n. elim (Contains-append_cases (take first xs) (slice_range xs first past) n.0 n.1) [ inl early ↦ inl (n.0, early, n.2) | inr late ↦ inr (sym n.2 ∙ ((group n.0).0 late).1) ],
         λ h. elim h [ inl n ↦ (n.0, Contains-append_left (take first xs) (slice_range xs first past) n.0 n.1, n.2) | inr same ↦ (e, Contains-append_right (take first xs) (slice_range xs first past) e own, at ∙ sym same) ],
       )
 
 -- no end before the first at a vertex is at it
-pub not_named : (v : Vertex) (xs : List End) (first : ℕ) → first ≤ length xs → IsFirst v xs first → Names (take first xs) v → ⊥
+pub not_named : (v : Vertex) (xs : List LinkEnd) (first : ℕ) → first ≤ length xs → IsFirst v xs first → Names (take first xs) v → ⊥
 not_named v xs first within low named =
     let long : length (take first xs) ≡ first = length-take-le first xs within in
     let k : ℕ = named.1.0 in
     let lt : k < first = omega (arith, named.1.1, long) in
     let less = low.0 k named.0 (omega arith) lt in
     let there : get_or xs k named.0 ≡ named.0 = sym (get_or-take first xs k named.0 lt) ∙ named.1.2 in
-    let tie : vertex_cmp (get_or xs k named.0).to v ≡ Equal = ap (λ (x : End). vertex_cmp x.to v) there ∙ ap (λ (w : Vertex). vertex_cmp w v) named.2 ∙ tied_itself vertex_total v in
+    let tie : vertex_cmp (get_or xs k named.0).to v ≡ Equal = ap (λ (x : LinkEnd). vertex_cmp x.to v) there ∙ ap (λ (w : Vertex). vertex_cmp w v) named.2 ∙ tied_itself vertex_total v in
     absurd cc
 
 -- ---- the links so far
@@ -131,18 +131,18 @@ abbrev pub IsLinkInto : Links → Vertex → Link → Type 0
 IsLinkInto Link_of v l = (l.to ≡ v) × Link_of l.from l.to l.cost l.label
 
 -- a vertex names those that it has links to, and those that have links to it
-module _ (root : ℕ) (ups : List Up) (leading : Leading) (v : Vertex) (ends : List End) (are : ends ≡ ends_or (leading v)) where
+module _ (root : ℕ) (ups : List Up) (leading : Leading) (v : Vertex) (ends : List LinkEnd) (are : ends ≡ ends_or (leading v)) where
   pub out_named : (l : Link) → IsLinkOut (LinksBy root ups leading) v l → Names ends l.to
   out_named l is =
       let link : LinksBy root ups leading v l.to l.cost l.label = subst (λ (u : Vertex). LinksBy root ups leading u l.to l.cost l.label) is.0 is.1 in
-      subst (λ (es : List End). Names es l.to) (sym are) (pair_names root ups v l.to (ends_or (leading v)) (ends_or (leading l.to)) l.cost l.label link)
+      subst (λ (es : List LinkEnd). Names es l.to) (sym are) (pair_names root ups v l.to (ends_or (leading v)) (ends_or (leading l.to)) l.cost l.label link)
 
   pub into_named : (l : Link) → IsLinkInto (LinksBy root ups leading) v l → Names ends l.from
   into_named l is =
       let link : LinksBy root ups leading l.from v l.cost l.label = subst (λ (u : Vertex). LinksBy root ups leading l.from u l.cost l.label) is.0 is.1 in
-      subst (λ (es : List End). Names es l.from) (sym are) (pair_named root ups l.from v (ends_or (leading l.from)) (ends_or (leading v)) l.cost l.label link)
+      subst (λ (es : List LinkEnd). Names es l.from) (sym are) (pair_named root ups l.from v (ends_or (leading l.from)) (ends_or (leading v)) l.cost l.label link)
 
-module _ (Is : Link → Type 0) (at : Link → Vertex) (xs : List End) where
+module _ (Is : Link → Type 0) (at : Link → Vertex) (xs : List LinkEnd) where
   -- just the links to or from the vertices that the ends up to a place are at
   abbrev pub AreWalked : ℕ → List Link → Type 0
   AreWalked i links = (l : Link) → Contains links l ↔ (Is l × Names (take i xs) (at l))
@@ -167,7 +167,7 @@ module _ (Is : Link → Type 0) (at : Link → Vertex) (xs : List End) where
   walked_all i links past named are l =
       let all : take i xs ≡ xs = take_all i xs past in (
         λ c. ((are l).0 c).0,
-        λ h. (are l).1 (h, subst (λ (ys : List End). Names ys (at l)) (sym all) (named l h)),
+        λ h. (are l).1 (h, subst (λ (ys : List LinkEnd). Names ys (at l)) (sym all) (named l h)),
       )
 
   -- none of them goes to the next vertex

@@ -20,12 +20,12 @@ use Rattle.ospf_types.specs.declared.entry.Vertex.TheVariants.{Router}
 use Rattle.ospf_types.specs.declared.label.Label.{Label}
 use Rattle.ospf_types.specs.declared.label.Label.TheVariants.{Over, At, Plain}
 use Rattle.ospf_types.proofs.Elements.{first_element, first_or_later, mapped_element, mapped_from, no_element}
-use Rattle.graph_links.specs.contracts.ways.WayOrd.TheImpl as way_order
-use Rattle.graph_links.specs.contracts.ways.WayPartialEq.TheImpl as way_equality
-use Rattle.graph_links.specs.declared.end.End.{End}
+use Rattle.graph_links.specs.contracts.parallel_links.ParallelLinkOrd.TheImpl as way_order
+use Rattle.graph_links.specs.contracts.parallel_links.ParallelLinkPartialEq.TheImpl as way_equality
+use Rattle.graph_links.specs.declared.link_end.LinkEnd.{LinkEnd}
 use Rattle.graph_links.specs.declared.link.Link.{Link}
 use Rattle.graph_links.specs.declared.link.Up.{Up}
-use Rattle.graph_links.specs.declared.ways.Way.{Way}
+use Rattle.graph_links.specs.declared.parallel_links.ParallelLink.{ParallelLink}
 use Rattle.graph_links.specs.Pairs.{Adds, AreApart, AreCheap, IsOutLabel, IsWay, IsWayOver, KeepsApart, Names, label_over, link_by, plain_ways}
 use Rattle.graph_links.proofs.Adding.{AreWaysBy, adds_list}
 use Rattle.graph_links.proofs.Apart.{Apart, apart_append, apart_cons, apart_mapped, apart_nil, apart_strict}
@@ -33,7 +33,7 @@ use Rattle.graph_links.proofs.Pairing.{IsFromTo}
 
 -- ---- the order of ways
 
-abbrev way_cmp : Way → Way → Ordering
+abbrev way_cmp : ParallelLink → ParallelLink → Ordering
 way_cmp a b = ordering_then (nat_cmp a.cost b.cost) (option_cmp nat_cmp a.interface b.interface)
 
 way_cmp_is : way_order.ghosts.cmp ≡ way_cmp
@@ -50,7 +50,7 @@ exact_options (Some a) (Some b) h = ap Some (exact_unsigned a b h)
 
 way_exact : CmpEqualImpliesEq way_cmp
 way_exact a b h =
-    ap (λ (p : ℕ × Option ℕ). let w : Way = record { cost = p.0; interface = p.1 } in w)
+    ap (λ (p : ℕ × Option ℕ). let w : ParallelLink = record { cost = p.0; interface = p.1 } in w)
     (exact_pairs nat_cmp (option_cmp nat_cmp) exact_unsigned exact_options (a.cost, a.interface) (b.cost, b.interface) h)
 
 options_tied : (a b : Option ℕ) → option_eq (λ x y. x == y) a b ≡ is_eq (option_cmp nat_cmp a b)
@@ -59,7 +59,7 @@ options_tied None (Some b) = refl
 options_tied (Some a) None = refl
 options_tied (Some a) (Some b) = unsigned_ties a b
 
-way_tied : (a b : Way) → (way_equality.eq-value).it a b ≡ eq_by_cmp way_cmp a b
+way_tied : (a b : ParallelLink) → (way_equality.eq-value).it a b ≡ eq_by_cmp way_cmp a b
 way_tied a b =
     both_tied (a.cost == b.cost) (option_eq (λ x y. x == y) a.interface b.interface) (nat_cmp a.cost b.cost) (option_cmp nat_cmp a.interface b.interface)
     (unsigned_ties a.cost b.cost) (options_tied a.interface b.interface)
@@ -72,22 +72,22 @@ pub in_place : {X : Type 0} (xs ws : List X) → length ws ≡ length xs → ref
 in_place xs ws long =
     ap (λ ys. take (length xs) (ws ++ ys)) (drop_all (length ws) xs (omega (arith, long))) ∙ ap (take (length xs)) (append-nil ws) ∙ take_all (length xs) ws (omega (arith, long))
 
-module _ (all sorted kept : List Way) (moved : IsPermutation all sorted) (in_order : IsSorted way_order.ghosts.cmp sorted) (each_once : kept ≡ dedup (way_equality.eq-value).it sorted) where
+module _ (all sorted kept : List ParallelLink) (moved : IsPermutation all sorted) (in_order : IsSorted way_order.ghosts.cmp sorted) (each_once : kept ≡ dedup (way_equality.eq-value).it sorted) where
   kept_is : kept ≡ dedup (eq_by_cmp way_cmp) sorted
-  kept_is = each_once ∙ ap (λ (same : Way → Way → Bool). dedup same sorted) way_tied_is
+  kept_is = each_once ∙ ap (λ (same : ParallelLink → ParallelLink → Bool). dedup same sorted) way_tied_is
 
   -- each is kept once
   pub ways_once : Apart kept
-  ways_once = apart_strict way_total kept (subst (IsStrictlySortedBy way_cmp) (sym kept_is) (IsStrictlySortedBy-dedup way_total (λ v w. refl) sorted (subst (λ (c : Way → Way → Ordering). IsSorted c sorted) way_cmp_is in_order)))
+  ways_once = apart_strict way_total kept (subst (IsStrictlySortedBy way_cmp) (sym kept_is) (IsStrictlySortedBy-dedup way_total (λ v w. refl) sorted (subst (λ (c : ParallelLink → ParallelLink → Ordering). IsSorted c sorted) way_cmp_is in_order)))
 
-  same_ways : (w : Way) → Contains kept w ↔ Contains all w
+  same_ways : (w : ParallelLink) → Contains kept w ↔ Contains all w
   same_ways w = (
-    λ c. Contains-permutation sorted all w (IsPermutation-sym all sorted moved) (Contains-from_dedup (eq_by_cmp way_cmp) sorted w (subst (λ (ws : List Way). Contains ws w) kept_is c)),
-    λ c. subst (λ (ws : List Way). Contains ws w) (sym kept_is) (Contains-dedup (eq_by_cmp_equiv way_total) (tells_apart way_exact) sorted w (Contains-permutation all sorted w moved c)),
+    λ c. Contains-permutation sorted all w (IsPermutation-sym all sorted moved) (Contains-from_dedup (eq_by_cmp way_cmp) sorted w (subst (λ (ws : List ParallelLink). Contains ws w) kept_is c)),
+    λ c. subst (λ (ws : List ParallelLink). Contains ws w) (sym kept_is) (Contains-dedup (eq_by_cmp_equiv way_total) (tells_apart way_exact) sorted w (Contains-permutation all sorted w moved c)),
   )
 
   -- and they are the ways that there were
-  pub ways_kept : (root router : ℕ) (ups : List Up) (ends : List End) → AreWaysBy root ups router ends all → AreWaysBy root ups router ends kept
+  pub ways_kept : (root router : ℕ) (ups : List Up) (ends : List LinkEnd) → AreWaysBy root ups router ends all → AreWaysBy root ups router ends kept
   ways_kept root router ups ends are w = (λ c. (are w).0 ((same_ways w).0 c), λ h. (same_ways w).1 ((are w).1 h))
 
 -- ---- the links by ways
@@ -106,16 +106,16 @@ label_back root router detail ups (Over id) is = refl
 label_back root router detail ups (At addresses) is = absurd is
 label_back root router detail ups Plain is = refl
 
-abbrev way_of : Link → Way
+abbrev way_of : Link → ParallelLink
 way_of l = record { cost = l.cost; interface = interface_of l.label }
 
-way_back : (from to : Vertex) (w : Way) → way_of (link_by from to w) ≡ w
+way_back : (from to : Vertex) (w : ParallelLink) → way_of (link_by from to w) ≡ w
 way_back from to w = λ i. record { cost = w.cost; interface = interface_back w.interface i }
 
-link_one : (from to : Vertex) (v w : Way) → link_by from to v ≡ link_by from to w → v ≡ w
+link_one : (from to : Vertex) (v w : ParallelLink) → link_by from to v ≡ link_by from to w → v ≡ w
 link_one from to v w same = sym (way_back from to v) ∙ ap way_of same ∙ way_back from to w
 
-module _ (root router : ℕ) (ups : List Up) (to : Vertex) (ends back here : List End) (ways : List Way) (exact : (e : End) → Contains here e ↔ (Contains ends e × (e.to ≡ to))) (are : AreWaysBy root ups router here ways) where
+module _ (root router : ℕ) (ups : List Up) (to : Vertex) (ends back here : List LinkEnd) (ways : List ParallelLink) (exact : (e : LinkEnd) → Contains here e ↔ (Contains ends e × (e.to ≡ to))) (are : AreWaysBy root ups router here ways) where
   by_ways : Names back (Router router) → (l : Link) → Contains (map (link_by (Router router) to) ways) l ↔ IsFromTo root ups (Router router) ends to back l
   by_ways named l = (
     λ c.
@@ -139,7 +139,7 @@ module _ (root router : ℕ) (ups : List Up) (to : Vertex) (ends back here : Lis
         subst (λ (ls : List Link). Adds old ls (IsFromTo root ups from ends to back)) (sym listed) (adds_list old (map (link_by from to) ways) (IsFromTo root ups from ends to back) links)
 
 -- none of which is there twice
-pub apart_ways : (from to : Vertex) (ways : List Way) (old new : List Link) → new ≡ old ++ map (link_by from to) ways → Apart ways → KeepsApart from to old new
+pub apart_ways : (from to : Vertex) (ways : List ParallelLink) (old new : List Link) → new ≡ old ++ map (link_by from to) ways → Apart ways → KeepsApart from to old new
 apart_ways from to ways old new listed once apart none =
     subst AreApart (sym listed)
     (apart_append old (map (link_by from to) ways) apart (apart_mapped (link_by from to) (link_one from to) ways once)
@@ -147,22 +147,22 @@ apart_ways from to ways old new listed once apart none =
 
 -- ---- the way over one end, elsewhere than at the root
 
-pub one_end : (es : List End) (d : End) → 1 ≤ length es → length es < 2 → get_or es 0 d ∷ [] ≡ es
+pub one_end : (es : List LinkEnd) (d : LinkEnd) → 1 ≤ length es → length es < 2 → get_or es 0 d ∷ [] ≡ es
 one_end [] d some few = absurd (omega (arith, some))
 one_end (e ∷ []) d some few = refl
 one_end (e ∷ f ∷ es) d some few = absurd (omega (arith, few))
 
-module _ (root router : ℕ) (ups : List Up) (e : End) (elsewhere : router ≢ root) where
+module _ (root router : ℕ) (ups : List Up) (e : LinkEnd) (elsewhere : router ≢ root) where
   plain_label : (o : Option ℕ) → IsOutLabel root ups router e.detail (label_over o) → o ≡ None
   plain_label None is = refl
   plain_label (Some id) is = absurd (elsewhere is.0)
 
   pub plain_are : AreWaysBy root ups router (e ∷ []) (plain_ways e)
   plain_are w =
-      let way : Way = record { cost = e.metric; interface = None } in
+      let way : ParallelLink = record { cost = e.metric; interface = None } in
       let one : IsWayOver root ups router (e ∷ []) w → (0 < e.metric) × (way ≡ w) =
       λ h.
-      let is : IsWay root ups router e w = elim (first_or_later e h.0 [] h.1) [ inl same ↦ subst (λ (x : End). IsWay root ups router x w) same h.2 | inr c ↦ absurd (no_element h.0 c) ] in
+      let is : IsWay root ups router e w = elim (first_or_later e h.0 [] h.1) [ inl same ↦ subst (λ (x : LinkEnd). IsWay root ups router x w) same h.2 | inr c ↦ absurd (no_element h.0 c) ] in
       let cost : e.metric ≡ w.cost = is.0 in
       let some : 0 < w.cost = is.1 in
       (omega (arith, cost, some), λ i. record { cost = cost i; interface = sym (plain_label w.interface is.2) i }) in
@@ -177,24 +177,24 @@ module _ (root router : ℕ) (ups : List Up) (e : End) (elsewhere : router ≢ r
         )
       ] refl
 
-pub plain_once : (e : End) → Apart (plain_ways e)
+pub plain_once : (e : LinkEnd) → Apart (plain_ways e)
 plain_once e =
-    let way : Way = record { cost = e.metric; interface = None } in
+    let way : ParallelLink = record { cost = e.metric; interface = None } in
     elim (e.metric == 0) as (λ b. Apart (cond b [] (way ∷ []))) [ true ↦ apart_nil | false ↦ apart_cons way [] (no_element way) apart_nil ]
 
 -- ---- links listed one by one
 
 -- the loop over ways, one on
-pub links_on : (from to : Vertex) (ways : List Way) (i : ℕ) (d : Way) (old now new : List Link) (l : Link) → i < length ways
+pub links_on : (from to : Vertex) (ways : List ParallelLink) (i : ℕ) (d : ParallelLink) (old now new : List Link) (l : Link) → i < length ways
     → now ≡ old ++ map (link_by from to) (take i ways) → new ≡ now ++ l ∷ [] → l ≡ link_by from to (get_or ways i d) → new ≡ old ++ map (link_by from to) (take (i + 1) ways)
 links_on from to ways i d old now new l lt before listed is =
     let f = link_by from to in
     listed ∙ (λ k. before k ++ is k ∷ []) ∙ append_assoc old (map f (take i ways)) (f (get_or ways i d) ∷ [])
-    ∙ ap (λ (ls : List Link). old ++ ls) (sym (map-append f (take i ways) (get_or ways i d ∷ [])) ∙ ap (λ (ws : List Way). map f ws) (sym (take_more ways i d lt)))
+    ∙ ap (λ (ls : List Link). old ++ ls) (sym (map-append f (take i ways) (get_or ways i d ∷ [])) ∙ ap (λ (ws : List ParallelLink). map f ws) (sym (take_more ways i d lt)))
 
 -- and at its end
-pub links_all : (from to : Vertex) (ways : List Way) (i : ℕ) (old now : List Link) → length ways ≤ i → now ≡ old ++ map (link_by from to) (take i ways) → now ≡ old ++ map (link_by from to) ways
-links_all from to ways i old now le before = before ∙ ap (λ (ws : List Way). old ++ map (link_by from to) ws) (take_all i ways le)
+pub links_all : (from to : Vertex) (ways : List ParallelLink) (i : ℕ) (old now : List Link) → length ways ≤ i → now ≡ old ++ map (link_by from to) (take i ways) → now ≡ old ++ map (link_by from to) ways
+links_all from to ways i old now le before = before ∙ ap (λ (ws : List ParallelLink). old ++ map (link_by from to) ws) (take_all i ways le)
 
 -- a link more leaves metrics of 16 bits
 pub cheap_on : (now new : List Link) (l : Link) → new ≡ now ++ l ∷ [] → AreCheap now → l.cost < 65536 → AreCheap new

@@ -8,25 +8,25 @@ use Rattle.ospf_types.specs.declared.label.Label.{Label}
 use Rattle.ospf_types.specs.declared.label.Label.TheVariants.{Over, At, Plain}
 use Rattle.graph_links.specs.declared.link.Link.{Link}
 use Rattle.graph_links.specs.declared.link.Up.{Up}
-use Rattle.graph_links.specs.declared.end.End.{End}
-use Rattle.graph_links.specs.declared.pair.Local.{Local}
-use Rattle.graph_links.specs.declared.pair.Pair.{Pair}
-use Rattle.graph_links.specs.declared.ways.Way.{Way}
+use Rattle.graph_links.specs.declared.link_end.LinkEnd.{LinkEnd}
+use Rattle.graph_links.specs.declared.vertex_pair.RootInterfaces.{RootInterfaces}
+use Rattle.graph_links.specs.declared.vertex_pair.VertexPair.{VertexPair}
+use Rattle.graph_links.specs.declared.parallel_links.ParallelLink.{ParallelLink}
 use Rattle.graph_links.specs.EndOrder.{AreEndsAt, end_cmp}
 
 -- one of the ends is at the vertex
-abbrev pub Names : List End → Vertex → Type 0
-Names ends v = (e : End) × Contains ends e × (e.to ≡ v)
+abbrev pub Names : List LinkEnd → Vertex → Type 0
+Names ends v = (e : LinkEnd) × Contains ends e × (e.to ≡ v)
 
 -- all the ends of a list that are at the vertex, of which there is one at least
-pub record AreAllAt (v : Vertex) (all : List End) (ends : List End) : Type 0 where
+pub record AreAllAt (v : Vertex) (all : List LinkEnd) (ends : List LinkEnd) : Type 0 where
   pub in_order : IsStrictlySortedBy end_cmp ends
   pub exact : AreEndsAt v all ends
   pub some : Names ends v
 
 -- the two lists have the same ends at the vertex
-abbrev pub AreAlikeAt : Vertex → List End → List End → Type 0
-AreAlikeAt v ends others = (e : End) → e.to ≡ v → Contains ends e ↔ Contains others e
+abbrev pub AreAlikeAt : Vertex → List LinkEnd → List LinkEnd → Type 0
+AreAlikeAt v ends others = (e : LinkEnd) → e.to ≡ v → Contains ends e ↔ Contains others e
 
 -- the label of a link out of a router with this Link Data
 abbrev pub IsOutLabel : ℕ → List Up → ℕ → ℕ → Label → Type 0
@@ -35,9 +35,9 @@ IsOutLabel root ups from detail Plain = from ≢ root
 IsOutLabel root ups from detail (At addresses) = ⊥
 
 -- the addresses of a router on a network, by what the router leads to, ascending and each once
-pub record AreDetailsTo (v : Vertex) (ends : List End) (addresses : List ℕ) : Type 0 where
+pub record AreDetailsTo (v : Vertex) (ends : List LinkEnd) (addresses : List ℕ) : Type 0 where
   pub ascending : IsStrictlyIncreasing addresses
-  pub same : (address : ℕ) → Contains addresses address ↔ ((e : End) × Contains ends e × (e.to ≡ v) × (e.detail ≡ address))
+  pub same : (address : ℕ) → Contains addresses address ↔ ((e : LinkEnd) × Contains ends e × (e.to ≡ v) × (e.detail ≡ address))
 
 -- the label of a link of a router: over this interface at the root, plain elsewhere
 abbrev pub label_over : Option ℕ → Label
@@ -45,42 +45,42 @@ label_over None = Plain
 label_over (Some id) = Over id
 
 -- the link of a router to a vertex by this way
-abbrev pub link_by : Vertex → Vertex → Way → Link
+abbrev pub link_by : Vertex → Vertex → ParallelLink → Link
 link_by from to way = record { from = from; to = to; cost = way.cost; label = label_over way.interface }
 
 -- a way of a router over one of its ends, whether that leads back or not
-abbrev pub IsWay : ℕ → List Up → ℕ → End → Way → Type 0
+abbrev pub IsWay : ℕ → List Up → ℕ → LinkEnd → ParallelLink → Type 0
 IsWay root ups router e way = (e.metric ≡ way.cost) × (0 < way.cost) × IsOutLabel root ups router e.detail (label_over way.interface)
 
 -- a way over one of some ends
-abbrev pub IsWayOver : ℕ → List Up → ℕ → List End → Way → Type 0
-IsWayOver root ups router ends way = (e : End) × Contains ends e × IsWay root ups router e way
+abbrev pub IsWayOver : ℕ → List Up → ℕ → List LinkEnd → ParallelLink → Type 0
+IsWayOver root ups router ends way = (e : LinkEnd) × Contains ends e × IsWay root ups router e way
 
 -- the ways of a router over some of its ends
-abbrev pub AreWays : Local → ℕ → List End → List Way → Type 0
-AreWays local router ends ways = (w : Way) → Contains ways w ↔ IsWayOver local.root local.interfaces.now router ends w
+abbrev pub AreWays : RootInterfaces → ℕ → List LinkEnd → List ParallelLink → Type 0
+AreWays local router ends ways = (w : ParallelLink) → Contains ways w ↔ IsWayOver local.root local.interfaces.now router ends w
 
 -- the links of a router by these ways are added, behind those that there were
-abbrev pub AddsBy : Pair → List Way → List Link → List Link → Type 0
+abbrev pub AddsBy : VertexPair → List ParallelLink → List Link → List Link → Type 0
 AddsBy pair ways old new = new ≡ old ++ map (link_by pair.from.vertex pair.to.vertex) ways
 
 -- a link by each way of the router over its ends is added, behind those that there were
-pub record AddsOver (pair : Pair) (router : ℕ) (old new : List Link) : Type 0 where
-  pub ways : List Way
+pub record AddsOver (pair : VertexPair) (router : ℕ) (old new : List Link) : Type 0 where
+  pub ways : List ParallelLink
   pub exact : AreWays pair.local router pair.from.ends.now ways
   pub each_once : AllPairs (λ v w. v ≢ w) ways
   pub added : AddsBy pair ways old new
 
 -- the way of a router other than the root over one of its ends, if the metric is not 0
-abbrev pub plain_ways : End → List Way
+abbrev pub plain_ways : LinkEnd → List ParallelLink
 plain_ways e = if e.metric == 0 then [] else record { cost = e.metric; interface = None } ∷ []
 
 -- the link over the one end of a router other than the root is added, if the metric is not 0
-abbrev pub AddsPlain : Pair → End → List Link → List Link → Type 0
+abbrev pub AddsPlain : VertexPair → LinkEnd → List Link → List Link → Type 0
 AddsPlain pair e old new = AddsBy pair (plain_ways e) old new
 
 -- the link of a network to a vertex that leads to these ends, whether the network leads back or not
-abbrev pub IsOnto : Vertex → Vertex → List End → Link → Type 0
+abbrev pub IsOnto : Vertex → Vertex → List LinkEnd → Link → Type 0
 IsOnto network to back l =
     (l.from ≡ network) × (l.to ≡ to) × ((router : ℕ) × (to ≡ Router router)) × (l.cost ≡ 0)
     × ((addresses : List ℕ) × AreDetailsTo network back addresses × (l.label ≡ At addresses))
@@ -90,16 +90,16 @@ abbrev pub Adds : {X : Type 0} → List X → List X → (X → Type 0) → Type
 Adds {X} old new Is = (x : X) → Contains new x ↔ (Contains old x ⊎ Is x)
 
 -- the ways of a router over the end are added
-abbrev pub AddsWays : Local → ℕ → End → List Way → List Way → Type 0
+abbrev pub AddsWays : RootInterfaces → ℕ → LinkEnd → List ParallelLink → List ParallelLink → Type 0
 AddsWays local router e old new = Adds old new (IsWay local.root local.interfaces.now router e)
 
 -- the ways of the root over the end and these interfaces are added
-abbrev pub AddsRootWays : ℕ → List Up → End → List Way → List Way → Type 0
+abbrev pub AddsRootWays : ℕ → List Up → LinkEnd → List ParallelLink → List ParallelLink → Type 0
 AddsRootWays root ups e old new = Adds old new (IsWay root ups root e)
 
 -- the link of a network is added, if the other vertex is a router
-abbrev pub AddsOnto : Pair → List Link → List Link → Type 0
-AddsOnto pair old new = (back : List End) → AreAllAt pair.from.vertex back pair.to.ends.now → Adds old new (IsOnto pair.from.vertex pair.to.vertex back)
+abbrev pub AddsOnto : VertexPair → List Link → List Link → Type 0
+AddsOnto pair old new = (back : List LinkEnd) → AreAllAt pair.from.vertex back pair.to.ends.now → Adds old new (IsOnto pair.from.vertex pair.to.vertex back)
 
 -- no link stands twice
 abbrev pub AreApart : List Link → Type 0
@@ -114,8 +114,8 @@ abbrev pub KeepsApartFrom : Vertex → List Link → List Link → Type 0
 KeepsApartFrom from old new = AreApart old → ((l : Link) → Contains old l → l.from ≡ from → ⊥) → AreApart new
 
 -- the Link Data of the ends, without what equals the one before it
-abbrev pub details_of : List End → List ℕ
-details_of ends = dedup eqb (map (λ (e : End). e.detail) ends)
+abbrev pub details_of : List LinkEnd → List ℕ
+details_of ends = dedup eqb (map (λ (e : LinkEnd). e.detail) ends)
 
 -- whether the number that came last is this one
 abbrev pub is_last : Option ℕ → ℕ → Bool
@@ -127,27 +127,27 @@ abbrev pub AddsOnce : Option ℕ → ℕ → List ℕ → List ℕ → Type 0
 AddsOnce last n old new = new ≡ (if is_last last n then old else old ++ n ∷ [])
 
 -- A link from a vertex to another, where these are the ends of the two. Each names the other.
-abbrev pub IsPairLink : ℕ → List Up → Vertex → List End → Vertex → List End → ℕ → Label → Type 0
+abbrev pub IsPairLink : ℕ → List Up → Vertex → List LinkEnd → Vertex → List LinkEnd → ℕ → Label → Type 0
 IsPairLink root ups (Router from) ends to back cost label =
-    (e : End) × Contains ends e × (e.to ≡ to) × (e.metric ≡ cost) × (0 < cost) × IsOutLabel root ups from e.detail label × Names back (Router from)
+    (e : LinkEnd) × Contains ends e × (e.to ≡ to) × (e.metric ≡ cost) × (0 < cost) × IsOutLabel root ups from e.detail label × Names back (Router from)
 IsPairLink root ups (Network from) ends (Router to) back cost label =
     Names ends (Router to) × (cost ≡ 0) × Names back (Network from) × ((addresses : List ℕ) × AreDetailsTo (Network from) back addresses × (label ≡ At addresses))
 IsPairLink root ups (Network from) ends (Network to) back cost label = ⊥
 
 -- the pair seen from the other vertex
-abbrev pub turned : Pair → Pair
+abbrev pub turned : VertexPair → VertexPair
 turned pair = record { local = pair.local; from = pair.to; to = pair.from }
 
 -- the links from the one vertex to the other are added, where the two have these ends at each other
-abbrev pub AddsBetween : Pair → List Link → List Link → Type 0
+abbrev pub AddsBetween : VertexPair → List Link → List Link → Type 0
 AddsBetween pair old new =
     let from : Vertex = pair.from.vertex in
     let to : Vertex = pair.to.vertex in
-    (ends back : List End) → AreAllAt to ends pair.from.ends.now → AreAllAt from back pair.to.ends.now
+    (ends back : List LinkEnd) → AreAllAt to ends pair.from.ends.now → AreAllAt from back pair.to.ends.now
     → Adds old new (λ (l : Link). (l.from ≡ from) × (l.to ≡ to) × IsPairLink pair.local.root pair.local.interfaces.now from ends to back l.cost l.label)
 
 -- what the links out of the vertex rest on beside LSAs is the same
-abbrev pub IsSameLocal : Local → Local → Vertex → Type 0
+abbrev pub IsSameLocal : RootInterfaces → RootInterfaces → Vertex → Type 0
 IsSameLocal one other v = (one.root ≡ other.root) × ((v ≢ Router one.root) ⊎ (one.interfaces.now ≡ other.interfaces.now))
 
 -- metrics of links have 16 bits

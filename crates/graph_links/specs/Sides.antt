@@ -7,43 +7,43 @@ use Rattle.std.specs.List.Sorted.{IsStrictlySortedBy}
 use Rattle.ospf_types.specs.declared.entry.Vertex.{Vertex}
 use Rattle.ospf_types.specs.Distances.{Links}
 use Rattle.ospf_types.specs.Vertices.{vertex_cmp}
-use Rattle.graph_links.specs.declared.end.End.{End}
-use Rattle.graph_links.specs.declared.fresh.Fresh.{Fresh}
+use Rattle.graph_links.specs.declared.link_end.LinkEnd.{LinkEnd}
+use Rattle.graph_links.specs.declared.row_update.RowUpdate.{RowUpdate}
 use Rattle.graph_links.specs.declared.link.Link.{Link}
 use Rattle.graph_links.specs.declared.link.Up.{Up}
 use Rattle.graph_links.specs.declared.row.Row.{Row}
-use Rattle.graph_links.specs.declared.side.Side.{Side}
+use Rattle.graph_links.specs.declared.graph_view.GraphView.{GraphView}
 use Rattle.graph_links.specs.EndOrder.{end_cmp}
 use Rattle.graph_links.specs.Differing.{IsOnlyIn}
 use Rattle.graph_links.specs.Pairs.{Adds, AreApart, AreCheap, IsPairLink}
 
 -- where each vertex leads, if it is there
 abbrev pub Leading : Type 0
-Leading = Vertex → Option (List End)
+Leading = Vertex → Option (List LinkEnd)
 
 abbrev pub RowList : Type 0
 RowList = List (Vertex × Row)
 
 abbrev pub StagedList : Type 0
-StagedList = List (Vertex × Option (Vec End))
+StagedList = List (Vertex × Option (Vec LinkEnd))
 
 -- where the vertex of a row leads, none if there is no row
-abbrev pub ends_of_row : Option Row → Option (List End)
+abbrev pub ends_of_row : Option Row → Option (List LinkEnd)
 ends_of_row row = option_map (λ (r : Row). r.ends.items) row
 
 abbrev pub row_ends : RowList → Leading
 row_ends rows v = ends_of_row (find vertex_cmp v rows)
 
 -- what is staged of a vertex stands for what was before
-abbrev pub staged_or : Option (Option (Vec End)) → Option (List End) → Option (List End)
+abbrev pub staged_or : Option (Option (Vec LinkEnd)) → Option (List LinkEnd) → Option (List LinkEnd)
 staged_or None before = before
-staged_or (Some given) before = option_map (λ (ends : Vec End). ends.items) given
+staged_or (Some given) before = option_map (λ (ends : Vec LinkEnd). ends.items) given
 
 abbrev pub ends_after : RowList → StagedList → Leading
 ends_after rows staged v = staged_or (find vertex_cmp v staged) (row_ends rows v)
 
 -- no ends if the vertex is not there
-abbrev pub ends_or : Option (List End) → List End
+abbrev pub ends_or : Option (List LinkEnd) → List LinkEnd
 ends_or None = []
 ends_or (Some ends) = ends
 
@@ -51,21 +51,21 @@ ends_or (Some ends) = ends
 abbrev pub LinksBy : ℕ → List Up → Leading → Links
 LinksBy root ups leading v w cost label = IsPairLink root ups v (ends_or (leading v)) w (ends_or (leading w)) cost label
 
-abbrev pub ends_in : Side → Leading
+abbrev pub ends_in : GraphView → Leading
 ends_in side = ends_after side.rows.now.entries side.staged.now.entries
 
 -- all that the vertex leads to, nothing if it is not there
-abbrev pub all_ends : Side → Vertex → List End
+abbrev pub all_ends : GraphView → Vertex → List LinkEnd
 all_ends side v = ends_or (ends_in side v)
 
-abbrev pub LinksIn : Side → Links
+abbrev pub LinksIn : GraphView → Links
 LinksIn side = LinksBy side.local.root side.local.interfaces.now (ends_in side)
 
 abbrev pub IsInOrder : Leading → Type 0
 IsInOrder leading = (v : Vertex) → IsStrictlySortedBy end_cmp (ends_or (leading v))
 
 -- both sides have the same rows, and differ in what is staged
-abbrev pub HasSameRows : Side → Side → Type 0
+abbrev pub HasSameRows : GraphView → GraphView → Type 0
 HasSameRows here there = here.rows.now.entries ≡ there.rows.now.entries
 
 -- ---- rows
@@ -79,11 +79,11 @@ abbrev pub IsIntoFrom : Links → Vertex → Link → Vertex → Type 0
 IsIntoFrom Link_of v l w = (l.from ≡ w) × (l.to ≡ v) × Link_of l.from l.to l.cost l.label
 
 -- the links out of one vertex to another are added
-abbrev pub AddsOut : Side → Vertex → Vertex → List Link → List Link → Type 0
+abbrev pub AddsOut : GraphView → Vertex → Vertex → List Link → List Link → Type 0
 AddsOut side v w old new = Adds old new (λ (l : Link). IsOutTo (LinksIn side) v l w)
 
 -- the links into one vertex from another are added
-abbrev pub AddsInto : Side → Vertex → Vertex → List Link → List Link → Type 0
+abbrev pub AddsInto : GraphView → Vertex → Vertex → List Link → List Link → Type 0
 AddsInto side v w old new = Adds old new (λ (l : Link). IsIntoFrom (LinksIn side) v l w)
 
 -- no link of the row costs more than 16 bits hold, if none did before
@@ -111,27 +111,27 @@ IsFreshRow leading Link_of v None = leading v ≡ None
 IsFreshRow leading Link_of v (Some row) = (leading v ≡ Some row.ends.items) × IsRow Link_of v row
 
 -- what a vertex has on that side of a change: a row, if it is there
-abbrev pub IsFreshRowIn : Side → Vertex → Option Row → Type 0
+abbrev pub IsFreshRowIn : GraphView → Vertex → Option Row → Type 0
 IsFreshRowIn side v row = IsFreshRow (ends_in side) (LinksIn side) v row
 
 -- a row for each of the vertices
-pub record AreFresh (leading : Leading) (Link_of : Links) (vertices : List Vertex) (fresh : List Fresh) : Type 0 where
-  pub each : map (λ (f : Fresh). f.vertex) fresh ≡ vertices
-  pub rows : All (λ (f : Fresh). IsFreshRow leading Link_of f.vertex f.row) fresh
+pub record AreFresh (leading : Leading) (Link_of : Links) (vertices : List Vertex) (fresh : List RowUpdate) : Type 0 where
+  pub each : map (λ (f : RowUpdate). f.vertex) fresh ≡ vertices
+  pub rows : All (λ (f : RowUpdate). IsFreshRow leading Link_of f.vertex f.row) fresh
 
 -- a row for each of the vertices, by that side of a change
-abbrev pub AreFreshIn : Side → List Vertex → List Fresh → Type 0
+abbrev pub AreFreshIn : GraphView → List Vertex → List RowUpdate → Type 0
 AreFreshIn side vertices fresh = AreFresh (ends_in side) (LinksIn side) vertices fresh
 
 -- no two of the fresh rows are for one vertex
-abbrev pub HaveDifferentVertices : List Fresh → Type 0
-HaveDifferentVertices fresh = AllPairs (λ v w. v ≢ w) (map (λ (f : Fresh). f.vertex) fresh)
+abbrev pub HaveDifferentVertices : List RowUpdate → Type 0
+HaveDifferentVertices fresh = AllPairs (λ v w. v ≢ w) (map (λ (f : RowUpdate). f.vertex) fresh)
 
 -- each vertex has its fresh row, if there is one, and otherwise what it had
-abbrev pub IsPlaced : List Fresh → RowList → RowList → Type 0
+abbrev pub IsPlaced : List RowUpdate → RowList → RowList → Type 0
 IsPlaced fresh old new = (v : Vertex) →
-    ((f : Fresh) × Contains fresh f × (f.vertex ≡ v) × (find vertex_cmp v new ≡ f.row))
-    ⊎ (((f : Fresh) → Contains fresh f → f.vertex ≢ v) × (find vertex_cmp v new ≡ find vertex_cmp v old))
+    ((f : RowUpdate) × Contains fresh f × (f.vertex ≡ v) × (find vertex_cmp v new ≡ f.row))
+    ⊎ (((f : RowUpdate) → Contains fresh f → f.vertex ≢ v) × (find vertex_cmp v new ≡ find vertex_cmp v old))
 
 -- ---- a change
 
@@ -155,27 +155,27 @@ abbrev pub AreLinksOut : Vertex → List Link → Type 0
 AreLinksOut v links = AreApart links × ((l : Link) → Contains links l → l.from ≡ v)
 
 -- what a row has before and after are links out of its vertex
-abbrev pub AreOwn : RowList → List Fresh → Type 0
-AreOwn rows fresh = (f : Fresh) → Contains fresh f → AreLinksOut f.vertex (out_of (find vertex_cmp f.vertex rows)) × AreLinksOut f.vertex (out_of f.row)
+abbrev pub AreOwn : RowList → List RowUpdate → Type 0
+AreOwn rows fresh = (f : RowUpdate) → Contains fresh f → AreLinksOut f.vertex (out_of (find vertex_cmp f.vertex rows)) × AreLinksOut f.vertex (out_of f.row)
 
 -- the vertex of the fresh row had the link, and has it no longer
-abbrev pub IsTaken : RowList → Link → Fresh → Type 0
+abbrev pub IsTaken : RowList → Link → RowUpdate → Type 0
 IsTaken rows l f = IsOnlyIn (out_of (find vertex_cmp f.vertex rows)) (out_of f.row) l
 
 -- it has the link, and had it not
-abbrev pub IsBrought : RowList → Link → Fresh → Type 0
+abbrev pub IsBrought : RowList → Link → RowUpdate → Type 0
 IsBrought rows l f = IsOnlyIn (out_of f.row) (out_of (find vertex_cmp f.vertex rows)) l
 
 -- just the links that are so for one of the fresh rows
-abbrev pub AreOfFresh : (Link → Fresh → Type 0) → List Fresh → List Link → Type 0
-AreOfFresh P fresh links = (l : Link) → Contains links l ↔ ((f : Fresh) × Contains fresh f × P l f)
+abbrev pub AreOfFresh : (Link → RowUpdate → Type 0) → List RowUpdate → List Link → Type 0
+AreOfFresh P fresh links = (l : Link) → Contains links l ↔ ((f : RowUpdate) × Contains fresh f × P l f)
 
 -- just the links that the vertices of the fresh rows had, and have no longer
-abbrev pub HaveGone : RowList → List Fresh → List Link → Type 0
+abbrev pub HaveGone : RowList → List RowUpdate → List Link → Type 0
 HaveGone rows fresh links = AreOfFresh (IsTaken rows) fresh links
 
 -- just the links that the vertices of the fresh rows have, and had not
-abbrev pub HaveCome : RowList → List Fresh → List Link → Type 0
+abbrev pub HaveCome : RowList → List RowUpdate → List Link → Type 0
 HaveCome rows fresh links = AreOfFresh (IsBrought rows) fresh links
 
 -- of the links out of these vertices, just those that are only in the first graph

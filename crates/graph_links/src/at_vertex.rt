@@ -3,11 +3,11 @@ ghost use Rattle.std.specs.Prelude.{◌≤◌, length};
 ghost use Rattle.std.specs.List.Sorted.{IsStrictlySortedBy};
 ghost use Rattle.graph_links.specs.EndOrder.{AreEndsAt, IsCountBelow, IsCountUpTo, end_cmp};
 
-use crate::end::End;
+use crate::link_end::LinkEnd;
 use ospf_types::entry::Vertex;
 
 /// The ends that are at the vertex.
-pub(crate) fn ends_at(ends: &[End], vertex: Vertex) -> &[End]
+pub(crate) fn ends_at(ends: &[LinkEnd], vertex: Vertex) -> &[LinkEnd]
     requires { IsStrictlySortedBy end_cmp ends.now }
     ensures in_order { IsStrictlySortedBy end_cmp result.now }
     ensures exact { AreEndsAt vertex ends.now result.now }
@@ -18,7 +18,7 @@ pub(crate) fn ends_at(ends: &[End], vertex: Vertex) -> &[End]
 }
 
 /// How many ends are below the vertex.
-fn first_at(ends: &[End], vertex: Vertex) -> usize
+fn first_at(ends: &[LinkEnd], vertex: Vertex) -> usize
     requires { IsStrictlySortedBy end_cmp ends.now }
     ensures within { result ≤ length ends.now }
     ensures split { IsCountBelow vertex ends.now result }
@@ -28,7 +28,7 @@ fn first_at(ends: &[End], vertex: Vertex) -> usize
 
 /// How many ends are below the vertex or at it, if the first ones are below it and no other is. The ends at the vertex are
 /// passed one by one: who asks goes through them next.
-pub(crate) fn past_from(ends: &[End], first: usize, vertex: Vertex) -> usize
+pub(crate) fn past_from(ends: &[LinkEnd], first: usize, vertex: Vertex) -> usize
     requires in_order { IsStrictlySortedBy end_cmp ends.now }
     requires within { first ≤ length ends.now }
     requires split { IsCountBelow vertex ends.now first }

@@ -4,16 +4,16 @@ ghost use Rattle.graph_links.specs.Differing.{AddsAtMost, AddsUnless, AddsUnlike
 ghost use Rattle.graph_links.specs.Pairs.{AreApart};
 ghost use Rattle.graph_links.specs.Sides.{AreOwn, HaveCome, HaveDifferentVertices, HaveGone, out_of};
 
-use crate::fresh::Fresh;
+use crate::row_update::RowUpdate;
 use crate::link::{Link, LinkChanges};
 use crate::row::{Row, Rows};
-use crate::side::find_row;
+use crate::graph_view::find_row;
 use ospf_types::memory::Memory;
 use std::alloc::Global;
 
 /// The links out of the vertices of the fresh rows that they had before and have no longer, and those that they have now and had
 /// not, each once.
-pub fn changed_links(alloc: Global, rows: &Rows, fresh: &[Fresh]) -> Result<LinkChanges, Memory>
+pub fn changed_links(alloc: Global, rows: &Rows, fresh: &[RowUpdate]) -> Result<LinkChanges, Memory>
     requires { AreOwn rows.now.entries fresh.now }
     ensures gone { IfOk result (λ changes. HaveGone rows.now.entries fresh.now changes.gone.items) }
     ensures came { IfOk result (λ changes. HaveCome rows.now.entries fresh.now changes.came.items) }

@@ -4,22 +4,22 @@
 
 mod at_vertex;
 mod changes;
-mod end;
-mod fresh;
+mod link_end;
+mod row_update;
 mod label;
 mod link;
-mod pair;
-mod places;
+mod vertex_pair;
+mod row_hints;
 mod row;
-mod side;
-mod ways;
+mod graph_view;
+mod parallel_links;
 
 pub use changes::{changed_links, out_links};
-pub use end::End;
-pub use fresh::{Fresh, Room, fresh_rows, place};
+pub use link_end::LinkEnd;
+pub use row_update::{RowUpdate, RowPool, row_updates, place};
 pub use label::LinkLabel;
 pub use link::{Link, LinkChanges, Up};
-pub use pair::Local;
-pub use places::placed_by;
+pub use vertex_pair::RootInterfaces;
+pub use row_hints::hinted_by;
 pub use row::{Row, Rows, StagedEnds};
-pub use side::{Side, ends_of_row, find_row, slice_of, slice_or_none};
+pub use graph_view::{GraphView, ends_of_row, find_row, staged_ends, ends_or_empty};

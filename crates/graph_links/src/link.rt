@@ -1,5 +1,5 @@
 use crate::label::LinkLabel;
-use vertex_map::Placed;
+use vertex_map::HintedVertex;
 
 /// An interface of the area that is up.
 #[derive(Clone, Copy, Debug, PartialEq, Eq)]
@@ -12,8 +12,8 @@ pub struct Up {
 /// A link of the graph, with its metric (RFC 2328, 16.1).
 #[derive(Debug)]
 pub struct Link {
-    pub from: Placed,
-    pub to: Placed,
+    pub from: HintedVertex,
+    pub to: HintedVertex,
     /// The metric; 0 out of a network.
     pub cost: u16,
     pub label: LinkLabel,

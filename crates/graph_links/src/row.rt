@@ -1,5 +1,5 @@
 //! What the graph keeps of its vertices.
-use crate::end::End;
+use crate::link_end::LinkEnd;
 use crate::link::Link;
 use indexmap::IndexMap;
 use ospf_types::entry::Vertex;
@@ -7,7 +7,7 @@ use word_hash::WordHash;
 
 /// A vertex that is there: where its LSA leads, and its links.
 pub struct Row {
-    pub ends: Vec<End>,
+    pub ends: Vec<LinkEnd>,
     pub out: Vec<Link>,
     pub into: Vec<Link>,
 }
@@ -27,4 +27,4 @@ impl Drop for Row {
 pub type Rows = IndexMap<Vertex, Row, WordHash>;
 
 /// Where vertices lead whose LSAs change, none if the LSA goes.
-pub type StagedEnds = IndexMap<Vertex, Option<Vec<End>>, WordHash>;
+pub type StagedEnds = IndexMap<Vertex, Option<Vec<LinkEnd>>, WordHash>;

@@ -19,9 +19,9 @@ use Rattle.ospf_types.specs.declared.key.Scope.{Scope}
 use Rattle.ospf_types.specs.Intra.{B, E}
 use Rattle.ospf_types.specs.Keys.{dest_cmp}
 use Rattle.intra.specs.Intras.{reached_at}
-use Rattle.intra.specs.Reached.{ReachedValue, HandsOut}
+use Rattle.intra.specs.ReachedRouter.{ReachedValue, HandsOut}
 use Rattle.intra.proofs.Frame.{best_same}
-use Rattle.offer_index.specs.Advertised.{AdvertisedValue}
+use Rattle.offer_index.specs.AdvertisedRoute.{AdvertisedValue}
 use Rattle.offer_index.specs.Indexes.{OfferIndexValue, HasDest}
 use Rattle.inter.specs.Changes.{InputsDifferAmong}
 use Rattle.inter.specs.Choosing.{IsListed, IsChosenWhere, IsChosenFor}

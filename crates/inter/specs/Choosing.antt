@@ -12,9 +12,9 @@ use Rattle.ospf_types.specs.Inter.{through}
 use Rattle.ospf_types.specs.Intra.{B}
 use Rattle.path_choice.specs.Choices.{Chosen}
 use Rattle.intra.specs.Intras.{AreaIntraValue, reached_at}
-use Rattle.intra.specs.Reached.{HandsOut}
+use Rattle.intra.specs.ReachedRouter.{HandsOut}
 use Rattle.path_choice.specs.Takes.{Takes, OnlyOffer, OfferedBySome}
-use Rattle.offer_index.specs.Advertised.{AdvertisedValue}
+use Rattle.offer_index.specs.AdvertisedRoute.{AdvertisedValue}
 use Rattle.offer_index.specs.Indexes.{OfferIndexValue}
 use Rattle.inter.specs.Inputs.{InterInputsValue, examined_area}
 use Rattle.inter.specs.Inters.{IsEntryFor}

@@ -9,7 +9,7 @@ ghost use Rattle.inter.specs.Offers.{IsBoundaryIn, IsTakenBelow};
 use crate::cost::{InterEntry, SummaryCost};
 use crate::inputs::InterInputs;
 use intra::Intra;
-use offer_index::{LsaGroup, OfferIndex};
+use offer_index::{IndexKey, AdvertisedIndex};
 use ospf_types::entry::{Entry, PathType, Paths};
 use ospf_types::hop::Path;
 use ospf_types::key::{Dest, Key};
@@ -22,7 +22,7 @@ use std::alloc::Global;
 #[derive(Drop)]
 pub(crate) struct Choosing<'a> {
     pub(crate) inputs: &'a InterInputs<'a>,
-    pub(crate) index: &'a OfferIndex,
+    pub(crate) index: &'a AdvertisedIndex,
 }
 
 impl<'a> Choose<Dest, InterEntry> for Choosing<'a> {
@@ -55,7 +55,7 @@ impl Choosing<'_> {
             return Ok(None);
         }
         let mut keys = Vec::new(alloc);
-        self.index.list_keys(LsaGroup::To(*dest), &mut keys)?;
+        self.index.list_keys(IndexKey::To(*dest), &mut keys)?;
         let mut best = Best::new(alloc);
         let offers = AreaOffers {
             intra: inputs.intra,
@@ -95,16 +95,16 @@ fn is_taken_below(inputs: &InterInputs<'_>, area: u32, dest: &Dest) -> bool
         Dest::Net(network) => {
             inputs.intra.get(network).is_some() || inputs.active.contains(network)
         }
-        Dest::Router(router) => is_boundary(inputs.intra, area, router),
+        Dest::Router(router) => is_asbr(inputs.intra, area, router),
     }
 }
 
 // Whether the router is reached in the area as an AS boundary router.
-fn is_boundary(intra: &Intra, area: u32, router: u32) -> bool
+fn is_asbr(intra: &Intra, area: u32, router: u32) -> bool
     ensures { IsTrue result ↔ IsBoundaryIn intra.now.areas area router }
 {
     match intra.router(area, router) {
-        Some(reached) => reached.is_boundary() && !reached.hops().is_empty(),
+        Some(reached) => reached.is_asbr() && !reached.hops().is_empty(),
         None => false,
     }
 }
@@ -114,7 +114,7 @@ fn is_boundary(intra: &Intra, area: u32, router: u32) -> bool
 struct AreaOffers<'a> {
     intra: &'a Intra,
     area: u32,
-    index: &'a OfferIndex,
+    index: &'a AdvertisedIndex,
 }
 
 impl AreaOffers<'_> {
@@ -143,7 +143,7 @@ impl AreaOffers<'_> {
         let Some(border) = self.intra.router(self.area, key.router) else {
             return Ok(());
         };
-        if !border.is_border() {
+        if !border.is_abr() {
             return Ok(());
         }
         let cost = SummaryCost::new(border.distance(), route.metric());

@@ -7,7 +7,7 @@ ghost use Rattle.inter.specs.Inputs.{examined_area};
 ghost use Rattle.inter.specs.Inters.{IsIndexFor};
 
 use crate::inputs::InterInputs;
-use offer_index::{ChangedOffers, LsaGroup, OfferIndex, ScopeDatabase};
+use offer_index::{AffectedDests, IndexKey, AdvertisedIndex, ScopeDatabase};
 use ospf_types::key::{Dest, Key, Scope};
 use ospf_types::memory::Memory;
 
@@ -16,9 +16,9 @@ impl InterInputs<'_> {
     pub(crate) fn follow_examined(
         &self,
         area: Option<u32>,
-        index: &mut OfferIndex,
+        index: &mut AdvertisedIndex,
         keys: &[(Scope, Key)],
-        affected: &mut ChangedOffers,
+        affected: &mut AffectedDests,
     ) -> Result<(), Memory>
         requires { IsIndexBefore self.now.root keys.now self.now.examined area index.old }
         ensures index { OnOk result (IsIndexFor self.now.root self.now.examined index.new) }
@@ -35,9 +35,9 @@ impl InterInputs<'_> {
     // The index takes what the named LSAs say, where this area was examined before.
     fn follow_named(
         &self,
-        index: &mut OfferIndex,
+        index: &mut AdvertisedIndex,
         keys: &[(Scope, Key)],
-        affected: &mut ChangedOffers,
+        affected: &mut AffectedDests,
     ) -> Result<(), Memory>
         requires { IsIndexSince self.now.root keys.now self.now.examined index.old }
         ensures index { OnOk result (IsIndexFor self.now.root self.now.examined index.new) }
@@ -57,7 +57,7 @@ impl InterInputs<'_> {
     }
 
     // The index takes what all LSAs of the area say, where it has nothing.
-    fn follow_all(&self, index: &mut OfferIndex, affected: &mut ChangedOffers) -> Result<(), Memory>
+    fn follow_all(&self, index: &mut AdvertisedIndex, affected: &mut AffectedDests) -> Result<(), Memory>
         requires { index.old ≡ empty_index }
         ensures index { OnOk result (IsIndexFor self.now.root self.now.examined index.new) }
         ensures touched { OnOk result (AreTouched index.old index.new affected.old affected.new) }
@@ -79,7 +79,7 @@ impl InterInputs<'_> {
 /// Adds those of the named destinations that summaries lead to, and what the summaries of named routers lead to. To the others
 /// nothing is offered: they have no entry.
 pub(crate) fn push_named(
-    index: &OfferIndex,
+    index: &AdvertisedIndex,
     named: &[Dest],
     dests: &mut Vec<Dest>,
 ) -> Result<(), Memory>
@@ -92,7 +92,7 @@ pub(crate) fn push_named(
 }
 
 // Adds the destination if a summary leads to it, and what the router's summaries lead to where it is a router.
-fn push_dest(index: &OfferIndex, dest: &Dest, dests: &mut Vec<Dest>) -> Result<(), Memory>
+fn push_dest(index: &AdvertisedIndex, dest: &Dest, dests: &mut Vec<Dest>) -> Result<(), Memory>
     ensures { OnOk result (IsPushed index.now dest.now dests.old.items dests.new.items) }
 {
     push_led(index, dest, dests)?;
@@ -101,7 +101,7 @@ fn push_dest(index: &OfferIndex, dest: &Dest, dests: &mut Vec<Dest>) -> Result<(
 }
 
 // Adds the destination if a summary leads to it.
-fn push_led(index: &OfferIndex, dest: &Dest, dests: &mut Vec<Dest>) -> Result<(), Memory>
+fn push_led(index: &AdvertisedIndex, dest: &Dest, dests: &mut Vec<Dest>) -> Result<(), Memory>
     ensures kept { OnOk result (KeepsAll dests.old.items dests.new.items) }
     ensures itself { OnOk result (IsLedTo index.now dest.now → Contains dests.new.items dest.now) }
 {
@@ -112,12 +112,12 @@ fn push_led(index: &OfferIndex, dest: &Dest, dests: &mut Vec<Dest>) -> Result<()
 }
 
 // Adds what the router's summaries lead to, where the destination is a router.
-fn push_behind(index: &OfferIndex, dest: &Dest, dests: &mut Vec<Dest>) -> Result<(), Memory>
+fn push_behind(index: &AdvertisedIndex, dest: &Dest, dests: &mut Vec<Dest>) -> Result<(), Memory>
     ensures kept { OnOk result (KeepsAll dests.old.items dests.new.items) }
     ensures behind { OnOk result (HasAllBehind index.now dest.now dests.new.items) }
 {
     match *dest {
-        Dest::Router(router) => index.list_dests(LsaGroup::By(router), dests),
+        Dest::Router(router) => index.list_dests(IndexKey::By(router), dests),
         Dest::Net(_) => Ok(()),
     }
 }

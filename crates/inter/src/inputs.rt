@@ -8,13 +8,13 @@ use std::marker::Model;
 
 /// The area whose summaries are examined: the backbone where two areas are active, or the only active one.
 #[derive(Drop)]
-pub struct Examined<'a> {
+pub struct ExaminedArea<'a> {
     /// The Area ID.
     pub area: u32,
     pub database: &'a Database,
 }
 
-impl<'a> Model for Examined<'a> {
+impl<'a> Model for ExaminedArea<'a> {
     ghost use Rattle.std.specs.FinMap as map;
     ghost use Rattle.std.specs.Coded.{Coded, codes};
     ghost use Rattle.ospf_types.specs.Keys.{key_code};
@@ -34,7 +34,7 @@ pub struct InterInputs<'a> {
     /// The Router ID of the router that calculates.
     pub root: u32,
     /// None where no area is active.
-    pub examined: Option<Examined<'a>>,
+    pub examined: Option<ExaminedArea<'a>>,
     pub intra: &'a Intra,
     pub active: &'a ActiveRanges,
 }

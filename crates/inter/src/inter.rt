@@ -3,7 +3,7 @@ ghost use Rattle.std.specs.FinMap as map;
 ghost use Rattle.std.specs.List.{AllPairs};
 ghost use Rattle.std.specs.List.Sorted.{IsStrictlySortedBy};
 ghost use Rattle.ospf_types.specs.Keys.{dest_cmp};
-ghost use Rattle.active_ranges.specs.Lists.{HasJust};
+ghost use Rattle.active_ranges.specs.Lists.{ListsExactly};
 ghost use Rattle.inter.specs.Inputs.{examined_area};
 ghost use Rattle.inter.specs.Inters.{HasEntry, IsInterOf, most_cost, no_routes, spent_routes};
 ghost use Rattle.inter.specs.Changes.{AreRoutesBehind, DiffersAt};
@@ -15,7 +15,7 @@ use crate::cost::InterEntry;
 use crate::follow::push_named;
 use crate::inputs::InterInputs;
 use intra::Dirty;
-use offer_index::{ChangedOffers, OfferIndex};
+use offer_index::{AffectedDests, AdvertisedIndex};
 use ospf_types::entry::Entry;
 use ospf_types::key::Dest;
 use ospf_types::memory::Memory;
@@ -29,7 +29,7 @@ use std::marker::Model;
 pub struct Inter {
     hashing: RandomState,
     examined: Option<u32>,
-    index: OfferIndex,
+    index: AdvertisedIndex,
     entries: ResultMap<Dest, InterEntry>,
     spent: bool,
 }
@@ -52,7 +52,7 @@ impl Model for Inter {
     ghost use Rattle.std.specs.Coded.{Coded, codes};
     ghost use Rattle.ospf_types.specs.contracts.entry.Entry as entry;
     ghost use Rattle.ospf_types.specs.contracts.key.Dest as dest;
-    ghost use Rattle.offer_index.specs.contracts.index.OfferIndex as kept_index;
+    ghost use Rattle.offer_index.specs.contracts.index.AdvertisedIndex as kept_index;
     ghost use Rattle.inter.specs.Inters.{InterValue, EntriesByDest};
 
     ghost Value = { InterValue };
@@ -97,7 +97,7 @@ impl Inter {
         ensures kept { OnOk result (IsInterOf inputs.now self.new) }
         ensures right { OnOk result (IsRightWith inputs.now self.new) }
         ensures in_order { IfOk result (λ dests. IsStrictlySortedBy dest_cmp dests.items) }
-        ensures exact { IfOk result (λ dests. HasJust (DiffersAt self.old self.new) dests.items) }
+        ensures exact { IfOk result (λ dests. ListsExactly (DiffersAt self.old self.new) dests.items) }
         ensures spent { OnErr result (self.new ≡ spent_routes) }
     {
         let dests = self.update_parts(alloc, inputs, dirty);
@@ -120,7 +120,7 @@ impl Inter {
 
     /// The destinations that have an entry, in no stated order, each once.
     pub fn dests(&self, alloc: Global) -> Result<Vec<Dest>, Memory>
-        ensures exact { IfOk result (λ dests. HasJust (HasEntry self.now) dests.items) }
+        ensures exact { IfOk result (λ dests. ListsExactly (HasEntry self.now) dests.items) }
         ensures each_once { IfOk result (λ dests. AllPairs (λ c d. c ≢ d) dests.items) }
     {
         self.entries.keys(alloc)
@@ -142,7 +142,7 @@ impl Inter {
         Inter {
             hashing,
             examined: None,
-            index: OfferIndex::new(alloc, hashing),
+            index: AdvertisedIndex::new(alloc, hashing),
             entries: ResultMap::new(alloc, hashing),
             spent: false,
         }
@@ -159,7 +159,7 @@ impl Inter {
             self.old }
         ensures kept { OnOk result (IsInterOf inputs.now self.new) }
         ensures in_order { IfOk result (λ dests. IsStrictlySortedBy dest_cmp dests.items) }
-        ensures exact { IfOk result (λ dests. HasJust (DiffersAt self.old self.new) dests.items) }
+        ensures exact { IfOk result (λ dests. ListsExactly (DiffersAt self.old self.new) dests.items) }
     {
         let dests = self.follow_index(alloc, inputs, dirty)?;
         let index = &self.index;
@@ -183,7 +183,7 @@ impl Inter {
         ensures followed { IfOk result (λ dests. IsFollowed dirty.now.dests.items inputs.now
             self.old.examined self.old.index self.new.index dests.items) }
     {
-        let mut affected = ChangedOffers::none(alloc);
+        let mut affected = AffectedDests::none(alloc);
         inputs.follow_examined(self.examined, &mut self.index, &dirty.keys, &mut affected)?;
         self.examined = inputs.area();
         let mut dests = affected.dests;
@@ -195,7 +195,7 @@ impl Inter {
         ensures { self.new ≡ spent_routes }
     {
         self.examined = None;
-        self.index = OfferIndex::new(alloc, self.hashing);
+        self.index = AdvertisedIndex::new(alloc, self.hashing);
         self.entries.clear();
         self.spent = true;
     }

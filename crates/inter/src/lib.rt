@@ -8,5 +8,5 @@ mod follow;
 mod inputs;
 mod inter;
 
-pub use inputs::{Examined, InterInputs};
+pub use inputs::{ExaminedArea, InterInputs};
 pub use inter::Inter;

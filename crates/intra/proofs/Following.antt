@@ -16,7 +16,7 @@ use Rattle.spf.specs.HandedOn.{IsOfSome}
 use Rattle.area_trees.specs.Areas.{body_at, vertex_of, router_key, network_key, IsUsed, IsStanding}
 use Rattle.ospf_types.specs.declared.hop.NextHop.{NextHop}
 use Rattle.intra.specs.Inputs.{AreaValue, distance_at, hops_at}
-use Rattle.intra.specs.Reached.{ReachedValue, has_bit, has_bits, reached_by}
+use Rattle.intra.specs.ReachedRouter.{ReachedValue, is_abr_or_asbr, has_bits, reached_by}
 use Rattle.intra.specs.Indexes.{IndexValue, IsIndex, IsIndexOf, IsOfferedFor, AreTouched}
 use Rattle.intra.specs.Intras.{AreaIntraValue}
 use Rattle.intra.specs.Following.{LsasDifferAmong, NamesVertex, NamesIn, IsCurrent, IsTaken, HasOffered, IsGathered, AreRoutersUpdated, IsRouterNamed, flags_in, router_now, with_index_of}
@@ -154,7 +154,7 @@ pub no_bits : (root router : ℕ) (flags distance : Option ℕ) (hops : List Nex
 no_bits root router None distance hops plain = refl
 no_bits root router (Some f) None hops plain = refl
 no_bits root router (Some f) (Some d) hops plain =
-    elim (nat_eq router root) as (λ b. ◌≡◌ {A = Option ReachedValue} (if b then None else (if has_bit f then Some (record { flags = f; distance = d; hops = hops }) else None)) None) [
+    elim (nat_eq router root) as (λ b. ◌≡◌ {A = Option ReachedValue} (if b then None else (if is_abr_or_asbr f then Some (record { flags = f; distance = d; hops = hops }) else None)) None) [
       | true ↦ refl
       | false ↦ ap (λ (b : Bool). if b then Some (record { flags = f; distance = d; hops = hops }) else None) plain
     ]

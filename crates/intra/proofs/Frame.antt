@@ -43,7 +43,7 @@ use Rattle.intra.specs.Indexes.{IndexValue, OfferedValue, sources_of, IsSource, 
 use Rattle.intra.specs.Inputs.{AreaValue, InputsValue, distance_at, hops_at}
 use Rattle.intra.specs.Intras.{AreaIntraValue, IntraValue, IsIntraOf, AreAreaIntras, IsEntryFor}
 use Rattle.intra.specs.Offers.{Offering, OffersBy, HasOffer, IsReachedFor, OffersTransit, OffersStub, OffersOwn, AreaOffers, KeyedOffers, OffersOf}
-use Rattle.intra.specs.Reached.{ReachedValue, IsReachedOf, reached_by}
+use Rattle.intra.specs.ReachedRouter.{ReachedValue, IsReachedOf, reached_by}
 
 -- ---- an index, and the database that it is of
 

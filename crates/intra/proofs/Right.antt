@@ -26,7 +26,7 @@ use Rattle.area_trees.proofs.Standing.{some_router, some_network}
 use Rattle.intra.specs.Inputs.{AreaValue, InputsValue, distance_at, hops_at}
 use Rattle.intra.specs.Intras.{AreaIntraValue, IntraValue, IsIntraOf, AreAreaIntras}
 use Rattle.intra.specs.Offers.{HasOffer, IsReachedFor, OffersTransit, OffersStub, OffersOwn, AreaOffers, OffersOf}
-use Rattle.intra.specs.Reached.{ReachedValue, IsReachedOf, HandsOut, has_bit, reached_by}
+use Rattle.intra.specs.ReachedRouter.{ReachedValue, IsReachedOf, HandsOut, is_abr_or_asbr, reached_by}
 use Rattle.intra.specs.Right.{IsInputOf, AreInputAreas, AreInputsOf, AreRoutersRight, IsRightFor}
 use Rattle.intra.proofs.Frame.{entry_same}
 
@@ -228,7 +228,7 @@ second_holds true y e = refl
 second_holds false y e = e
 
 -- a router with bit B or bit E has one of the two
-with_bit : (flags flag : ℕ) → (flag ≡ B) ⊎ (flag ≡ E) → 0 < bit_and flags flag → has_bit flags ≡ true
+with_bit : (flags flag : ℕ) → (flag ≡ B) ⊎ (flag ≡ E) → 0 < bit_and flags flag → is_abr_or_asbr flags ≡ true
 with_bit flags flag (inl e) lt = first_holds _ _ (positive (bit_and flags B) (subst (λ (n : ℕ). 0 < bit_and flags n) e lt))
 with_bit flags flag (inr e) lt = second_holds _ _ (positive (bit_and flags E) (subst (λ (n : ℕ). 0 < bit_and flags n) e lt))
 
@@ -236,7 +236,7 @@ with_bit flags flag (inr e) lt = second_holds _ _ (positive (bit_and flags E) (s
 hands_from : (root router flag : ℕ) (flags far : Option ℕ) (hops : List NextHop) (distance : ℕ) (h : NextHop) → HandsOut flag (reached_by root router flags far hops) distance h
     → (f : ℕ) × (flags ≡ Some f) × (0 < bit_and f flag) × (router ≢ root) × (far ≡ Some distance) × Contains hops h
 hands_from root router flag (Some f) (Some d) hops distance h hands =
-    let w = handed_by (router == root) (has_bit f) (record { flags = f; distance = d; hops = hops }) flag distance h hands in
+    let w = handed_by (router == root) (is_abr_or_asbr f) (record { flags = f; distance = d; hops = hops }) flag distance h hands in
     (f, refl, w.2.0, other_router router root w.0, ap Some w.2.1, w.2.2)
 hands_from root router flag (Some f) None hops distance h hands = absurd hands
 hands_from root router flag None far hops distance h hands = absurd hands
@@ -246,7 +246,7 @@ hands_to : (root router flag : ℕ) → (flag ≡ B) ⊎ (flag ≡ E) → (flags
     → flags ≡ Some f → 0 < bit_and f flag → router ≢ root → far ≡ Some distance → Contains hops h → HandsOut flag (reached_by root router flags far hops) distance h
 hands_to root router flag one flags far hops f distance h flags_are lt other far_is c =
     let here : HandsOut flag (reached_by root router (Some f) (Some distance) hops) distance h =
-    handed_to (router == root) (has_bit f) (record { flags = f; distance = distance; hops = hops }) flag distance h (router_other router root other) (with_bit f flag one lt) (lt, refl, c) in
+    handed_to (router == root) (is_abr_or_asbr f) (record { flags = f; distance = distance; hops = hops }) flag distance h (router_other router root other) (with_bit f flag one lt) (lt, refl, c) in
     subst (λ (o : Option ℕ). HandsOut flag (reached_by root router o far hops) distance h) (sym flags_are)
     (subst (λ (o : Option ℕ). HandsOut flag (reached_by root router (Some f) o hops) distance h) (sym far_is) here)
 

@@ -23,7 +23,7 @@ use Rattle.intra.specs.Indexes.{IndexValue, OfferedValue, IsIndexOf, IsOfferedFo
 use Rattle.intra.specs.Inputs.{AreaValue, InputsValue, distance_at, hops_at}
 use Rattle.intra.specs.Intras.{AreaIntraValue, IntraValue, IsAreaIntra, AreAreaIntras, IsEntryFor, IsIntraOf}
 use Rattle.intra.specs.Offers.{OffersOf}
-use Rattle.intra.specs.Reached.{ReachedByRouter, ReachedValue, IsReachedOf, reached_by}
+use Rattle.intra.specs.ReachedRouter.{ReachedByRouter, ReachedValue, IsReachedOf, reached_by}
 use Rattle.intra.specs.ChosenAnew.{AreEntriesChosenAnew}
 use Rattle.intra.specs.Updating.{IsKeptBefore, AreKeptBefore, AreFirst, IsFollowed, IsSettled, IsBroughtTo, HasOtherAmong}
 use Rattle.result_map.proofs.Among.{net_among, router_among}
@@ -202,7 +202,7 @@ module _ (keys : List (Scope × Key)) (vertices : List (ℕ × Vertex)) (ids : L
         )
 
     named_so : (d : Dest) → Contains (map Net anew.entries.differing ++ map Router routers) d ↔ DiffersAt old new d → Contains (dests ++ map Router routers) d ↔ DiffersAt old new d
-    named_so d is = subst (λ (ds : List Dest). Contains (ds ++ map Router routers) d ↔ DiffersAt old new d) (sym anew.entries.told_as) is
+    named_so d is = subst (λ (ds : List Dest). Contains (ds ++ map Router routers) d ↔ DiffersAt old new d) (sym anew.entries.reported_as) is
 
     -- just the destinations are named whose result differs
     pub exactly : (d : Dest) → Contains (dests ++ map Router routers) d ↔ DiffersAt old new d

@@ -6,7 +6,7 @@ use Rattle.ospf_types.specs.declared.key.Dest.{Dest}
 use Rattle.ospf_types.specs.declared.key.Dest.TheVariants.{Net}
 use Rattle.ospf_types.specs.declared.prefix.Prefix.{Prefix}
 use Rattle.ospf_types.specs.Network.{network_cmp}
-use Rattle.result_map.specs.Chosen.{AreChosenAnew}
+use Rattle.result_map.specs.Chosen.{AreRechosen}
 use Rattle.intra.specs.Indexes.{IndexedOffers}
 use Rattle.intra.specs.Inputs.{InputsValue}
 use Rattle.intra.specs.Intras.{AreaIntraValue, IntraValue, IsEntryFor}
@@ -19,4 +19,4 @@ IsEntryBy v areas p e = IsEntryFor (IndexedOffers v (map (λ (a : AreaIntraValue
 pub record AreEntriesChosenAnew (v : InputsValue) (old new : IntraValue) (networks : List Prefix) (dests : List Dest) : Type 0 where
   pub areas : new.areas ≡ old.areas
   pub spent : new.spent ≡ old.spent
-  pub entries : AreChosenAnew network_cmp (IsEntryBy v old.areas) Net (get old.entries) (get new.entries) networks dests
+  pub entries : AreRechosen network_cmp (IsEntryBy v old.areas) Net (get old.entries) (get new.entries) networks dests

@@ -15,7 +15,7 @@ use Rattle.intra.specs.declared.dirty.Dirty.{Dirty}
 use Rattle.intra.specs.Inputs.{AreaValue, distance_at, hops_at}
 use Rattle.intra.specs.Indexes.{IndexValue, OfferedValue, IsIndex, IsIndexOf, IsOfferedFor, IsSource, AreTouched, offers_of}
 use Rattle.intra.specs.Intras.{AreaIntraValue}
-use Rattle.intra.specs.Reached.{ReachedValue, reached_by}
+use Rattle.intra.specs.ReachedRouter.{ReachedValue, reached_by}
 
 -- ---- the index follows the LSAs
 

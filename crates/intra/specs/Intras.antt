@@ -15,7 +15,7 @@ pub use Rattle.path_choice.specs.Costs.{most_cost}
 use Rattle.intra.specs.Indexes.{IndexValue, IsIndexOf, empty_index}
 use Rattle.intra.specs.Inputs.{AreaValue, InputsValue}
 use Rattle.intra.specs.Offers.{OffersOf}
-use Rattle.intra.specs.Reached.{ReachedByRouter, ReachedValue, IsReachedOf}
+use Rattle.intra.specs.ReachedRouter.{ReachedByRouter, ReachedValue, IsReachedOf}
 
 abbrev pub EntriesByPrefix : Type 0
 EntriesByPrefix = FinMap network_cmp Entry

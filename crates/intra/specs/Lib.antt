@@ -4,7 +4,7 @@ pub mod Stubs
 pub mod Indexes
 pub mod Choosing
 pub mod IndexSteps
-pub mod Reached
+pub mod ReachedRouter
 pub mod Intras
 pub mod Changes
 pub mod Right

@@ -9,7 +9,7 @@ use Rattle.vertex_graph.specs.Up.{Up}
 use Rattle.area_trees.specs.Areas.{IsAreaOf, IsAreaTree}
 use Rattle.intra.specs.Inputs.{AreaValue, InputsValue}
 use Rattle.intra.specs.Intras.{AreaIntraValue, IntraValue, IsEntryFor}
-use Rattle.intra.specs.Reached.{HandsOut}
+use Rattle.intra.specs.ReachedRouter.{HandsOut}
 
 -- the area has this database, and the tree is that of it and of the area's interfaces that are up
 pub record IsInputOf (s : Inputs) (b : Area) (root : ℕ) (a : AreaValue) : Type 0 where

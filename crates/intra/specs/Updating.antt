@@ -9,7 +9,7 @@ use Rattle.ospf_types.specs.declared.key.Scope.{Scope}
 use Rattle.ospf_types.specs.declared.prefix.Prefix.{Prefix}
 use Rattle.ospf_types.specs.Network.{network_cmp}
 use Rattle.intra.specs.declared.dirty.Dirty.{Dirty}
-use Rattle.intra.specs.declared.named.Named.{Named}
+use Rattle.intra.specs.declared.affected.Affected.{Affected}
 use Rattle.intra.specs.Changes.{DiffersAmong}
 use Rattle.intra.specs.Following.{IsGathered, IsRouterNamed, router_now, with_index_of}
 use Rattle.intra.specs.Indexes.{IsIndexOf}
@@ -61,13 +61,13 @@ AreBroughtTo v dirty prefixes old new =
     AreFirst (IsBroughtTo v.root dirty.keys.items dirty.vertices.items dirty.interfaces.items prefixes) v.areas old new (length v.areas)
 
 -- just those routers are named of which something else is kept in some area
-abbrev pub NamesOthers : List AreaValue → List AreaIntraValue → List AreaIntraValue → Named → Type 0
+abbrev pub NamesOthers : List AreaValue → List AreaIntraValue → List AreaIntraValue → Affected → Type 0
 NamesOthers areas old new named = (router : ℕ) → Contains named.routers.items router ↔ HasOtherAmong (length areas) old new router
 
 -- the prefixes are named in order, each once
-abbrev pub HasPrefixesInOrder : Named → Type 0
+abbrev pub HasPrefixesInOrder : Affected → Type 0
 HasPrefixesInOrder named = IsStrictlySortedBy network_cmp named.prefixes.items
 
 -- the routers are named in order, each once
-abbrev pub HasRoutersInOrder : Named → Type 0
+abbrev pub HasRoutersInOrder : Affected → Type 0
 HasRoutersInOrder named = IsStrictlySortedBy nat_cmp named.routers.items

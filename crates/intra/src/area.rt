@@ -8,19 +8,19 @@ ghost use Rattle.intra.specs.Indexes.{IsIndex, IsIndexOf};
 ghost use Rattle.intra.specs.Following.{AreRoutersBrought, AreRoutersUpdated, HasOffered, IsAmongKeys, IsAmongVertices, IsGatheredFor, IsIndexBefore, IsRouterIn, IsRouterOf, IsTaken, NamesIn, NamesVertex, flags_in};
 ghost use Rattle.intra.specs.Inputs.{HasTree};
 ghost use Rattle.intra.specs.Intras.{empty_area};
-ghost use Rattle.intra.specs.Reached.{HasKeptToo, HasOnceMore, KeepsNone, has_bits, reached_in};
+ghost use Rattle.intra.specs.ReachedRouter.{HasKeptToo, HasOnceMore, KeepsNone, has_bits, reached_in};
 
 use crate::area_index::AreaIndex;
 use crate::dirty::Dirty;
 use crate::inputs::{AreaInputs, RootedArea};
-use crate::named::Named;
+use crate::affected::Affected;
 use crate::offered::push_prefixes;
 use area_trees::vertex_of;
 use ospf_types::entry::Vertex;
 use ospf_types::key::{Key, Scope};
 use ospf_types::memory::Memory;
 use ospf_types::prefix::Prefix;
-use path_choice::{Reached, RouterReach, has_bit, keep};
+use path_choice::{ReachedRouter, RouterReach, is_abr_or_asbr, keep};
 use result_map::ResultMap;
 use std::alloc::Global;
 use std::marker::Model;
@@ -31,7 +31,7 @@ pub(crate) struct AreaIntra {
     alloc: Global,
     id: u32,
     index: AreaIndex,
-    reached: ResultMap<u32, Reached>,
+    reached: ResultMap<u32, ReachedRouter>,
 }
 
 // proof: one call drops it, in place of a drop of each part wherever one is held.
@@ -52,7 +52,7 @@ impl Model for AreaIntra {
     ghost use Rattle.ospf_types.specs.Network.{network_code};
     ghost use Rattle.ospf_types.specs.Vertices.{vertex_code};
     ghost use Rattle.intra.specs.Indexes.{OfferedByVertex, SourcesByPrefix};
-    ghost use Rattle.intra.specs.Reached.{ReachedByRouter};
+    ghost use Rattle.intra.specs.ReachedRouter.{ReachedByRouter};
     ghost use Rattle.intra.specs.Intras.{AreaIntraValue};
     ghost use Rattle.intra.specs.contracts.offered.Offer as offer;
     ghost use Rattle.intra.specs.contracts.area_index.Source as source;
@@ -76,7 +76,7 @@ impl AreaIntra {
             alloc,
             id,
             index: AreaIndex::new(alloc, hashing),
-            reached: ResultMap::hashed_by(alloc, hashing),
+            reached: ResultMap::with_hasher(alloc, hashing),
         }
     }
 
@@ -94,7 +94,7 @@ impl AreaIntra {
     }
 
     /// A border router or AS boundary router that is reached in the area.
-    pub(crate) fn router(&self, router: u32) -> Option<&Reached>
+    pub(crate) fn router(&self, router: u32) -> Option<&ReachedRouter>
         ensures { option_copied result ≡ map.get self.now.reached router }
     {
         self.reached.get(router)
@@ -121,7 +121,7 @@ impl AreaIntra {
         &mut self,
         rooted: &RootedArea<'_>,
         dirty: &Dirty,
-        named: &mut Named,
+        named: &mut Affected,
     ) -> Result<(), Memory>
         requires ready { HasTree rooted.now.area.now }
         requires before { IsIndexBefore dirty.now.keys.items rooted.now.area.now.lsas self.old }
@@ -183,7 +183,7 @@ impl AreaIntra {
         &mut self,
         rooted: &RootedArea<'_>,
         vertices: &[(u32, Vertex)],
-        named: &mut Named,
+        named: &mut Affected,
     ) -> Result<(), Memory>
         ensures offered { OnOk result (HasOffered self.old.index
             (IsOfSome vertices.now (NamesIn self.old.id))
@@ -203,7 +203,7 @@ impl AreaIntra {
         &mut self,
         rooted: &RootedArea<'_>,
         vertex: (u32, Vertex),
-        named: &mut Named,
+        named: &mut Affected,
     ) -> Result<(), Memory>
         ensures offered { OnOk result (HasOffered self.old.index (NamesIn self.old.id vertex)
             named.old.prefixes.items named.new.prefixes.items) }
@@ -347,7 +347,7 @@ fn reached_now(
     rooted: &RootedArea<'_>,
     router: u32,
     flags: Option<u8>,
-) -> Result<Option<Reached>, Memory>
+) -> Result<Option<ReachedRouter>, Memory>
     ensures { IfOk result (λ kept. kept
         ≡ reached_in rooted.now.root rooted.now.area.now router flags) }
 {
@@ -369,7 +369,7 @@ fn has_bits(flags: Option<u8>) -> bool
     ensures { result ≡ has_bits flags }
 {
     match flags {
-        Some(flags) => has_bit(flags),
+        Some(flags) => is_abr_or_asbr(flags),
         None => false,
     }
 }

@@ -3,7 +3,7 @@ ghost use Rattle.std.specs.Prelude.{◌≡◌, ◌≢◌, Some, None, IfOk, IfSo
 ghost use Rattle.std.specs.FinMap as map;
 ghost use Rattle.std.specs.List.{AllPairs};
 ghost use Rattle.ospf_types.specs.Lsa.{key_of};
-ghost use Rattle.spf.specs.Members.{HasNoDoubles};
+ghost use Rattle.spf.specs.VertexSet.{HasNoDoubles};
 ghost use Rattle.area_trees.specs.Areas.{vertex_of};
 ghost use Rattle.intra.specs.Following.{IsCurrent};
 ghost use Rattle.intra.specs.Inputs.{HasTree};
@@ -24,14 +24,14 @@ use smallvec::SmallVec;
 use std::alloc::Global;
 use std::default::MadeWith;
 use std::marker::Model;
-use vertex_map::Placed;
+use vertex_map::HintedVertex;
 use word_hash::WordHash;
 
 /// A vertex that offers a prefix, at a metric beside its distance.
 #[derive(Drop)]
 pub(crate) struct Source {
     /// It has the place of its row in the area's graph.
-    pub(crate) vertex: Placed,
+    pub(crate) vertex: HintedVertex,
     pub(crate) metric: u16,
 }
 
@@ -39,7 +39,7 @@ pub(crate) struct Source {
 impl<A: Drop> MadeWith<A> for Source {
     fn made_with(_alloc: A) -> Source {
         Source {
-            vertex: Placed::nowhere(Vertex::Router(0)),
+            vertex: HintedVertex::nowhere(Vertex::Router(0)),
             metric: 0,
         }
     }
@@ -217,7 +217,7 @@ impl AreaIndex {
     }
 
     // The vertex offers these prefixes too.
-    fn add_sources(&mut self, vertex: &Placed, offers: &[Offer]) -> Result<(), Memory>
+    fn add_sources(&mut self, vertex: &HintedVertex, offers: &[Offer]) -> Result<(), Memory>
         requires absent { OffersNothing self.old vertex.now }
         requires each_once { AllPairs (λ a b. a ≢ b) offers.now }
         ensures offered { OnOk result (self.new.offered ≡ self.old.offered) }
@@ -230,7 +230,7 @@ impl AreaIndex {
     }
 
     // The vertex offers the prefix too.
-    fn add_source(&mut self, vertex: &Placed, offer: Offer) -> Result<(), Memory>
+    fn add_source(&mut self, vertex: &HintedVertex, offer: Offer) -> Result<(), Memory>
         requires { IsSource self.old vertex.now offer.prefix offer.metric → ⊥ }
         ensures offered { OnOk result (self.new.offered ≡ self.old.offered) }
         ensures come { OnOk result (HaveCome (IsThisOffer vertex.now offer) self.old self.new) }

@@ -25,7 +25,7 @@ use path_choice::{AreaCost, Best, Choice, offer_hop, offer_hops};
 use result_map::Choose;
 use std::alloc::Global;
 use std::collections::btree_map::Iter;
-use vertex_map::Placed;
+use vertex_map::HintedVertex;
 
 /// What entries are chosen from: the inputs, and what is kept of each of their areas.
 #[derive(Drop)]
@@ -258,7 +258,7 @@ fn offer_transit(
 }
 
 // The transit network, with the place that its source has.
-fn network_of(sources: &[Source], id: u32) -> Placed
+fn network_of(sources: &[Source], id: u32) -> HintedVertex
     ensures { result ≡ vertex_value.Network id }
 {
     let network = Vertex::Network(id);
@@ -267,7 +267,7 @@ fn network_of(sources: &[Source], id: u32) -> Placed
             return source.vertex.with_vertex(network);
         }
     }
-    Placed::nowhere(network)
+    HintedVertex::nowhere(network)
 }
 
 // The nearest transit network, with one more source.
@@ -305,7 +305,7 @@ fn nearer(nearest: Option<(u32, u32)>, other: (u32, u32)) -> (u32, u32)
 }
 
 // The distance of a vertex of the area.
-fn distance(area: &AreaInputs<'_>, vertex: &Placed) -> Option<u32>
+fn distance(area: &AreaInputs<'_>, vertex: &HintedVertex) -> Option<u32>
     ensures value { result ≡ distance_at area.now vertex.now }
     ensures bounded { IfSome result (λ distance. distance < most_distance) }
 {
@@ -313,7 +313,7 @@ fn distance(area: &AreaInputs<'_>, vertex: &Placed) -> Option<u32>
 }
 
 // The next hops of a vertex of the area.
-fn hops<'a>(area: &AreaInputs<'a>, vertex: &Placed) -> &'a [NextHop]
+fn hops<'a>(area: &AreaInputs<'a>, vertex: &HintedVertex) -> &'a [NextHop]
     ensures { result.now ≡ hops_at area.now vertex.now }
 {
     area.tree.hops_at(vertex)

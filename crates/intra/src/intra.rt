@@ -18,14 +18,14 @@ use crate::choose::IndexedInputs;
 use crate::dirty::Dirty;
 use crate::entry::IntraEntry;
 use crate::inputs::{AreaInputs, Inputs, RootedArea};
-use crate::named::Named;
+use crate::affected::Affected;
 use indexmap::map::Slice;
 use lsdb::Database;
 use ospf_types::entry::Entry;
 use ospf_types::key::{Dest, Key, Scope};
 use ospf_types::memory::Memory;
 use ospf_types::prefix::Prefix;
-use path_choice::Reached;
+use path_choice::ReachedRouter;
 use result_map::{ResultMap, add_routers};
 use std::alloc::Global;
 use std::hash::RandomState;
@@ -39,7 +39,7 @@ pub struct Intra {
     areas: Vec<AreaIntra>,
     entries: ResultMap<Prefix, IntraEntry>,
     // Memory for an update.
-    named: Named,
+    named: Affected,
     spent: bool,
 }
 
@@ -62,7 +62,7 @@ impl Model for Intra {
     ghost use Rattle.ospf_types.specs.Vertices.{vertex_code};
     ghost use Rattle.ospf_types.specs.contracts.entry.Entry as entry;
     ghost use Rattle.intra.specs.Indexes.{OfferedByVertex, SourcesByPrefix};
-    ghost use Rattle.intra.specs.Reached.{ReachedByRouter};
+    ghost use Rattle.intra.specs.ReachedRouter.{ReachedByRouter};
     ghost use Rattle.intra.specs.Intras.{IntraValue, EntriesByPrefix};
     ghost use Rattle.intra.specs.contracts.offered.Offer as offer;
     ghost use Rattle.intra.specs.contracts.area_index.Source as source;
@@ -134,11 +134,11 @@ impl Intra {
 
     /// The entry of a network, for a caller that asks for networks in ascending order: it keeps `next` from one to the
     /// next, 0 at first. What the last update answered is read where it was left, and nothing is hashed.
-    pub fn get_next(&self, network: Prefix, next: &mut usize) -> Option<&Entry>
+    pub fn get_with_hint(&self, network: Prefix, next: &mut usize) -> Option<&Entry>
         ensures value { option_copied result ≡ map.get self.now.entries network }
         ensures bounded { IfSome result (λ e. e.now.cost < most_cost) }
     {
-        match self.entries.get_next(network, next) {
+        match self.entries.get_with_hint(network, next) {
             Some(kept) => Some(kept.entry()),
             None => None,
         }
@@ -162,7 +162,7 @@ impl Intra {
     }
 
     /// A border router or AS boundary router that is reached in the area, by its Router ID.
-    pub fn router(&self, area: u32, router: u32) -> Option<&Reached>
+    pub fn router(&self, area: u32, router: u32) -> Option<&ReachedRouter>
         ensures { option_copied result ≡ reached_at self.now.areas area router }
     {
         for kept in &self.areas {
@@ -205,8 +205,8 @@ impl Intra {
         }
         Ok(Intra {
             areas: kept,
-            entries: ResultMap::hashed_by(alloc, hashing),
-            named: Named::new(alloc),
+            entries: ResultMap::with_hasher(alloc, hashing),
+            named: Affected::new(alloc),
             spent: false,
         })
     }
@@ -234,7 +234,7 @@ impl Intra {
 
     // The prefixes that may get another entry, and the routers of which something else is kept in some area; both
     // ascending, each once.
-    fn follow(&mut self, alloc: Global, inputs: &Inputs<'_>, dirty: &Dirty) -> Result<Named, Memory>
+    fn follow(&mut self, alloc: Global, inputs: &Inputs<'_>, dirty: &Dirty) -> Result<Affected, Memory>
         requires ready { AreReady inputs.now }
         requires before { HaveKeptBefore dirty.now inputs.now self.old.areas }
         ensures entries { OnOk result (self.new.entries ≡ self.old.entries) }
@@ -245,7 +245,7 @@ impl Intra {
             named.prefixes.items self.old.areas self.new.areas) }
         ensures routers { IfOk result (NamesOthers inputs.now.areas self.old.areas self.new.areas) }
     {
-        let mut named = mem::replace(&mut self.named, Named::new(alloc));
+        let mut named = mem::replace(&mut self.named, Affected::new(alloc));
         named.clear();
         let areas = self.areas.as_mut_slice();
         follow_areas(areas, inputs, dirty, &mut named)?;
@@ -292,7 +292,7 @@ fn follow_areas(
     areas: &mut [AreaIntra],
     inputs: &Inputs<'_>,
     dirty: &Dirty,
-    named: &mut Named,
+    named: &mut Affected,
 ) -> Result<(), Memory>
     requires ready { AreReady inputs.now }
     requires before { HaveKeptBefore dirty.now inputs.now areas.old }

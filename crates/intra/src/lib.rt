@@ -10,11 +10,11 @@ mod dirty;
 mod entry;
 mod inputs;
 mod intra;
-mod named;
+mod affected;
 mod offered;
 
 pub use dirty::Dirty;
 pub use entry::IntraEntry;
 pub use inputs::{AreaInputs, Inputs};
 pub use intra::Intra;
-pub use path_choice::Reached;
+pub use path_choice::ReachedRouter;

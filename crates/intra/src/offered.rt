@@ -177,7 +177,7 @@ fn stub_offer(link: Link) -> Option<Offer>
 {
     match link.kind {
         LinkKind::Stub => Some(Offer {
-            prefix: Prefix::of_mask(link.id, link.detail),
+            prefix: Prefix::from_mask(link.id, link.detail),
             metric: link.metric,
         }),
         LinkKind::PointToPoint | LinkKind::Transit | LinkKind::Virtual => None,

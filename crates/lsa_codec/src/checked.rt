@@ -165,7 +165,7 @@ impl Checked {
         if !has_network(self.kind()) {
             return None;
         }
-        Some(Prefix::of_mask(
+        Some(Prefix::from_mask(
             BigEndian::read_u32(&self.bytes[4..]),
             BigEndian::read_u32(&self.bytes[20..]),
         ))

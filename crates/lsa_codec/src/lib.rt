@@ -2,7 +2,7 @@
 //! sound and in the grammar for good: a `Checked` is nothing else.
 #![tactic(auto)]
 
-mod body_tests;
+mod body_checks;
 mod checked;
 mod checksum;
 mod fault;

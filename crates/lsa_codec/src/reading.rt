@@ -4,7 +4,7 @@ ghost use Rattle.lsa_codec.specs.Spelling.{Spells};
 ghost use Rattle.lsa_codec.specs.Checksum.{IsSound};
 ghost use Rattle.lsa_codec.specs.Faults.{fault_of, body_fault_of, is_unknown_kind as is_unknown_kind_test, is_other_router as is_other_router_test};
 
-use crate::body_tests::body_findings;
+use crate::body_checks::body_findings;
 use crate::checked::Checked;
 use crate::checksum::is_sound;
 use crate::fault::WireFault;

@@ -5,7 +5,7 @@ ghost use Rattle.lsa_words.specs.Words.{age_line, options_line, type_line, lengt
 
 use crate::fields::{put_address, put_bit, put_bytes, put_hexadecimal};
 use lsa_codec::Header;
-use ospf_types::lsa::{BOUNDARY_SUMMARY_LSA, MAX_AGE, NETWORK_LSA, ROUTER_LSA, SUMMARY_LSA};
+use ospf_types::lsa::{ASBR_SUMMARY_LSA, MAX_AGE, NETWORK_LSA, ROUTER_LSA, SUMMARY_LSA};
 use ospf_types::memory::Memory;
 
 /// All fields of the header.
@@ -67,7 +67,7 @@ fn type_name(kind: u8) -> &'static str
         ROUTER_LSA => "router-LSA",
         NETWORK_LSA => "network-LSA",
         SUMMARY_LSA => "summary-LSA for an IP network",
-        BOUNDARY_SUMMARY_LSA => "summary-LSA for an AS boundary router",
+        ASBR_SUMMARY_LSA => "summary-LSA for an AS boundary router",
         _ => "AS-external-LSA",
     }
 }

@@ -7,7 +7,7 @@ mod header;
 mod network;
 mod router;
 mod summary;
-mod words;
+mod text;
 
 pub use fields::put_hexadecimal;
-pub use words::put_in_words;
+pub use text::put_lsa_text;

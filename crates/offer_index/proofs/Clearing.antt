@@ -5,8 +5,8 @@ use Rattle.std.specs.FinMap as map
 use Rattle.ospf_types.specs.declared.key.Dest.{Dest}
 use Rattle.ospf_types.specs.declared.key.Key.{Key}
 use Rattle.ospf_types.specs.Keys.{key_cmp}
-use Rattle.offer_index.specs.Advertised.{AdvertisedValue}
-use Rattle.offer_index.specs.ChangedOffers.{AreAdded}
+use Rattle.offer_index.specs.AdvertisedRoute.{AdvertisedValue}
+use Rattle.offer_index.specs.AffectedDests.{AreAdded}
 use Rattle.offer_index.specs.Indexes.{OfferIndexValue, ChangedOffersValue, IsTouchedAt, AreTouched}
 use Rattle.offer_index.proofs.Following.{left_or_now, none_left, there_or_not}
 

@@ -6,8 +6,8 @@ use Rattle.ospf_types.specs.declared.key.Dest.{Dest}
 use Rattle.ospf_types.specs.declared.key.Key.{Key}
 use Rattle.ospf_types.proofs.Orders.{key_total, key_exact}
 use Rattle.result_map.proofs.KeyedMaps.{one_or_other}
-use Rattle.offer_index.specs.Advertised.{AdvertisedValue}
-use Rattle.offer_index.specs.ChangedOffers.{AreAdded}
+use Rattle.offer_index.specs.AdvertisedRoute.{AdvertisedValue}
+use Rattle.offer_index.specs.AffectedDests.{AreAdded}
 use Rattle.offer_index.specs.Indexes.{OfferIndexValue, ChangedOffersValue, HasDest, HasForwarding, IsTouchedAt, AreTouched}
 
 -- ---- what one route adds

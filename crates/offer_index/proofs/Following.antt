@@ -12,7 +12,7 @@ use Rattle.ospf_types.proofs.Orders.{key_total, key_exact, scope_total, scope_ex
 use Rattle.result_map.proofs.KeyedMaps.{one_or_other}
 use Rattle.lsdb.specs.Contents.{body_at, IsOrder, contents_of}
 use Rattle.lsdb.specs.Databases.{Database, DatabaseValue}
-use Rattle.offer_index.specs.Advertised.{advertised_at}
+use Rattle.offer_index.specs.AdvertisedRoute.{advertised_at}
 use Rattle.offer_index.specs.Indexes.{OfferIndexValue, ChangedOffersValue, IsIndexOf, LsasDifferAmong, AreTouched}
 use Rattle.offer_index.proofs.Effects.{touched_none, touched_both}
 

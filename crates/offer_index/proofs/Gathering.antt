@@ -12,28 +12,28 @@ use Rattle.std.proofs.lemmas.List.{get_or-map, length-map}
 use Rattle.std.proofs.lemmas.List.Elements.{Contains-append_left, Contains-append_right, Contains-append_cases, Contains-get_or}
 use Rattle.ospf_types.proofs.Elements.{no_element, first_element, later_element, first_or_later, mapped_element, mapped_from}
 use Rattle.ospf_types.proofs.Orders.{key_total}
-use Rattle.offer_index.specs.Advertised.{AdvertisedValue}
+use Rattle.offer_index.specs.AdvertisedRoute.{AdvertisedValue}
 use Rattle.offer_index.specs.Indexes.{AdvertisedByKey, OfferIndexValue, IsOfGroup, IsInGroup, GroupLeadsTo, IsForwardedTo, IsForwardedInto}
-use Rattle.offer_index.specs.declared.lsa_group.LsaGroup.{LsaGroup}
-use Rattle.offer_index.specs.Members.{AreMembersOf}
-use Rattle.offer_index.specs.Noted.{HasKey}
+use Rattle.offer_index.specs.declared.index_key.IndexKey.{IndexKey}
+use Rattle.offer_index.specs.LsasByKey.{AreMembersOf}
+use Rattle.offer_index.specs.KnownKeys.{HasKey}
 use Rattle.offer_index.proofs.Groups.{Member}
 
 -- ---- the members of one group
 
 module _ (routes : AdvertisedByKey) (ms : List Member) (i : OfferIndexValue) (is : record { routes = routes } ≡ i) (are : AreMembersOf routes ms) where
   -- a key of a group stands in it
-  pub listed_there : (group : LsaGroup) (k : Key) → IsInGroup i group k → Contains ms (group, k)
+  pub listed_there : (group : IndexKey) (k : Key) → IsInGroup i group k → Contains ms (group, k)
   listed_there group k in_group = (are (group, k)).1 (in_group.0, ap (λ (j : OfferIndexValue). get j.routes k) is ∙ in_group.1, in_group.2)
 
   -- and only such keys
-  pub listed_of : (group : LsaGroup) (m : Member) → m.0 ≡ group → Contains ms m → IsInGroup i group m.1
+  pub listed_of : (group : IndexKey) (m : Member) → m.0 ≡ group → Contains ms m → IsInGroup i group m.1
   listed_of group m at c =
       let of = (are m).0 c in
-      (of.0, ap (λ (j : OfferIndexValue). get j.routes m.1) (sym is) ∙ of.1, subst (λ (g : LsaGroup). IsOfGroup g m.1 of.0) at of.2)
+      (of.0, ap (λ (j : OfferIndexValue). get j.routes m.1) (sym is) ∙ of.1, subst (λ (g : IndexKey). IsOfGroup g m.1 of.0) at of.2)
 
   -- some key of a group
-  pub some_listed : (group : LsaGroup) → HasKey ms group ↔ ((k : Key) × IsInGroup i group k)
+  pub some_listed : (group : IndexKey) → HasKey ms group ↔ ((k : Key) × IsInGroup i group k)
   some_listed group = (λ has. (has.0, listed_of group (group, has.0) refl has.1), λ w. (w.0, listed_there group w.0 w.1))
 
 -- where there are no routes, none stands anywhere
@@ -83,7 +83,7 @@ module _ {X : Type 0} (R : Key → X → Type 0) where
   )
 
 -- in one group no key stands twice
-pub keys_apart : (group : LsaGroup) (all : List Member) → ((m : Member) → Contains all m → m.0 ≡ group) → AllPairs (λ m n. m ≢ n) all → AllPairs (λ j k. j ≢ k) (map (λ (m : Member). m.1) all)
+pub keys_apart : (group : IndexKey) (all : List Member) → ((m : Member) → Contains all m → m.0 ≡ group) → AllPairs (λ m n. m ≢ n) all → AllPairs (λ j k. j ≢ k) (map (λ (m : Member). m.1) all)
 keys_apart group all in_group apart a b d lt within =
     let long = length-map all (λ (m : Member). m.1) in
     let at : (n : ℕ) → n < length all → get_or (map (λ (m : Member). m.1) all) n d ≡ (get_or all n (group, d)).1 = λ n lt. get_or-map (λ (m : Member). m.1) all n (group, d) d lt in
@@ -102,7 +102,7 @@ module _ (i : OfferIndexValue) where
   GivesDest key dest = (a : AdvertisedValue) × (get i.routes key ≡ Some a) × (a.dest ≡ dest)
 
   -- all members of the group, and no others
-  module _ (group : LsaGroup) (all : List Member) (there : (k : Key) → IsInGroup i group k → Contains all (group, k)) (only : (m : Member) → Contains all m → IsInGroup i group m.1) where
+  module _ (group : IndexKey) (all : List Member) (there : (k : Key) → IsInGroup i group k → Contains all (group, k)) (only : (m : Member) → Contains all m → IsInGroup i group m.1) where
     abbrev pub keys_in : List Member → List Key
     keys_in ms = map (λ (m : Member). m.1) ms
 

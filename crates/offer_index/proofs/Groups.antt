@@ -8,13 +8,13 @@ use Rattle.ospf_types.specs.declared.key.Key.{Key}
 use Rattle.ospf_types.specs.Keys.{key_cmp}
 use Rattle.ospf_types.proofs.DerivedOrders.{dest_cmp_is}
 use Rattle.ospf_types.proofs.Orders.{dest_total, dest_exact, key_total, key_exact}
-use Rattle.offer_index.specs.declared.lsa_group.LsaGroup.{LsaGroup}
-use Rattle.offer_index.specs.declared.lsa_group.LsaGroup.TheVariants.{To, By, Forwarded}
-use Rattle.offer_index.specs.contracts.lsa_group.LsaGroupOrd.TheImpl as group_order
-use Rattle.offer_index.specs.Members.{group_cmp, IsNotAfter}
+use Rattle.offer_index.specs.declared.index_key.IndexKey.{IndexKey}
+use Rattle.offer_index.specs.declared.index_key.IndexKey.TheVariants.{To, By, Forwarded}
+use Rattle.offer_index.specs.contracts.index_key.IndexKeyOrd.TheImpl as group_order
+use Rattle.offer_index.specs.LsasByKey.{group_cmp, IsNotAfter}
 
 abbrev pub Member : Type 0
-Member = LsaGroup × Key
+Member = IndexKey × Key
 
 abbrev pub member_cmp : Member → Member → Ordering
 member_cmp a b = ordering_then (group_cmp a.0 b.0) (key_cmp a.1 b.1)
@@ -25,7 +25,7 @@ derived_cmp a b = ordering_then (group_order.ghosts.cmp a.0 b.0) (key_cmp a.1 b.
 
 -- ---- the derived orders are these
 
-group_order_at : (g h : LsaGroup) → group_order.ghosts.cmp g h ≡ group_cmp g h
+group_order_at : (g h : IndexKey) → group_order.ghosts.cmp g h ≡ group_cmp g h
 group_order_at (To d) (To e) = λ i. dest_cmp_is i d e
 group_order_at (To d) (By s) = refl
 group_order_at (To d) (Forwarded b) = refl
@@ -60,7 +60,7 @@ derived_exact = subst (λ (R : Member → Member → Ordering). CmpEqualImpliesE
 
 -- ---- the order of groups, turned round
 
-pub group_turned : (g h : LsaGroup) → group_cmp g h ≡ ordering_reverse (group_cmp h g)
+pub group_turned : (g h : IndexKey) → group_cmp g h ≡ ordering_reverse (group_cmp h g)
 group_turned (To d) (To e) = dest_total.antisymm d e
 group_turned (To d) (By s) = refl
 group_turned (To d) (Forwarded b) = refl
@@ -77,7 +77,7 @@ own_turn Equal e = refl
 own_turn Greater e = absurd cc
 
 -- a group is not after itself
-pub not_after_itself : (g : LsaGroup) → IsNotAfter g g
+pub not_after_itself : (g : IndexKey) → IsNotAfter g g
 not_after_itself g = own_turn (group_cmp g g) (group_turned g g)
 
 -- a member ties with itself
@@ -101,7 +101,7 @@ level Less le turned = absurd cc
 level Equal le turned = refl
 level Greater le turned = absurd cc
 
-pub neither_after : (g h : LsaGroup) → IsNotAfter g h → IsNotAfter h g → h ≡ g
+pub neither_after : (g h : IndexKey) → IsNotAfter g h → IsNotAfter h g → h ≡ g
 neither_after g h one other = group_exact h g (level (group_cmp h g) other (sym (ap is_le (group_turned g h)) ∙ one))
 
 -- addresses are in the order of their numbers

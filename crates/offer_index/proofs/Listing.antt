@@ -5,30 +5,30 @@ use Rattle.std.specs.FinMap.{get}
 use Rattle.ospf_types.specs.declared.key.Key.{Key}
 use Rattle.ospf_types.proofs.Orders.{key_total, key_exact}
 use Rattle.result_map.proofs.KeyedMaps.{one_or_other}
-use Rattle.offer_index.specs.Advertised.{AdvertisedValue}
+use Rattle.offer_index.specs.AdvertisedRoute.{AdvertisedValue}
 use Rattle.offer_index.specs.Indexes.{AdvertisedByKey, IsOfGroup}
-use Rattle.offer_index.specs.declared.lsa_group.LsaGroup.{LsaGroup}
-use Rattle.offer_index.specs.declared.lsa_group.LsaGroup.TheVariants.{To, By, Forwarded}
-use Rattle.offer_index.specs.Members.{IsOf, IsMemberBy, AreMembersOf}
+use Rattle.offer_index.specs.declared.index_key.IndexKey.{IndexKey}
+use Rattle.offer_index.specs.declared.index_key.IndexKey.TheVariants.{To, By, Forwarded}
+use Rattle.offer_index.specs.LsasByKey.{IsOf, IsMemberBy, AreMembersOf}
 use Rattle.offer_index.proofs.Groups.{Member}
 
 -- what holds of the groups of a route
-each_group : (P : LsaGroup → Type 0) (k : Key) (a : AdvertisedValue) → P (To a.dest) → P (By k.router) → (0 < a.forwarding → P (Forwarded a.forwarding)) → (g : LsaGroup) → IsOfGroup g k a → P g
+each_group : (P : IndexKey → Type 0) (k : Key) (a : AdvertisedValue) → P (To a.dest) → P (By k.router) → (0 < a.forwarding → P (Forwarded a.forwarding)) → (g : IndexKey) → IsOfGroup g k a → P g
 each_group P k a to by forwarded (To d) is = subst (λ d. P (To d)) is to
 each_group P k a to by forwarded (By r) is = subst (λ r. P (By r)) is by
 each_group P k a to by forwarded (Forwarded n) is = subst (λ n. P (Forwarded n)) is.1 (forwarded (subst (λ n. 0 < n) (sym is.1) is.0))
 
 module _ (k : Key) (o : Option AdvertisedValue) where
-  pub member_at : (g : LsaGroup) → IsOf o k g → (m : Member) → m ≡ (g, k) → IsMemberBy o k m
+  pub member_at : (g : IndexKey) → IsOf o k g → (m : Member) → m ≡ (g, k) → IsMemberBy o k m
   member_at g of m at = subst (IsMemberBy o k) (sym at) (refl, of)
 
   -- one more member by the route
-  pub come_by : (first mid now : List Member) (g : LsaGroup) → IsOf o k g → ((m : Member) → Contains now m → Contains mid m ⊎ (m ≡ (g, k))) → ((m : Member) → Contains mid m → Contains first m ⊎ IsMemberBy o k m)
+  pub come_by : (first mid now : List Member) (g : IndexKey) → IsOf o k g → ((m : Member) → Contains now m → Contains mid m ⊎ (m ≡ (g, k))) → ((m : Member) → Contains mid m → Contains first m ⊎ IsMemberBy o k m)
       → (m : Member) → Contains now m → Contains first m ⊎ IsMemberBy o k m
   come_by first mid now g of step so_far m c = elim (step m c) [ inl was ↦ so_far m was | inr at ↦ inr (member_at g of m at) ]
 
   module _ (a : AdvertisedValue) (is : o ≡ Some a) where
-    pub of_each : (P : LsaGroup → Type 0) → P (To a.dest) → P (By k.router) → (0 < a.forwarding → P (Forwarded a.forwarding)) → (g : LsaGroup) → IsOf o k g → P g
+    pub of_each : (P : IndexKey → Type 0) → P (To a.dest) → P (By k.router) → (0 < a.forwarding → P (Forwarded a.forwarding)) → (g : IndexKey) → IsOf o k g → P g
     of_each P to by forwarded g of =
         let both : Some a ≡ Some of.0 = sym is ∙ of.1 in
         let same : a ≡ of.0 = cc in
@@ -44,7 +44,7 @@ module _ (k : Key) (o : Option AdvertisedValue) where
         → (0 < a.forwarding → m ≡ (Forwarded a.forwarding, k) → IsOf stays k (Forwarded a.forwarding)) → IsMemberBy o k m → IsMemberBy stays k m
     stays_in_each stays m to by forwarded by_route = (by_route.0, of_each (λ g. m ≡ (g, k) → IsOf stays k g) to by forwarded m.0 by_route.1 (λ i. (m.0, by_route.0 i)))
 
-  pub stays_at : (stays : Option AdvertisedValue) (g : LsaGroup) → IsOf o k g → (m : Member) → (IsMemberBy o k m → IsMemberBy stays k m) → m ≡ (g, k) → IsOf stays k g
+  pub stays_at : (stays : Option AdvertisedValue) (g : IndexKey) → IsOf o k g → (m : Member) → (IsMemberBy o k m → IsMemberBy stays k m) → m ≡ (g, k) → IsOf stays k g
   stays_at stays g of m both at = subst (IsOf stays k) (ap (λ (n : Member). n.0) at) (both (member_at g of m at)).1
 
 -- ---- another route under one key

@@ -19,8 +19,8 @@ use Rattle.std.proofs.lemmas.Map.Views.{tells_apart}
 use Rattle.ospf_types.specs.declared.key.Key.{Key}
 use Rattle.ospf_types.specs.Keys.{key_cmp}
 use Rattle.ospf_types.proofs.Elements.{no_element, first_element, later_element, first_or_later}
-use Rattle.offer_index.specs.declared.lsa_group.LsaGroup.{LsaGroup}
-use Rattle.offer_index.specs.Members.{group_cmp, IsNotAfter, HasSmallKey}
+use Rattle.offer_index.specs.declared.index_key.IndexKey.{IndexKey}
+use Rattle.offer_index.specs.LsasByKey.{group_cmp, IsNotAfter, HasSmallKey}
 use Rattle.offer_index.proofs.Groups.{Member, member_cmp, derived_cmp, derived_cmp_is, group_turned}
 
 module _ {K : Type 0} where
@@ -119,7 +119,7 @@ first_key = record { kind = 0; id = 0; router = 0 }
 abbrev pub last_key : Key
 last_key = record { kind = 255; id = 4294967295; router = 4294967295 }
 
-abbrev pub at_key : Key → LsaGroup → Member
+abbrev pub at_key : Key → IndexKey → Member
 at_key key group = (group, key)
 
 from_first : (k : Key) → is_le (key_cmp first_key k) ≡ true
@@ -158,7 +158,7 @@ from_both true true both = absurd cc
 from_both true false both = (refl, refl)
 from_both false b both = absurd cc
 
-is_between : (first last : LsaGroup) (m : Member) → HasSmallKey m → IsNotAfter first m.0 → IsNotAfter m.0 last
+is_between : (first last : IndexKey) (m : Member) → HasSmallKey m → IsNotAfter first m.0 → IsNotAfter m.0 last
     → range_contains member_cmp (Included (at_key first_key first)) (Included (at_key last_key last)) m ≡ true
 is_between first last m small after before =
     let past : is_lt (member_cmp (at_key last_key last) m) ≡ false =
@@ -170,7 +170,7 @@ is_between first last m small after before =
 abbrev pub within : Member → Member → Member → Bool
 within lo hi m = range_contains derived_cmp (Included lo) (Included hi) m
 
-pub ranged : (ms : List Member) → All HasSmallKey ms → (first last : LsaGroup) (lo hi : Member) → lo ≡ at_key first_key first → hi ≡ at_key last_key last
+pub ranged : (ms : List Member) → All HasSmallKey ms → (first last : IndexKey) (lo hi : Member) → lo ≡ at_key first_key first → hi ≡ at_key last_key last
     → (m : Member) → Contains ms m → IsNotAfter first m.0 → IsNotAfter m.0 last → Contains (filter (within lo hi) ms) m
 ranged ms small first last lo hi lo_is hi_is m c after before =
     let here = is_between first last m (All-contains HasSmallKey ms m small c) after before in
@@ -178,14 +178,14 @@ ranged ms small first last lo hi lo_is hi_is m c after before =
     picked (within lo hi) ms m c passes
 
 -- what the range has is a member of a group between the two
-was_between : (first last : LsaGroup) (m : Member) → range_contains member_cmp (Included (at_key first_key first)) (Included (at_key last_key last)) m ≡ true → IsNotAfter first m.0 × IsNotAfter m.0 last
+was_between : (first last : IndexKey) (m : Member) → range_contains member_cmp (Included (at_key first_key first)) (Included (at_key last_key last)) m ≡ true → IsNotAfter first m.0 × IsNotAfter m.0 last
 was_between first last m in_range =
     let parts = from_both (is_le (member_cmp (at_key first_key first) m)) (is_lt (member_cmp (at_key last_key last) m)) in_range in (
       from_le (group_cmp first m.0) (key_cmp first_key m.1) parts.0,
       from_not_past (group_cmp m.0 last) (key_cmp last_key m.1) (sym (ap (λ o. is_lt (ordering_then o (key_cmp last_key m.1))) (group_turned last m.0)) ∙ parts.1),
     )
 
-pub ranged_from : (ms : List Member) (first last : LsaGroup) (lo hi : Member) → lo ≡ at_key first_key first → hi ≡ at_key last_key last
+pub ranged_from : (ms : List Member) (first last : IndexKey) (lo hi : Member) → lo ≡ at_key first_key first → hi ≡ at_key last_key last
     → (m : Member) → Contains (filter (within lo hi) ms) m → Contains ms m × IsNotAfter first m.0 × IsNotAfter m.0 last
 ranged_from ms first last lo hi lo_is hi_is m c =
     let found = picked_from (within lo hi) ms m c in

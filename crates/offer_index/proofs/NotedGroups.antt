@@ -8,34 +8,34 @@ use Rattle.std.proofs.lemmas.Map.Views.{tells_apart}
 use Rattle.ospf_types.specs.declared.key.Dest.{Dest}
 use Rattle.ospf_types.specs.declared.key.Key.{Key}
 use Rattle.ospf_types.proofs.Elements.{no_element, first_element}
-use Rattle.offer_index.specs.declared.lsa_group.LsaGroup.{LsaGroup}
-use Rattle.offer_index.specs.declared.lsa_group.LsaGroup.TheVariants.{To, By, Forwarded}
-use Rattle.offer_index.specs.declared.noted.Noted.{Noted}
-use Rattle.offer_index.specs.Noted.{IsNotable, IsNoted, HasKey, AreNoted, AreNotedBut}
+use Rattle.offer_index.specs.declared.index_key.IndexKey.{IndexKey}
+use Rattle.offer_index.specs.declared.index_key.IndexKey.TheVariants.{To, By, Forwarded}
+use Rattle.offer_index.specs.declared.known_keys.KnownKeys.{KnownKeys}
+use Rattle.offer_index.specs.KnownKeys.{IsNotable, IsNoted, HasKey, AreNoted, AreNotedBut}
 use Rattle.offer_index.proofs.Groups.{Member, derived_cmp, derived_exact, derived_ties}
 use Rattle.offer_index.proofs.MemberLists.{both, from_both}
 
-module _ (old new : Noted) where
-  pub kept_each : ((d : Dest) → Contains old.dests.keys d → Contains new.dests.keys d) → ((a : ℕ) → Contains old.addresses.keys a → Contains new.addresses.keys a) → (g : LsaGroup) → IsNoted old g → IsNoted new g
+module _ (old new : KnownKeys) where
+  pub kept_each : ((d : Dest) → Contains old.dests.keys d → Contains new.dests.keys d) → ((a : ℕ) → Contains old.addresses.keys a → Contains new.addresses.keys a) → (g : IndexKey) → IsNoted old g → IsNoted new g
   kept_each dests addresses (To d) c = dests d c
   kept_each dests addresses (By r) c = absurd c
   kept_each dests addresses (Forwarded a) c = addresses a c
 
-  module _ (group : LsaGroup) where
+  module _ (group : IndexKey) where
     pub only_each : ((d : Dest) → Contains new.dests.keys d → Contains old.dests.keys d ⊎ (To d ≡ group)) → ((a : ℕ) → Contains new.addresses.keys a → Contains old.addresses.keys a ⊎ (Forwarded a ≡ group))
-        → (g : LsaGroup) → IsNoted new g → IsNoted old g ⊎ (g ≡ group)
+        → (g : IndexKey) → IsNoted new g → IsNoted old g ⊎ (g ≡ group)
     only_each dests addresses (To d) c = dests d c
     only_each dests addresses (By r) c = absurd c
     only_each dests addresses (Forwarded a) c = addresses a c
 
     pub left_each : ((d : Dest) → Contains old.dests.keys d → To d ≢ group → Contains new.dests.keys d) → ((a : ℕ) → Contains old.addresses.keys a → Forwarded a ≢ group → Contains new.addresses.keys a)
-        → (g : LsaGroup) → IsNoted old g → g ≢ group → IsNoted new g
+        → (g : IndexKey) → IsNoted old g → g ≢ group → IsNoted new g
     left_each dests addresses (To d) c other = dests d c other
     left_each dests addresses (By r) c other = absurd c
     left_each dests addresses (Forwarded a) c other = addresses a c other
 
 -- none
-pub none_noted : (n : Noted) → n.dests.keys ≡ [] → n.addresses.keys ≡ [] → (g : LsaGroup) → IsNoted n g → ⊥
+pub none_noted : (n : KnownKeys) → n.dests.keys ≡ [] → n.addresses.keys ≡ [] → (g : IndexKey) → IsNoted n g → ⊥
 none_noted n dests addresses (To d) c = no_element d (subst (λ (ds : List Dest). Contains ds d) dests c)
 none_noted n dests addresses (By r) c = c
 none_noted n dests addresses (Forwarded a) c = no_element a (subst (λ (ns : List ℕ). Contains ns a) addresses c)
@@ -66,21 +66,21 @@ module _ (lo hi a : ℕ) where
 -- ---- which groups have a key
 
 -- what is noted is a group that can be
-pub notable : (n : Noted) (g : LsaGroup) → IsNoted n g → IsNotable g
+pub notable : (n : KnownKeys) (g : IndexKey) → IsNoted n g → IsNotable g
 notable n (To d) c = tt
 notable n (By r) c = absurd c
 notable n (Forwarded a) c = tt
 
 -- where no key stands
-pub none_there : (ms : List Member) (n : Noted) → ms ≡ [] → ((g : LsaGroup) → IsNoted n g → ⊥) → AreNoted ms n
+pub none_there : (ms : List Member) (n : KnownKeys) → ms ≡ [] → ((g : IndexKey) → IsNoted n g → ⊥) → AreNoted ms n
 none_there ms n none nothing g can = (λ noted. absurd (nothing g noted), λ has. absurd (no_element (g, has.0) (subst (λ (ns : List Member). Contains ns (g, has.0)) none has.1)))
 
 -- the same groups are noted
-pub same_noted : (ms : List Member) (n m : Noted) → AreNoted ms n → ((g : LsaGroup) → IsNoted n g → IsNoted m g) → ((g : LsaGroup) → IsNoted m g → IsNoted n g) → AreNoted ms m
+pub same_noted : (ms : List Member) (n m : KnownKeys) → AreNoted ms n → ((g : IndexKey) → IsNoted n g → IsNoted m g) → ((g : IndexKey) → IsNoted m g → IsNoted n g) → AreNoted ms m
 same_noted ms n m are kept only g can = (λ noted. (are g can).0 (only g noted), λ has. kept g ((are g can).1 has))
 
-module _ (old new : List Member) (n m : Noted) (group : LsaGroup) (key : Key) (are : AreNoted old n) where
-  module _ (kept : (g : LsaGroup) → IsNoted n g → IsNoted m g) (only : (g : LsaGroup) → IsNoted m g → IsNoted n g ⊎ (g ≡ group)) where
+module _ (old new : List Member) (n m : KnownKeys) (group : IndexKey) (key : Key) (are : AreNoted old n) where
+  module _ (kept : (g : IndexKey) → IsNoted n g → IsNoted m g) (only : (g : IndexKey) → IsNoted m g → IsNoted n g ⊎ (g ≡ group)) where
     -- the group is noted, and may have no key yet
     pub noted_ahead : AreNotedBut group old m
     noted_ahead = record {
@@ -93,7 +93,7 @@ module _ (old new : List Member) (n m : Noted) (group : LsaGroup) (key : Key) (a
     noted_with noted stays came there g can = (
       λ is_noted. elim (only g is_noted) [
         | inl was ↦ let has = (are g can).0 was in (has.0, stays (g, has.0) has.1)
-        | inr is ↦ (key, subst (λ (h : LsaGroup). Contains new (h, key)) (sym is) there)
+        | inr is ↦ (key, subst (λ (h : IndexKey). Contains new (h, key)) (sym is) there)
       ],
       λ has. elim (came (g, has.0) has.1) [
         | inl was ↦ kept g ((are g can).1 (has.0, was))
@@ -119,7 +119,7 @@ module _ (old new : List Member) (n m : Noted) (group : LsaGroup) (key : Key) (a
         ] refl;
   }
 
-module _ (ms : List Member) (n : Noted) (group : LsaGroup) (but : AreNotedBut group ms n) where
+module _ (ms : List Member) (n : KnownKeys) (group : IndexKey) (but : AreNotedBut group ms n) where
   -- the group has a key
   pub noted_right : HasKey ms group → AreNoted ms n
   noted_right has g can = (
@@ -128,18 +128,18 @@ module _ (ms : List Member) (n : Noted) (group : LsaGroup) (but : AreNotedBut gr
   )
 
   -- the group has none, and is forgotten
-  pub noted_gone : (m : Noted) → (HasKey ms group → ⊥) → (IsNoted m group → ⊥) → ((g : LsaGroup) → IsNoted m g → IsNoted n g) → ((g : LsaGroup) → IsNoted n g → g ≢ group → IsNoted m g) → AreNoted ms m
+  pub noted_gone : (m : KnownKeys) → (HasKey ms group → ⊥) → (IsNoted m group → ⊥) → ((g : IndexKey) → IsNoted m g → IsNoted n g) → ((g : IndexKey) → IsNoted n g → g ≢ group → IsNoted m g) → AreNoted ms m
   noted_gone m none gone only kept g can = (
     λ noted. elim (but.only g (only g noted)) [ inl there ↦ there | inr is ↦ absurd (gone (subst (IsNoted m) is noted)) ],
     λ there. kept g (but.all g can there) (λ is. none (subst (HasKey ms) is there)),
   )
 
 -- what is noted of the keys, seen otherwise
-pub noted_just : (ms ns : List Member) (n : Noted) → AreNoted ms n → ms ≡ ns → (g : LsaGroup) → IsNotable g → IsNoted n g ↔ HasKey ns g
+pub noted_just : (ms ns : List Member) (n : KnownKeys) → AreNoted ms n → ms ≡ ns → (g : IndexKey) → IsNotable g → IsNoted n g ↔ HasKey ns g
 noted_just ms ns n are is g can = subst (λ (ks : List Member). IsNoted n g ↔ HasKey ks g) is (are g can)
 
 -- the addresses whose groups have a key
-pub addresses_just : (ms ns : List Member) (n : Noted) → AreNoted ms n → ms ≡ ns → (some : Bool) → IsTrue some ↔ ((a : ℕ) × IsNoted n (Forwarded a)) → IsTrue some ↔ ((a : ℕ) × HasKey ns (Forwarded a))
+pub addresses_just : (ms ns : List Member) (n : KnownKeys) → AreNoted ms n → ms ≡ ns → (some : Bool) → IsTrue some ↔ ((a : ℕ) × IsNoted n (Forwarded a)) → IsTrue some ↔ ((a : ℕ) × HasKey ns (Forwarded a))
 addresses_just ms ns n are is some of = (
   λ yes. let w = of.0 yes in (w.0, (noted_just ms ns n are is (Forwarded w.0) tt).0 w.1),
   λ w. of.1 (w.0, (noted_just ms ns n are is (Forwarded w.0) tt).1 w.1),

@@ -9,9 +9,9 @@ use Rattle.ospf_types.specs.Address.{HasAddress}
 use Rattle.ospf_types.specs.Keys.{key_cmp}
 use Rattle.lsdb.specs.Contents.{body_at}
 use Rattle.lsdb.specs.Databases.{Database}
-use Rattle.offer_index.specs.Advertised.{AdvertisedValue, advertised_at}
-use Rattle.offer_index.specs.declared.lsa_group.LsaGroup.{LsaGroup}
-use Rattle.offer_index.specs.declared.lsa_group.LsaGroup.TheVariants.{To, By, Forwarded}
+use Rattle.offer_index.specs.AdvertisedRoute.{AdvertisedValue, advertised_at}
+use Rattle.offer_index.specs.declared.index_key.IndexKey.{IndexKey}
+use Rattle.offer_index.specs.declared.index_key.IndexKey.TheVariants.{To, By, Forwarded}
 
 abbrev pub AdvertisedByKey : Type 0
 AdvertisedByKey = FinMap key_cmp AdvertisedValue
@@ -48,17 +48,17 @@ abbrev pub IsIndexBehind : ℕ → Scope → List (Scope × Key) → Database �
 IsIndexBehind root scope keys d i = (before : Database) × IsIndexOf root scope before i × LsasDifferAmong keys scope before d
 
 -- what is advertised under the key leads to the destination, or is by the router, or has the forwarding address
-abbrev pub IsOfGroup : LsaGroup → Key → AdvertisedValue → Type 0
+abbrev pub IsOfGroup : IndexKey → Key → AdvertisedValue → Type 0
 IsOfGroup (To dest) k a = a.dest ≡ dest
 IsOfGroup (By router) k a = k.router ≡ router
 IsOfGroup (Forwarded address) k a = (0 < address) × (a.forwarding ≡ address)
 
 -- the key is one of the group
-abbrev pub IsInGroup : OfferIndexValue → LsaGroup → Key → Type 0
+abbrev pub IsInGroup : OfferIndexValue → IndexKey → Key → Type 0
 IsInGroup i group k = (a : AdvertisedValue) × (get i.routes k ≡ Some a) × IsOfGroup group k a
 
 -- a member of the group leads to the destination
-abbrev pub GroupLeadsTo : OfferIndexValue → LsaGroup → Dest → Type 0
+abbrev pub GroupLeadsTo : OfferIndexValue → IndexKey → Dest → Type 0
 GroupLeadsTo i group dest = (k : Key) × (a : AdvertisedValue) × (get i.routes k ≡ Some a) × IsOfGroup group k a × (a.dest ≡ dest)
 
 -- something is advertised to the destination

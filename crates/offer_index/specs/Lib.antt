@@ -1,8 +1,8 @@
 pub mod Lists
-pub mod Advertised
+pub mod AdvertisedRoute
 pub mod Indexes
-pub mod ChangedOffers
-pub mod Members
-pub mod Noted
-pub mod Marks
-pub mod Coarse
+pub mod AffectedDests
+pub mod LsasByKey
+pub mod KnownKeys
+pub mod BloomFilter
+pub mod IndexFilter

@@ -3,10 +3,10 @@ ghost use Rattle.std.specs.Prelude.{◌≡◌, ◌<◌, ◌↔◌, false, IsTrue
 ghost use Rattle.ospf_types.specs.Inter.{LSInfinity};
 ghost use Rattle.ospf_types.specs.Lsa.{key_of};
 ghost use Rattle.lsdb.specs.Contents.{body_at};
-ghost use Rattle.offer_index.specs.Advertised.{route_to, unless_useless, summarized as summarized_by, externalized as externalized_by, advertised_at};
+ghost use Rattle.offer_index.specs.AdvertisedRoute.{route_to, unless_useless, summarized as summarized_by, externalized as externalized_by, advertised_at};
 ghost use Rattle.offer_index.specs.Indexes.{IsOfGroup};
 
-use crate::lsa_group::LsaGroup;
+use crate::index_key::IndexKey;
 use lsa_codec::Checked;
 use lsdb::Database;
 use ospf_types::key::{Dest, Key, Scope};
@@ -22,17 +22,17 @@ const NO_EXTERNAL: External = External {
 
 /// A destination that an LSA advertises at a metric, and of an external one its type and its forwarding address.
 #[derive(Clone, Copy, Debug, PartialEq, Eq)]
-pub struct Advertised {
+pub struct AdvertisedRoute {
     dest: Dest,
     metric: u32,
     is_type_2: bool,
     forwarding: u32,
 }
 
-impl Model for Advertised {
+impl Model for AdvertisedRoute {
     ghost use Rattle.std.specs.Prelude.{◌<◌};
     ghost use Rattle.ospf_types.specs.Inter.{LSInfinity};
-    ghost use Rattle.offer_index.specs.Advertised.{AdvertisedValue};
+    ghost use Rattle.offer_index.specs.AdvertisedRoute.{AdvertisedValue};
 
     ghost Value = { AdvertisedValue };
 
@@ -43,7 +43,7 @@ impl Model for Advertised {
     ghost inverse = { λ a. record { dest = a.dest; metric = a.metric; is_type_2 = a.is_type_2; forwarding = a.forwarding } };
 }
 
-impl Advertised {
+impl AdvertisedRoute {
     pub fn dest(self) -> Dest
         ensures { result ≡ self.dest }
     {
@@ -73,13 +73,13 @@ impl Advertised {
     }
 
     // Whether the route is one of the group.
-    pub(crate) fn is_of(self, group: &LsaGroup, key: Key) -> bool
+    pub(crate) fn is_of(self, group: &IndexKey, key: Key) -> bool
         ensures { IsTrue result ↔ IsOfGroup group.now key self }
     {
         match *group {
-            LsaGroup::To(dest) => self.dest == dest,
-            LsaGroup::By(router) => key.router == router,
-            LsaGroup::Forwarded(address) => address != 0 && self.forwarding == address,
+            IndexKey::To(dest) => self.dest == dest,
+            IndexKey::By(router) => key.router == router,
+            IndexKey::Forwarded(address) => address != 0 && self.forwarding == address,
         }
     }
 }
@@ -95,7 +95,7 @@ pub struct ScopeDatabase<'a> {
 
 impl ScopeDatabase<'_> {
     /// What is advertised under the key: in an area by summary-LSAs, in the AS by AS-external-LSAs (RFC 2328, 16.2 and 16.4).
-    pub(crate) fn advertised_under(self, key: Key) -> Option<Advertised>
+    pub(crate) fn advertised_under(self, key: Key) -> Option<AdvertisedRoute>
         ensures { result ≡ advertised_at self.entry.root self.entry.scope key
             (body_at self.entry.database.now.lsas key) }
     {
@@ -117,7 +117,7 @@ struct LsaRoute {
 }
 
 // What a summary-LSA advertises: nothing for the root itself.
-fn summarized(root: u32, key: Key, lsa: &Checked) -> Option<Advertised>
+fn summarized(root: u32, key: Key, lsa: &Checked) -> Option<AdvertisedRoute>
     requires { key_of lsa.now ≡ key }
     ensures { result ≡ summarized_by root key lsa.now.body }
 {
@@ -147,7 +147,7 @@ fn summary_route(dest: Dest, metric: u32) -> LsaRoute
 }
 
 // What an AS-external-LSA advertises.
-fn externalized(root: u32, key: Key, lsa: &Checked) -> Option<Advertised>
+fn externalized(root: u32, key: Key, lsa: &Checked) -> Option<AdvertisedRoute>
     requires { key_of lsa.now ≡ key }
     ensures { result ≡ externalized_by root key lsa.now.body }
 {
@@ -164,7 +164,7 @@ fn externalized(root: u32, key: Key, lsa: &Checked) -> Option<Advertised>
 }
 
 // The route, unless it is the root's own or not below LSInfinity.
-fn offer(root: u32, key: Key, route: LsaRoute) -> Option<Advertised>
+fn offer(root: u32, key: Key, route: LsaRoute) -> Option<AdvertisedRoute>
     ensures { result ≡ unless_useless root key route.metric
         (route_to route.dest route.metric route.external.is_type_2 route.external.forwarding) }
 {
@@ -172,7 +172,7 @@ fn offer(root: u32, key: Key, route: LsaRoute) -> Option<Advertised>
     if key.router == root || route.metric >= LS_INFINITY {
         return None;
     }
-    Some(Advertised {
+    Some(AdvertisedRoute {
         dest: route.dest,
         metric: route.metric,
         is_type_2: route.external.is_type_2,
@@ -180,8 +180,8 @@ fn offer(root: u32, key: Key, route: LsaRoute) -> Option<Advertised>
     })
 }
 
-impl Same for Advertised {
-    fn is_same(&self, other: &Advertised) -> bool {
+impl Same for AdvertisedRoute {
+    fn is_same(&self, other: &AdvertisedRoute) -> bool {
         *self == *other
     }
 }

@@ -4,16 +4,16 @@ ghost use Rattle.std.specs.FinMap as map;
 ghost use Rattle.ospf_types.specs.declared.key.Key.{Key as KeyValue};
 ghost use Rattle.ospf_types.specs.Address.{HasAddress};
 ghost use Rattle.ospf_types.specs.Keys.{key_cmp};
-ghost use Rattle.offer_index.specs.declared.lsa_group.LsaGroup.TheVariants as group_value;
+ghost use Rattle.offer_index.specs.declared.index_key.IndexKey.TheVariants as group_value;
 ghost use Rattle.offer_index.specs.Indexes.{empty_index, IsTakenAt, IsAlikeAt, AreAlikeBut, IsIndexOf, IsIndexBehind, IsInGroup, IsLedTo, GroupLeadsTo, IsForwardedTo, IsForwardedInto, HasDest, AreTouched};
 ghost use Rattle.offer_index.specs.Lists.{HasMore, HasMoreOnce, KeepsAll, HasAll, HasAtMost};
-ghost use Rattle.offer_index.specs.Members.{IsMemberBy, AreRoutesAlikeBut};
+ghost use Rattle.offer_index.specs.LsasByKey.{IsMemberBy, AreRoutesAlikeBut};
 ghost use Rattle.result_map.specs.Results.{result_at};
 
-use crate::advertised::{Advertised, ScopeDatabase};
-use crate::changed_offers::ChangedOffers;
-use crate::lsa_group::LsaGroup;
-use crate::members::Members;
+use crate::advertised::{AdvertisedRoute, ScopeDatabase};
+use crate::affected_dests::AffectedDests;
+use crate::index_key::IndexKey;
+use crate::lsas_by_key::LsasByKey;
 use ospf_types::key::{Dest, Key, Scope};
 use ospf_types::memory::Memory;
 use ospf_types::prefix::Prefix;
@@ -23,22 +23,22 @@ use std::hash::RandomState;
 use std::marker::Model;
 
 /// What each LSA of a database advertises, as it was last taken from it.
-pub struct OfferIndex {
-    routes: ResultMap<Key, Advertised>,
-    members: Members,
+pub struct AdvertisedIndex {
+    routes: ResultMap<Key, AdvertisedRoute>,
+    members: LsasByKey,
 }
 
 // proof: one call drops it, in place of a drop of each part wherever one is held.
-impl Drop for OfferIndex {
+impl Drop for AdvertisedIndex {
     fn drop(self) {
-        let OfferIndex {
+        let AdvertisedIndex {
             routes: _routes,
             members: _members,
         } = self;
     }
 }
 
-impl Model for OfferIndex {
+impl Model for AdvertisedIndex {
     ghost use Rattle.std.specs.FinMap as map;
     ghost use Rattle.std.specs.Coded.{Coded, codes};
     ghost use Rattle.ospf_types.specs.Keys.{key_code};
@@ -49,7 +49,7 @@ impl Model for OfferIndex {
 
     ghost coded = { let routes : Coded AdvertisedByKey = map.code key_code (Prim.hlevel (codes, dest.the_row.coded)) in Prim.hlevel (codes, routes) };
 
-    ghost use Rattle.offer_index.specs.Members.{AreMembersOf};
+    ghost use Rattle.offer_index.specs.LsasByKey.{AreMembersOf};
 
     ghost view = { λ i. record { routes = map.from_entries i.routes.entries } };
 
@@ -57,19 +57,19 @@ impl Model for OfferIndex {
     ghost invariant = { λ i. AreMembersOf (map.from_entries i.routes.entries) i.members };
 }
 
-impl OfferIndex {
+impl AdvertisedIndex {
     /// The index of no LSAs.
-    pub fn new(alloc: Global, hashing: RandomState) -> OfferIndex
+    pub fn new(alloc: Global, hashing: RandomState) -> AdvertisedIndex
         ensures { result ≡ empty_index }
     {
-        OfferIndex {
+        AdvertisedIndex {
             routes: ResultMap::new(alloc, hashing),
-            members: Members::new(alloc, hashing),
+            members: LsasByKey::new(alloc, hashing),
         }
     }
 
     /// What is advertised under the key.
-    pub fn route(&self, key: Key) -> Option<&Advertised>
+    pub fn route(&self, key: Key) -> Option<&AdvertisedRoute>
         ensures { option_copied result ≡ map.get self.now.routes key }
     {
         self.routes.get(key)
@@ -81,7 +81,7 @@ impl OfferIndex {
         &mut self,
         from: ScopeDatabase<'_>,
         keys: &[(Scope, Key)],
-        affected: &mut ChangedOffers,
+        affected: &mut AffectedDests,
     ) -> Result<(), Memory>
         requires before { IsIndexBehind from.root from.scope keys.now from.database.now.lsas
             self.old }
@@ -99,7 +99,7 @@ impl OfferIndex {
     pub fn follow_all(
         &mut self,
         from: ScopeDatabase<'_>,
-        affected: &mut ChangedOffers,
+        affected: &mut AffectedDests,
     ) -> Result<(), Memory>
         requires { self.old ≡ empty_index }
         ensures index { OnOk result
@@ -113,7 +113,7 @@ impl OfferIndex {
     }
 
     /// Forgets all, and adds what it had to what is affected.
-    pub fn clear(&mut self, affected: &mut ChangedOffers) -> Result<(), Memory>
+    pub fn clear(&mut self, affected: &mut AffectedDests) -> Result<(), Memory>
         ensures cleared { OnOk result (self.new ≡ empty_index) }
         ensures touched { OnOk result (AreTouched self.old self.new affected.old affected.new) }
     {
@@ -124,7 +124,7 @@ impl OfferIndex {
     }
 
     /// Adds the keys of the group, in no stated order, each once.
-    pub fn list_keys(&self, group: LsaGroup, keys: &mut Vec<Key>) -> Result<(), Memory>
+    pub fn list_keys(&self, group: IndexKey, keys: &mut Vec<Key>) -> Result<(), Memory>
         ensures exact { OnOk result
             (HasMore (IsInGroup self.now group) keys.old.items keys.new.items) }
         ensures each_once { OnOk result (HasMoreOnce keys.old.items keys.new.items) }
@@ -136,7 +136,7 @@ impl OfferIndex {
     }
 
     /// Adds the destinations that the group leads to; some may stand there twice.
-    pub fn list_dests(&self, group: LsaGroup, dests: &mut Vec<Dest>) -> Result<(), Memory>
+    pub fn list_dests(&self, group: IndexKey, dests: &mut Vec<Dest>) -> Result<(), Memory>
         ensures { OnOk result
             (HasMore (GroupLeadsTo self.now group) dests.old.items dests.new.items) }
     {
@@ -179,7 +179,7 @@ impl OfferIndex {
     pub fn has_address(&self, address: u32) -> bool
         ensures { IsTrue result ↔ IsForwardedTo self.now address }
     {
-        let group = LsaGroup::Forwarded(address);
+        let group = IndexKey::Forwarded(address);
         match self.members.among(&group, &group).next() {
             Some(_) => true,
             None => false,
@@ -187,13 +187,13 @@ impl OfferIndex {
     }
 }
 
-impl OfferIndex {
+impl AdvertisedIndex {
     // Takes what the named LSA says now, if it is one of the scope.
     fn follow_named(
         &mut self,
         from: ScopeDatabase<'_>,
         named: (Scope, Key),
-        affected: &mut ChangedOffers,
+        affected: &mut AffectedDests,
     ) -> Result<(), Memory>
         ensures taken { OnOk result (named.0 ≡ from.entry.scope
             → IsTakenAt from.entry.root from.entry.scope named.1 from.entry.database.now.lsas
@@ -214,7 +214,7 @@ impl OfferIndex {
         &mut self,
         from: ScopeDatabase<'_>,
         key: Key,
-        affected: &mut ChangedOffers,
+        affected: &mut AffectedDests,
     ) -> Result<(), Memory>
         ensures taken { OnOk result
             (IsTakenAt from.entry.root from.entry.scope key from.entry.database.now.lsas self.new) }
@@ -232,8 +232,8 @@ impl OfferIndex {
     fn exchange(
         &mut self,
         key: Key,
-        fresh: Option<Advertised>,
-        affected: &mut ChangedOffers,
+        fresh: Option<AdvertisedRoute>,
+        affected: &mut AffectedDests,
     ) -> Result<(), Memory>
         ensures taken { OnOk result (map.get self.new.routes key ≡ fresh) }
         ensures others { OnOk result (AreAlikeBut key self.old self.new) }
@@ -250,8 +250,8 @@ impl OfferIndex {
     fn put(
         &mut self,
         key: Key,
-        old: Option<&Advertised>,
-        fresh: Option<&Advertised>,
+        old: Option<&AdvertisedRoute>,
+        fresh: Option<&AdvertisedRoute>,
     ) -> Result<(), Memory>
         requires { map.get self.old.routes key ≡ option_copied old }
         ensures taken { OnOk result (map.get self.new.routes key ≡ option_copied fresh.entry) }
@@ -271,7 +271,7 @@ impl OfferIndex {
     }
 
     // All that is advertised is affected.
-    fn touch_all(&self, affected: &mut ChangedOffers) -> Result<(), Memory>
+    fn touch_all(&self, affected: &mut AffectedDests) -> Result<(), Memory>
         ensures { OnOk result (AreTouched self.now empty_index affected.old affected.new) }
     {
         let keys = self.routes.keys(*affected.dests.allocator())?;
@@ -297,10 +297,10 @@ impl OfferIndex {
 // The route comes to stand under the key, and the key in the groups that it is of, beside those where it was. If memory
 // runs out, the routes are as they were, and the key stands in some of the groups.
 fn put_in(
-    members: &mut Members,
-    routes: &mut ResultMap<Key, Advertised>,
+    members: &mut LsasByKey,
+    routes: &mut ResultMap<Key, AdvertisedRoute>,
     key: Key,
-    fresh: Option<&Advertised>,
+    fresh: Option<&AdvertisedRoute>,
 ) -> Result<(), Memory>
     ensures kept { KeepsAll members.old members.new }
     ensures only { HasAtMost (IsMemberBy (option_copied fresh.entry) key) members.old members.new }

@@ -3,15 +3,15 @@
 #![tactic(auto)]
 
 mod advertised;
-mod changed_offers;
-mod coarse;
+mod affected_dests;
+mod index_filter;
 mod index;
-mod lsa_group;
-mod marks;
-mod members;
-mod noted;
+mod index_key;
+mod bloom_filter;
+mod lsas_by_key;
+mod known_keys;
 
-pub use advertised::{Advertised, ScopeDatabase};
-pub use changed_offers::ChangedOffers;
-pub use index::OfferIndex;
-pub use lsa_group::LsaGroup;
+pub use advertised::{AdvertisedRoute, ScopeDatabase};
+pub use affected_dests::AffectedDests;
+pub use index::AdvertisedIndex;
+pub use index_key::IndexKey;

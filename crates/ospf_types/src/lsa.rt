@@ -14,7 +14,7 @@ pub const NETWORK_LSA: u8 = 2;
 pub const SUMMARY_LSA: u8 = 3;
 
 /// The LS type of summary-LSAs for AS boundary routers (RFC 2328, A.4.4).
-pub const BOUNDARY_SUMMARY_LSA: u8 = 4;
+pub const ASBR_SUMMARY_LSA: u8 = 4;
 
 /// The LS type of AS-external-LSAs (RFC 2328, A.4.5).
 pub const AS_EXTERNAL_LSA: u8 = 5;

@@ -48,7 +48,7 @@ impl Prefix {
 
     /// The prefix that an address and a mask name. Of a mask that has a one behind a zero only the
     /// number of its ones counts.
-    pub fn of_mask(address: u32, mask: u32) -> Prefix
+    pub fn from_mask(address: u32, mask: u32) -> Prefix
         ensures { result ≡ network_of address mask }
     {
         match Prefix::new(address, mask.count_ones() as u8) {

@@ -9,7 +9,7 @@ use Rattle.replay.specs.Pages.{IsRunTo}
 use Rattle.changes.specs.Changes.{all_of}
 use Rattle.changes.specs.Lines.{Change}
 use Rattle.changes.specs.Runs.{Says, TellsLines}
-use Rattle.changes.specs.declared.telling.Wanted.{Wanted}
+use Rattle.changes.specs.declared.printing.ChangeFilter.{ChangeFilter}
 
 -- the last ten lines, and those of before
 abbrev pub earlier_lines : List Line → List Line
@@ -19,7 +19,7 @@ abbrev pub last_lines : List Line → List Line
 last_lines lines = drop (length lines - 10) lines
 
 -- the changes of all networks, in words
-abbrev pub all_changes : Wanted
+abbrev pub all_changes : ChangeFilter
 all_changes = record { only = None; format = Text }
 
 -- The lines lead from one core to the other, the first of them has this number, and this is what they changed, as `abr changes` tells it. The table

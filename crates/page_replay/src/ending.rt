@@ -5,12 +5,12 @@ ghost use Rattle.replay.specs.Advance.{ShowsProgress};
 ghost use Rattle.replay.specs.Lines.{first_number};
 ghost use Rattle.page_replay.specs.Ending.{IsEnded, IsToldLast, earlier_lines, last_lines};
 
-use changes::{Place, Wanted, tell_lines};
+use changes::{LineContext, ChangeFilter, print_line_changes};
 use event_core::Core;
 use ospf_types::memory::Memory;
 use output_format::Format;
 use recording::Line;
-use replay::{OpenedRecording, empty_page, number_of_first, write_page};
+use replay::{OpenedRecording, new_buffer, first_event_line, flush_buffer};
 use std::alloc::Global;
 use std::io;
 
@@ -44,7 +44,7 @@ pub(crate) fn run_to_end<F: io::Write>(
         ended.core ended.told.items) }
     ensures progress { ShowsProgress is_shown (F.contents faults.old) (F.contents faults.new) }
 {
-    let first = number_of_first(opened.version, opened.core.base());
+    let first = first_event_line(opened.version, opened.core.base());
     let parts = split_last(opened);
     let (earlier, last) = parts?;
     let number = first + earlier.lines.len();
@@ -83,20 +83,20 @@ fn tell_last(alloc: Global, core: Core, number: usize, last: Vec<Line>) -> Resul
     if !core.is_current() {
         return Err(Memory);
     }
-    let at = Place {
+    let at = LineContext {
         number,
-        wanted: Wanted {
+        wanted: ChangeFilter {
             only: None,
             format: Format::Text,
         },
         answers: false,
     };
     let mut told = Vec::new(alloc);
-    let mut page = empty_page(alloc)?;
-    let Ok(()) = tell_lines(&mut core, at, last, &mut told, &mut page) else {
+    let mut page = new_buffer(alloc)?;
+    let Ok(()) = print_line_changes(&mut core, at, last, &mut told, &mut page) else {
         return Err(Memory);
     };
-    let Ok(()) = write_page(&mut told, &mut page) else {
+    let Ok(()) = flush_buffer(&mut told, &mut page) else {
         return Err(Memory);
     };
     Ok(Ended { core, told })

@@ -12,7 +12,7 @@ ghost use Rattle.page_replay.specs.Outputs.{IsMadeOf, WritesPage, WritesPagePart
 use crate::ending::run_to_end;
 use crate::sections::page_of;
 use ospf_types::memory::Memory;
-use replay::{CannotWrite, OpenedRecording, ReplayFault, read_recording, write_whole};
+use replay::{WriteError, OpenedRecording, ReplayFault, read_recording, write_whole};
 use std::alloc::Global;
 use std::hash::RandomState;
 use std::io;
@@ -76,7 +76,7 @@ fn write_out<W: io::Write>(page: &[u8], out: &mut W) -> Result<(), ReplayFault>
 {
     match write_whole(out, page) {
         Ok(()) => Ok(()),
-        Err(CannotWrite::Failed) => Err(ReplayFault::Write),
-        Err(CannotWrite::Closed) => Err(ReplayFault::Closed),
+        Err(WriteError::Failed) => Err(ReplayFault::Write),
+        Err(WriteError::Closed) => Err(ReplayFault::Closed),
     }
 }

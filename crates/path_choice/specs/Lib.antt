@@ -1,4 +1,4 @@
 pub mod Costs
 pub mod Choices
 pub mod Takes
-pub mod Reached
+pub mod ReachedRouter

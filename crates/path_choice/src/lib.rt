@@ -3,7 +3,7 @@
 #![tactic(auto)]
 
 mod choice;
-mod reached;
+mod reached_router;
 
 pub use choice::{AreaCost, Best, Choice, ExactOrd, offer_hop, offer_hops};
-pub use reached::{Reached, RouterReach, has_bit, keep};
+pub use reached_router::{ReachedRouter, RouterReach, is_abr_or_asbr, keep};

@@ -17,35 +17,35 @@ use Rattle.route_table.proofs.Folding.{give}
 use Rattle.publication.specs.Lines.{Line}
 use Rattle.publication.specs.Published.{IsTableFor}
 use Rattle.publication.specs.Updates.{updated, gifts, all_of, those_of, ends, whole, deltas, IsRightState}
-use Rattle.publication.specs.declared.shown.ShownState.{ShownState}
-use Rattle.publication.specs.declared.shown.Update.{Update}
-use Rattle.publication.specs.declared.shown.Update.TheVariants as update
+use Rattle.publication.specs.declared.published_table.PublishedState.{PublishedState}
+use Rattle.publication.specs.declared.published_table.Update.{Update}
+use Rattle.publication.specs.declared.published_table.Update.TheVariants as update
 
 abbrev Items : Type 0
 Items = FinMap network_cmp Item
 
 -- no update changes the base
-keeps_one : (f : ShownState) (u : Update) → (updated f u).base ≡ f.base
+keeps_one : (f : PublishedState) (u : Update) → (updated f u).base ≡ f.base
 keeps_one f (update.Change c) = refl
 keeps_one f (update.List l) = refl
 
-keeps_base : (f : ShownState) (us : List Update) → (fold updated f us).base ≡ f.base
+keeps_base : (f : PublishedState) (us : List Update) → (fold updated f us).base ≡ f.base
 keeps_base f [] = refl
 keeps_base f (u ∷ us) = keeps_base (updated f u) us ∙ keeps_one f u
 
 -- changes change the table alone
-changes_fold : (f : ShownState) (cs : List Change) → fold updated f (map (λ c. update.Change c) cs) ≡ record f { table = fold changed f.table cs }
+changes_fold : (f : PublishedState) (cs : List Change) → fold updated f (map (λ c. update.Change c) cs) ≡ record f { table = fold changed f.table cs }
 changes_fold f [] = refl
 changes_fold f (c ∷ cs) = changes_fold (updated f (update.Change c)) cs
 
 -- changes that lead to the items of a table, and then its list
-ends_right : (f : ShownState) (t : TableValue) (cs : List (Network × Option Item)) (line : Line) → Lead f.table.items t.items cs → IsTableFor f.base line.list t
+ends_right : (f : PublishedState) (t : TableValue) (cs : List (Network × Option Item)) (line : Line) → Lead f.table.items t.items cs → IsTableFor f.base line.list t
     → IsRightState line f.base (fold updated f (gifts cs ++ ends t.serial line))
 ends_right f t cs line lead right =
     let table : fold changed f.table (changes_to cs) ≡ record f.table { items = t.items } = give f.table t.items cs lead in
     let g : fold updated f (gifts cs) ≡ record f { table = record f.table { items = t.items } } = changes_fold f (changes_to cs) ∙ ap (λ (u : TableValue). record f { table = u }) table in
     let all : fold updated f (gifts cs ++ ends t.serial line) ≡ record { table = t; front = line; base = f.base } =
-    fold-append updated f (gifts cs) (ends t.serial line) ∙ ap (λ (h : ShownState). fold updated h (ends t.serial line)) g in
+    fold-append updated f (gifts cs) (ends t.serial line) ∙ ap (λ (h : PublishedState). fold updated h (ends t.serial line)) g in
     subst (IsRightState line f.base) (sym all) (record { right = right; front = refl; base_is = refl })
 
 abbrev no_items : Items
@@ -69,16 +69,16 @@ pub appended_one : (before after all : List Update) (c : Network × Option Item)
 appended_one before after all c left whole is = ap (λ (us : List Update). us ++ gifts left) is ∙ append_assoc before (gifts (c ∷ [])) (gifts left) ∙ whole
 
 -- a whole table, after whatever is pending
-pub gives_whole : (f : ShownState) (pending : List Update) (t : TableValue) (line : Line) → IsTableFor f.base line.list t → IsRightState line f.base (fold updated f (pending ++ whole t line))
+pub gives_whole : (f : PublishedState) (pending : List Update) (t : TableValue) (line : Line) → IsTableFor f.base line.list t → IsRightState line f.base (fold updated f (pending ++ whole t line))
 gives_whole f pending t line right =
     let g = fold updated f pending in
     let h = updated g (update.Change Clear) in
     let base : h.base ≡ f.base = keeps_base f pending in
     let end = ends_right h t (all_of t.items) line (nothing_leads t.items) (subst (λ (b : Base). IsTableFor b line.list t) (sym base) right) in
     let e = fold-append updated f pending (whole t line) in
-    subst (λ (z : Base × ShownState). IsRightState line z.0 z.1) (λ i. (base i, sym e i)) end
+    subst (λ (z : Base × PublishedState). IsRightState line z.0 z.1) (λ i. (base i, sym e i)) end
 
 -- what changed, where nothing is pending
-pub gives_changes : (f : ShownState) (networks : List Network) (t : TableValue) (line : Line) → Lead f.table.items t.items (those_of t.items networks) → IsTableFor f.base line.list t
+pub gives_changes : (f : PublishedState) (networks : List Network) (t : TableValue) (line : Line) → Lead f.table.items t.items (those_of t.items networks) → IsTableFor f.base line.list t
     → IsRightState line f.base (fold updated f (deltas networks t line))
 gives_changes f networks t line lead right = ends_right f t (those_of t.items networks) line lead right

@@ -6,7 +6,7 @@ use lib.ListN.{get_elem?}
 use Rattle.crossbeam_utils.specs.Register.{Admits, TurnsAt, Turns, Forks, Merges}
 use Rattle.atomic_table.proofs.Lists.{at_set, at_snoc, set_again}
 use Rattle.publication.proofs.Prefixes.{prefix_self}
-use Rattle.publication.specs.declared.shown.Shown.{Shown}
+use Rattle.publication.specs.declared.published_table.PublishedTable.{PublishedTable}
 use Rattle.publication.specs.Names.{Name}
 use Rattle.publication.specs.Published.{IsShownRight, name_of, Holds, Saw}
 
@@ -14,14 +14,14 @@ known : (a b : Name) → Some a ≡ Some b → a ≡ b
 known a b e = cc e
 
 -- a thread that was told nothing
-pub begins : (x : Shown) → IsShownRight x → Holds x (None ∷ [])
+pub begins : (x : PublishedTable) → IsShownRight x → Holds x (None ∷ [])
 begins x right = (right, λ seat n at. ⊎_elim (λ (e : get_elem? [] seat ≡ some (Some n)). absurd (some-ne-none (Some n) (sym e))) (λ (e : None ≡ Some n). absurd (cc e)) (at_snoc [] None (Some n) seat at))
 
 pub admits : Admits Holds None
 admits x views h = (h.0, λ seat n at. ⊎_elim (h.1 seat n) (λ (e : None ≡ Some n). absurd (cc e)) (at_snoc views None (Some n) seat at))
 
 -- what is shown becomes another table of the same engine, for a list that goes on
-pub publishes : (seat : ℕ) (v : Option Name) (x y : Shown) → name_of y ≡ name_of x → IsShownRight y → IsPrefix x.front.list y.front.list → TurnsAt Holds seat v x y Saw
+pub publishes : (seat : ℕ) (v : Option Name) (x y : PublishedTable) → name_of y ≡ name_of x → IsShownRight y → IsPrefix x.front.list y.front.list → TurnsAt Holds seat v x y Saw
 publishes seat v x y same right grows views h at = (
   Some (name_of y),
   (

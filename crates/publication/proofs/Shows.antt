@@ -3,8 +3,8 @@ use Rattle.std.proofs.Common.{◌≡◌, List, fold, Option, Some, Result, Ok, E
 use Rattle.std.specs.Result.{is_ok}
 use mathlib.Core.List.{IsPrefix}
 use Rattle.event_state.specs.declared.base.Base.{Base}
-use Rattle.publication.specs.declared.shown.Shown.{Shown}
-use Rattle.publication.specs.declared.shown.Update.{Update}
+use Rattle.publication.specs.declared.published_table.PublishedTable.{PublishedTable}
+use Rattle.publication.specs.declared.published_table.Update.{Update}
 use Rattle.publication.specs.Lines.{Line}
 use Rattle.publication.specs.Names.{Name}
 use Rattle.publication.specs.Updates.{updated, shown_state_of, IsRightState}
@@ -12,7 +12,7 @@ use Rattle.publication.proofs.Prefixes.{prefix_self}
 use Rattle.publication.specs.Published.{IsShownRight, IsTableFor, name_of, Saw}
 
 -- what the pending updates give is right, and has the name of what is shown
-pub gives_right : (x next : Shown) (us : List Update) (line : Line)
+pub gives_right : (x next : PublishedTable) (us : List Update) (line : Line)
     → shown_state_of next ≡ fold updated (shown_state_of x) us
     → IsRightState line x.base (fold updated (shown_state_of x) us)
     → line.book ≡ x.front.book
@@ -28,7 +28,7 @@ gives_right x next us line is face book =
     )
 
 -- whether it was published or not, the name stays, and the writer knows it if it was
-pub known_after : {U E : Type 0} (r : Result U E) (Q Q' : Type 0) (x y : Shown) (v w : Option Name) (us : List Update) (line : Line)
+pub known_after : {U E : Type 0} (r : Result U E) (Q Q' : Type 0) (x y : PublishedTable) (v w : Option Name) (us : List Update) (line : Line)
     → MatchResult r (λ _. (shown_state_of y ≡ fold updated (shown_state_of x) us) × Q) (λ _. (y ≡ x) × Q')
     → MatchResult r (λ _. Saw v x y w) (λ _. w ≡ v)
     → IsRightState line x.base (fold updated (shown_state_of x) us)
@@ -39,9 +39,9 @@ known_after (Ok u) Q Q' x y v w us line values rule face book =
 known_after (Err e) Q Q' x y v w us line values rule face book = (ap name_of values.0, rule)
 
 -- whether it was published or not, the list that is shown begins with that of before
-pub grows_after : {U E : Type 0} (r : Result U E) (P Q Q' : Type 0) (x y : Shown) (v w : Option Name)
+pub grows_after : {U E : Type 0} (r : Result U E) (P Q Q' : Type 0) (x y : PublishedTable) (v w : Option Name)
     → MatchResult r (λ _. P × Q) (λ _. (y ≡ x) × Q')
     → MatchResult r (λ _. Saw v x y w) (λ _. w ≡ v)
     → IsPrefix x.front.list y.front.list
 grows_after (Ok u) P Q Q' x y v w values rule = rule.3
-grows_after (Err e) P Q Q' x y v w values rule = subst (λ (z : Shown). IsPrefix x.front.list z.front.list) (sym values.0) (prefix_self x.front.list)
+grows_after (Err e) P Q Q' x y v w values rule = subst (λ (z : PublishedTable). IsPrefix x.front.list z.front.list) (sym values.0) (prefix_self x.front.list)

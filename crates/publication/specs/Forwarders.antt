@@ -7,16 +7,16 @@ use Rattle.publication.specs.Names.{Name}
 use Rattle.publication.specs.Published.{IsTableFor}
 
 -- the longest of the lists that the forwarder saw or learned, which begins with each of them
-pub record Looker : Type 0 where
+pub record ForwarderValue : Type 0 where
   pub name : Name
   pub known : List Event
 
-pub record Sighted : Type 0 where
+pub record SeenValue : Type 0 where
   pub name : Name
   pub list : List Event
   pub address : ℕ
   pub table : TableValue
 
 -- the table is right for a legal list, which begins with all that the forwarder saw or learned before
-abbrev pub Sights : Looker → ℕ → Sighted → Type 0
-Sights f address s = (s.name ≡ f.name) × (s.address ≡ address) × IsPrefix f.known s.list × IsTableFor s.name.base s.list s.table
+abbrev pub IsLookup : ForwarderValue → ℕ → SeenValue → Type 0
+IsLookup f address s = (s.name ≡ f.name) × (s.address ≡ address) × IsPrefix f.known s.list × IsTableFor s.name.base s.list s.table

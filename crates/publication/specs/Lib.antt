@@ -6,4 +6,4 @@ pub mod Published
 pub mod Updates
 pub mod Told
 pub mod Forwarders
-pub mod Unseen
+pub mod LookupError

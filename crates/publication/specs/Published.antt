@@ -9,7 +9,7 @@ use Rattle.event_state.specs.Steps.{run_of, standard_limits, IsLegalList}
 use Rattle.event_state.specs.States.{inputs_of}
 use Rattle.route_table.specs.Tables.{TableValue}
 use Rattle.route_table.specs.Right.{IsRoutingTable}
-use Rattle.publication.specs.declared.shown.Shown.{Shown}
+use Rattle.publication.specs.declared.published_table.PublishedTable.{PublishedTable}
 use Rattle.publication.specs.Lines.{Line}
 use Rattle.publication.specs.Names.{Name}
 
@@ -22,22 +22,22 @@ abbrev pub IsTableFor : Base → List Event → TableValue → Type 0
 IsTableFor base list table = IsLegal base list × IsRoutingTable (inputs_of (run_of base standard_limits list)) (base.serial + length list) table
 
 -- the table is right for the list that is shown with it
-abbrev pub IsShownRight : Shown → Type 0
+abbrev pub IsShownRight : PublishedTable → Type 0
 IsShownRight x = IsTableFor x.base x.front.list x.table
 
 -- whose table it is
-abbrev pub name_of : Shown → Name
+abbrev pub name_of : PublishedTable → Name
 name_of x = record { book = x.front.book; base = x.base }
 
-abbrev pub Holds : Shown → List (Option Name) → Type 0
+abbrev pub Holds : PublishedTable → List (Option Name) → Type 0
 Holds x views = IsShownRight x × ((seat : ℕ) (n : Name) → get_elem? views seat ≡ some (Some n) → n ≡ name_of x)
 
 -- what is shown after the step is right, and its name is known, and was the name before; its list begins with that of before
-abbrev pub Saw : Option Name → Shown → Shown → Option Name → Type 0
+abbrev pub Saw : Option Name → PublishedTable → PublishedTable → Option Name → Type 0
 Saw v x y w = (w ≡ Some (name_of y)) × IsShownRight y × ((n : Name) → v ≡ Some n → n ≡ name_of y) × IsPrefix x.front.list y.front.list
 
 -- where it is done, this list is shown with a table that is right for it; else what was shown before
-abbrev pub IsPublished : Bool → Line → Shown → Shown → Type 0
+abbrev pub IsPublished : Bool → Line → PublishedTable → PublishedTable → Type 0
 IsPublished done list before after = MatchBool done ((after.front ≡ list) × IsShownRight after) (after ≡ before)
 
 -- where it is done, the name is known; else what was known before
@@ -45,5 +45,5 @@ abbrev pub IsKnownAfter : Bool → Name → Option Name → Option Name → Type
 IsKnownAfter done name before after = MatchBool done (after ≡ Some name) (after ≡ before)
 
 -- the list that is shown begins with the one before
-abbrev pub HasGrown : Shown → Shown → Type 0
+abbrev pub HasGrown : PublishedTable → PublishedTable → Type 0
 HasGrown before after = IsPrefix before.front.list after.front.list

@@ -3,6 +3,6 @@ use Rattle.std.specs.Prelude.{List}
 use Rattle.publication.specs.Names.{Name}
 use Rattle.event_state.specs.declared.event.Event.{Event}
 
-pub record Heard : Type 0 where
+pub record TokenValue : Type 0 where
   pub name : Name
   pub list : List Event

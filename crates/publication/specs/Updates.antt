@@ -9,20 +9,20 @@ use Rattle.route_table.specs.Tables.{TableValue}
 use Rattle.route_table.specs.Deltas.{changed, changes_to}
 use Rattle.publication.specs.Lines.{Line}
 use Rattle.publication.specs.Published.{IsTableFor}
-use Rattle.publication.specs.declared.shown.ShownState.{ShownState}
-use Rattle.publication.specs.declared.shown.Shown.{Shown}
-use Rattle.publication.specs.declared.shown.Update.{Update}
-use Rattle.publication.specs.declared.shown.Update.TheVariants as update
+use Rattle.publication.specs.declared.published_table.PublishedState.{PublishedState}
+use Rattle.publication.specs.declared.published_table.PublishedTable.{PublishedTable}
+use Rattle.publication.specs.declared.published_table.Update.{Update}
+use Rattle.publication.specs.declared.published_table.Update.TheVariants as update
 
-abbrev pub updated : ShownState → Update → ShownState
+abbrev pub updated : PublishedState → Update → PublishedState
 updated f (update.Change c) = record f { table = changed f.table c }
 updated f (update.List l) = record f { front = l }
 
-abbrev pub shown_state_of : Shown → ShownState
+abbrev pub shown_state_of : PublishedTable → PublishedState
 shown_state_of s = record { table = s.table; front = s.front; base = s.base }
 
 -- its table is right for a list, and it shows that list
-pub record IsRightState (line : Line) (base : Base) (f : ShownState) : Type 0 where
+pub record IsRightState (line : Line) (base : Base) (f : PublishedState) : Type 0 where
   pub right : IsTableFor base line.list f.table
   pub front : f.front ≡ line
   pub base_is : f.base ≡ base

@@ -4,21 +4,21 @@ ghost use mathlib.Core.List.{IsPrefix};
 ghost use Rattle.left_right.specs.Sides.{view};
 ghost use Rattle.route_table.specs.Tables.{IsMatch};
 ghost use Rattle.publication.specs.Published.{IsLegal, IsTableFor};
-ghost use Rattle.publication.specs.Forwarders.{Sights};
-ghost use Rattle.publication.specs.Unseen.{IsUnseen};
+ghost use Rattle.publication.specs.Forwarders.{IsLookup};
+ghost use Rattle.publication.specs.LookupError.{IsLookupError};
 
 use crate::history::HistoryPrefix;
 use crate::opening_base::OpeningBase;
-use crate::rule::{ShownReader, ShownReading, ShowsHistory};
-use crate::told::Told;
-use crate::unseen::Unseen;
+use crate::rule::{TableReader, TableReading, PublishStep};
+use crate::token::Told;
+use crate::lookup_error::LookupError;
 use route_table::Match;
 use std::marker::Model;
 
 /// A reader of the published table. To a contract it is its engine's name, and the longest list of events
 /// that it saw or learned, which begins with each of them.
 pub struct Forwarder {
-    reader: ShownReader,
+    reader: TableReader,
     known: HistoryPrefix,
     base: OpeningBase,
 }
@@ -38,9 +38,9 @@ impl Model for Forwarder {
     ghost use Rattle.std.specs.Prelude.{◌≡◌, Some};
     ghost use Rattle.left_right.specs.Sides.{view as known_to};
     ghost use Rattle.publication.specs.Published.{IsLegal};
-    ghost use Rattle.publication.specs.Forwarders.{Looker};
+    ghost use Rattle.publication.specs.Forwarders.{ForwarderValue};
 
-    ghost Value = { Looker };
+    ghost Value = { ForwarderValue };
 
     ghost view = { λ f. record { name = record { book = f.known.book; base = f.base }; known = f.known.list } };
 
@@ -50,7 +50,7 @@ impl Model for Forwarder {
 /// A forwarder that looks at the published table. While it lives, a publication may wait for it; one that
 /// is forgotten blocks the writer for good. It is not `Drop`: end it by `leave`.
 pub struct Seen {
-    reading: ShownReading,
+    reading: TableReading,
     front: HistoryPrefix,
     base: OpeningBase,
     address: u32,
@@ -60,11 +60,11 @@ impl Model for Seen {
     ghost use Rattle.std.specs.Prelude.{◌≡◌, Some};
     ghost use Rattle.left_right.specs.Sides.{view as known_to};
     ghost use Rattle.publication.specs.Published.{IsTableFor};
-    ghost use Rattle.publication.specs.Forwarders.{Sighted};
+    ghost use Rattle.publication.specs.Forwarders.{SeenValue};
     ghost use Rattle.std.specs.Coded.{Coded, codes};
     ghost use Rattle.route_table.specs.Tables.{TableValue, table_code};
 
-    ghost Value = { Sighted };
+    ghost Value = { SeenValue };
 
     ghost coded = { let table : Coded TableValue = table_code in Prim.hlevel (codes, table) };
 
@@ -74,7 +74,7 @@ impl Model for Seen {
 }
 
 impl Forwarder {
-    pub fn of(reader: ShownReader, known: HistoryPrefix, base: OpeningBase) -> Forwarder
+    pub fn of(reader: TableReader, known: HistoryPrefix, base: OpeningBase) -> Forwarder
         requires named { view reader.place ≡ Some (record { book = known.book; base = base }) }
         requires legal { IsLegal base known.list }
         ensures { result ≡ record {
@@ -112,15 +112,15 @@ impl Forwarder {
     }
 
     /// Looks an address (host order) up in the table that is published now.
-    pub fn lookup(self, address: u32) -> Result<Seen, Unseen>
-        ensures { MatchResult result (Sights self address) (IsUnseen self) }
+    pub fn lookup(self, address: u32) -> Result<Seen, LookupError>
+        ensures { MatchResult result (IsLookup self address) (IsLookupError self) }
     {
         let Forwarder {
             reader,
             known,
             base,
         } = self;
-        match reader.enter_as::<ShowsHistory>() {
+        match reader.enter_as::<PublishStep>() {
             Ok(reading) => {
                 let front = reading.get().front.again();
                 if front.len() < known.len() {
@@ -136,7 +136,7 @@ impl Forwarder {
                         known,
                         base,
                     };
-                    return Err(Unseen::Shorter(forwarder, told));
+                    return Err(LookupError::Shorter(forwarder, told));
                 }
                 Ok(Seen {
                     reading,
@@ -145,7 +145,7 @@ impl Forwarder {
                     address,
                 })
             }
-            Err(reader) => Err(Unseen::NoEntry(Forwarder {
+            Err(reader) => Err(LookupError::NoEntry(Forwarder {
                 reader,
                 known,
                 base,

@@ -1,5 +1,5 @@
 //! The rule of what is published: it is right for its list, and each thread that was told a name was told that of its history.
-use crate::shown::{EngineName, Shown, Update};
+use crate::published_table::{EngineName, PublishedTable, Update};
 use atomic_table::{Join, Split};
 use crossbeam_utils::rule::{Outcome, Protocol};
 use left_right::reader::{Reader, Reading};
@@ -10,7 +10,7 @@ pub type View = Option<EngineName>;
 
 pub struct Published;
 
-impl Protocol<Shown, View> for Published {
+impl Protocol<PublishedTable, View> for Published {
     ghost use Rattle.std.specs.Prelude.{None};
     ghost use Rattle.publication.specs.Published.{Holds};
 
@@ -20,9 +20,9 @@ impl Protocol<Shown, View> for Published {
 }
 
 /// The two steps, to publish and to enter.
-pub struct ShowsHistory;
+pub struct PublishStep;
 
-impl Outcome<Shown, View> for ShowsHistory {
+impl Outcome<PublishedTable, View> for PublishStep {
     ghost use Rattle.publication.specs.Published.{Saw};
 
     ghost then = { Saw };
@@ -45,8 +45,8 @@ impl Join<View> for TellsName {
     ghost spent = { None };
 }
 
-pub type ShownReader = Reader<Shown, View, Published>;
+pub type TableReader = Reader<PublishedTable, View, Published>;
 
-pub type ShownReading = Reading<Shown, View, Published>;
+pub type TableReading = Reading<PublishedTable, View, Published>;
 
-pub type ShownWriter = Writer<Shown, Update, View, Published>;
+pub type TableWriter = Writer<PublishedTable, Update, View, Published>;

@@ -20,7 +20,7 @@ use Rattle.ospf_types.proofs.Orders.{scope_total}
 use Rattle.lsa_codec.specs.Decoding.{lsa_of}
 use Rattle.lsa_codec.specs.Spelling.{spelling}
 use Rattle.event_state.specs.declared.base.Base.{Base}
-use Rattle.event_state.specs.declared.base_fault.Unfit.TheVariants as unfit
+use Rattle.event_state.specs.declared.base_fault.EntryFault.TheVariants as unfit
 use Rattle.event_state.specs.Bases.{is_scope, lsas_under}
 use Rattle.event_state.specs.BaseFaults.{has_twice, is_same_address}
 use Rattle.event_state.specs.States.{place_of}

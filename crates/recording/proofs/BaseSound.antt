@@ -21,8 +21,8 @@ use Rattle.config_faults.specs.Configs.{config_fault_of}
 use Rattle.config_faults.specs.declared.fault.ConfigFault.{ConfigFault}
 use Rattle.event_state.specs.declared.base.Base.{Base}
 use Rattle.event_state.specs.declared.base_fault.BaseFault.{BaseFault}
-use Rattle.event_state.specs.declared.base_fault.Unfit.{Unfit}
-use Rattle.event_state.specs.declared.base_fault.Unfit.TheVariants as unfit
+use Rattle.event_state.specs.declared.base_fault.EntryFault.{EntryFault}
+use Rattle.event_state.specs.declared.base_fault.EntryFault.TheVariants as unfit
 use Rattle.event_state.specs.Bases.{is_scope, lsas_under}
 use Rattle.event_state.specs.BaseFaults.{base_fault_of, unfit_of, after_config, after_doubled, unfit_fault, has_twice, is_same_id, is_same_place, is_same_address, is_doubled, lacks_an_area, has_misplaced, is_overfull, has_shared_address}
 use Rattle.event_state.specs.States.{place_of}
@@ -60,11 +60,11 @@ two_parts true b p q e = absurd cc
 two_parts false true p q e = absurd cc
 two_parts false false p q e = (refl, refl)
 
-unfit_none : (o : Option Unfit) → unfit_fault o ≡ None → o ≡ None
+unfit_none : (o : Option EntryFault) → unfit_fault o ≡ None → o ≡ None
 unfit_none None e = refl
 unfit_none (Some u) e = cc
 
-doubled_parts : (d : Bool) (o : Option Unfit) → after_doubled d (unfit_fault o) ≡ None → o ≡ None
+doubled_parts : (d : Bool) (o : Option EntryFault) → after_doubled d (unfit_fault o) ≡ None → o ≡ None
 doubled_parts true o e = absurd cc
 doubled_parts false o e = unfit_none o e
 

@@ -22,7 +22,7 @@ use Rattle.lsa_codec.proofs.Again.{spelled_none}
 use Rattle.event_state.specs.Bases.{lsas_under}
 use Rattle.ospf_types.proofs.Orders.{key_total, scope_total}
 use Rattle.event_state.specs.declared.base.Base.{Base}
-use Rattle.event_state.specs.declared.base_fault.Unfit.{Unfit}
+use Rattle.event_state.specs.declared.base_fault.EntryFault.{EntryFault}
 use Rattle.recording.specs.declared.fault.Fault.{Fault}
 use Rattle.recording.specs.declared.fault.Fault.TheVariants as fault
 use Rattle.recording.specs.declared.version.Version.{Version}
@@ -189,7 +189,7 @@ module _ {bytes : List ℕ} {l : Lsa} {key : Key} (read : IsReadAs bytes l key) 
   pub key_taken : (last : Option (Scope × Lsa)) (at : Scope) (r : Bool) → is_past_scope last at ≡ true → r ≡ is_past_place last (at, key) → r ≡ true → is_past_lsa last at bytes ≡ true
   key_taken last at r scope told here = and_from _ _ scope (past_is last at r told ∙ here)
 
-  pub unfit_told : (areas : List AreaConfig) (lsas : List (Scope × Lsa)) (at : Scope) (row : ℕ) (o : Option Unfit) → row ≡ length (lsas_under lsas at) → o ≡ unfit_under areas at key.kind row → unfit_lsa areas lsas (at, lsa_of bytes) ≡ o
+  pub unfit_told : (areas : List AreaConfig) (lsas : List (Scope × Lsa)) (at : Scope) (row : ℕ) (o : Option EntryFault) → row ≡ length (lsas_under lsas at) → o ≡ unfit_under areas at key.kind row → unfit_lsa areas lsas (at, lsa_of bytes) ≡ o
   unfit_told areas lsas at row o counted told =
       ap (λ (m : Lsa). unfit_under areas at (key_of m).kind (length (lsas_under lsas at))) read_again
       ∙ ap (λ (k : Key). unfit_under areas at k.kind (length (lsas_under lsas at))) (sym read.keyed)

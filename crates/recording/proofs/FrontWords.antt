@@ -1,12 +1,12 @@
 -- What the lines of the front begin with.
 use Rattle.std.proofs.Common.{ℕ, ◌≡◌, List, refl, ap, ◌∙◌}
 use Rattle.recording.specs.Forms.{Form, VersionLine, RouterLine, CompatLine, SerialLine, AreaLine, RangeLine, HasInterfaceLine, HasLsaLine, BodyLine, InterfaceLine, InstallLine, FlushLine, PurgeLine, RangeSetLine, RangeDropLine, SecondLine, LookupLine, RollLine, Says, words_of}
-use Rattle.recording.specs.Places.{is_front_word, is_of_front}
+use Rattle.recording.specs.Places.{is_front_word, is_preamble_line}
 use Rattle.recording.specs.Reading.{cut, first_word}
 use Rattle.recording.specs.declared.version.Version.{Version}
 use Rattle.recording.proofs.Forms.{line_split}
 
-first_told : (form : Form) → is_front_word (first_word (words_of form)) ≡ is_of_front form
+first_told : (form : Form) → is_front_word (first_word (words_of form)) ≡ is_preamble_line form
 first_told (VersionLine version) = refl
 first_told (RouterLine router) = refl
 first_told (CompatLine compat) = refl
@@ -26,7 +26,7 @@ first_told (BodyLine (LookupLine address)) = refl
 first_told (BodyLine RollLine) = refl
 
 -- the first word of a line tells whether what it says is of the front
-pub front_told : (v : Version) (line : List ℕ) (form : Form) → Says v line form → is_front_word (first_word (cut line)) ≡ is_of_front form
+pub front_told : (v : Version) (line : List ℕ) (form : Form) → Says v line form → is_front_word (first_word (cut line)) ≡ is_preamble_line form
 front_told v line form said =
     ap (λ (l : List ℕ). is_front_word (first_word (cut l))) said.spelled
     ∙ ap (λ (words : List (List ℕ)). is_front_word (first_word words)) (line_split form said.legal)

@@ -5,7 +5,7 @@ use Rattle.std.proofs.lemmas.List.{length-append, take_at, drop_at}
 use Rattle.std.proofs.lemmas.List.Splits.{length-slice_split}
 use Rattle.lsa_codec.specs.declared.fault.WireFault.{WireFault}
 use Rattle.config_faults.specs.declared.fault.ConfigFault.{ConfigFault}
-use Rattle.event_state.specs.declared.base_fault.Unfit.{Unfit}
+use Rattle.event_state.specs.declared.base_fault.EntryFault.{EntryFault}
 use Rattle.recording.specs.declared.fault.Fault.{Fault}
 use Rattle.recording.specs.declared.fault.Fault.TheVariants as fault
 use Rattle.recording.specs.declared.version.Version.{Version}
@@ -176,7 +176,7 @@ none_not_some : {X : Type 0} (o : Option X) (x : X) → o ≡ None → o ≡ Som
 none_not_some o x none some = cc
 
 -- what the line says fits what the lines before say
-pub fits : (v : Version) (before : List (List ℕ)) (line : List ℕ) (form : Form) → Says v line form → ((forms : List Form) → AreSaid v before forms → unfit_at (front_of forms) form ≡ None) → (u : Unfit) → ¬ HasUnfit v before line u
+pub fits : (v : Version) (before : List (List ℕ)) (line : List ℕ) (form : Form) → Says v line form → ((forms : List Form) → AreSaid v before forms → unfit_at (front_of forms) form ≡ None) → (u : EntryFault) → ¬ HasUnfit v before line u
 fits v before line form said fit u h =
     none_not_some (unfit_at (front_of h.forms) form) u (fit h.forms h.said) (subst (λ (f : Form). unfit_at (front_of h.forms) f ≡ Some u) (says_one line h.form form h.says said) h.has)
 
@@ -194,7 +194,7 @@ below_config v before line rest form said placed whole (fault.Base u) lt h = ome
 below_config v before line rest form said placed whole fault.Memory lt h = h
 
 -- the only fault that the line may have is that of a configuration, where the header ends there
-pub but_config : (v : Version) (before : List (List ℕ)) (line : List ℕ) (rest : List (List ℕ)) (form : Form) → Says v line form → IsPlaced v before form → HasNoWireFault form → ((u : Unfit) → ¬ HasUnfit v before line u) → (g : Fault) → number_of g ≢ 55 → ¬ IsFaultIn v before line rest g
+pub but_config : (v : Version) (before : List (List ℕ)) (line : List ℕ) (rest : List (List ℕ)) (form : Form) → Says v line form → IsPlaced v before form → HasNoWireFault form → ((u : EntryFault) → ¬ HasUnfit v before line u) → (g : Fault) → number_of g ≢ 55 → ¬ IsFaultIn v before line rest g
 but_config v before line rest form said placed whole fit (fault.Base u) other h = fit u h
 but_config v before line rest form said placed whole fit (fault.Config f) other h = other refl
 but_config v before line rest form said placed whole fit fault.Truncated other h = h
@@ -255,7 +255,7 @@ module _ {v : Version} {text : List ℕ} {number : ℕ} {before : List (List ℕ
     faults = λ g lt h. below_wire v before line rest form said placed g lt (line_fault at g h);
   }
 
-  pub base_fault : (form : Form) (u : Unfit) → Says v line form → IsPlaced v before form → HasNoWireFault form → ((c : ConfigFault) → ¬ HasConfigFault v (before ++ line ∷ []) rest c) → HasUnfit v before line u → IsFirstFault text number (fault.Base u)
+  pub base_fault : (form : Form) (u : EntryFault) → Says v line form → IsPlaced v before form → HasNoWireFault form → ((c : ConfigFault) → ¬ HasConfigFault v (before ++ line ∷ []) rest c) → HasUnfit v before line u → IsFirstFault text number (fault.Base u)
   base_fault form u said placed whole clean has = record {
     has = has_line_fault at (fault.Base u) has;
     lines = right;

@@ -1,7 +1,7 @@
 -- Why bytes are no recording: the first line that has a fault, and of its faults the first in their order.
 use Rattle.std.specs.Prelude.{ℕ, ◌≡◌, ◌≢◌, ◌<◌, ◌≤◌, ◌+◌, ◌==◌, ◌⊎◌, ◌++◌, List, [], ◌∷◌, length, Some, true, false}
 use Rattle.std.specs.List.{slice_split}
-use Rattle.event_state.specs.declared.base_fault.Unfit.{Unfit}
+use Rattle.event_state.specs.declared.base_fault.EntryFault.{EntryFault}
 use Rattle.lsa_codec.specs.declared.fault.WireFault.{WireFault}
 use Rattle.config_faults.specs.Configs.{areas_fault_of}
 use Rattle.config_faults.specs.declared.fault.ConfigFault.{ConfigFault}
@@ -39,7 +39,7 @@ abbrev pub HasWireFault : Version → List ℕ → WireFault → Type 0
 HasWireFault v line f = (form : Form) × Says v line form × (wire_fault_in form ≡ Some f)
 
 -- no event could have made the base that the lines and this one say
-pub record HasUnfit (v : Version) (before : List (List ℕ)) (line : List ℕ) (u : Unfit) : Type 0 where
+pub record HasUnfit (v : Version) (before : List (List ℕ)) (line : List ℕ) (u : EntryFault) : Type 0 where
   pub form : Form
   pub says : Says v line form
   pub forms : List Form

@@ -19,8 +19,8 @@ use Rattle.lsa_codec.specs.Decoding.{lsa_of}
 use Rattle.lsa_codec.specs.Faults.{fault_of}
 use Rattle.lsa_codec.specs.declared.fault.WireFault.{WireFault}
 use Rattle.event_state.specs.declared.base.Base.{Base}
-use Rattle.event_state.specs.declared.base_fault.Unfit.{Unfit}
-use Rattle.event_state.specs.declared.base_fault.Unfit.TheVariants as unfit
+use Rattle.event_state.specs.declared.base_fault.EntryFault.{EntryFault}
+use Rattle.event_state.specs.declared.base_fault.EntryFault.TheVariants as unfit
 use Rattle.event_state.specs.declared.limits.Limits.{Limits}
 use Rattle.event_state.specs.Bases.{lsas_under}
 use Rattle.event_state.specs.States.{place_of}
@@ -82,8 +82,8 @@ is_of_body (BodyLine body) = true
 is_of_body _ = false
 
 -- a line of the front: one of the first lines, of the header, or of the base
-abbrev pub is_of_front : Form → Bool
-is_of_front form = not (is_of_body form)
+abbrev pub is_preamble_line : Form → Bool
+is_preamble_line form = not (is_of_body form)
 
 -- the words that the lines of the front begin with
 abbrev pub front_words : List (List ℕ)
@@ -243,7 +243,7 @@ abbrev pub has_address : Interface → Interface → Bool
 has_address i other = other.up && (i.up && (other.address == i.address))
 
 -- an interface beside these: its area is not configured, or one of them has its address
-abbrev pub unfit_interface : List AreaConfig → List (ℕ × Interface) → Interface → Option Unfit
+abbrev pub unfit_interface : List AreaConfig → List (ℕ × Interface) → Interface → Option EntryFault
 unfit_interface areas interfaces i = first_of (
     (is_none (place_of areas (scope.Area i.area)), unfit.NoArea)
     ∷ (list_any (λ y. has_address i y.1) interfaces, unfit.AddressTaken)
@@ -251,19 +251,19 @@ unfit_interface areas interfaces i = first_of (
 
 -- an LSA of this LS type in a scope that has so many: its area is not configured, it belongs to another scope, or the scope
 -- is full
-abbrev pub unfit_under : List AreaConfig → Scope → (kind row : ℕ) → Option Unfit
+abbrev pub unfit_under : List AreaConfig → Scope → (kind row : ℕ) → Option EntryFault
 unfit_under areas at kind row = first_of (
     (is_none (place_of areas at), unfit.NoArea)
     ∷ (is_out_of_scope at kind, unfit.Scope)
     ∷ (nat_le (most_in standard_limits at) row, unfit.Full)
     ∷ [])
 
-abbrev pub unfit_lsa : List AreaConfig → List (Scope × Lsa) → Scope × Lsa → Option Unfit
+abbrev pub unfit_lsa : List AreaConfig → List (Scope × Lsa) → Scope × Lsa → Option EntryFault
 unfit_lsa areas lsas x = unfit_under areas x.0 (key_of x.1).kind (length (lsas_under lsas x.0))
 
 -- What no event could have made of the lines before and this one: an area that is not configured, an LSA of another scope,
 -- one more LSA than its scope may have, or an address that an interface has which is up too.
-abbrev pub unfit_at : Front → Form → Option Unfit
+abbrev pub unfit_at : Front → Form → Option EntryFault
 unfit_at f (HasInterfaceLine id interface) = unfit_interface f.areas f.interfaces interface
 unfit_at f (HasLsaLine at bytes) = unfit_lsa f.areas f.lsas (at, lsa_of bytes)
 unfit_at f _ = None

@@ -14,7 +14,7 @@ use crate::body::read_lsa;
 use crate::fault::Fault;
 use crate::form::LineForm;
 use crate::header::add_to;
-use event_state::{Base, Limits, Unfit};
+use event_state::{Base, Limits, EntryFault};
 use lsa_codec::Checked;
 use ospf_types::config::{AreaConfig, Interface};
 use ospf_types::key::{Key, Scope};
@@ -164,13 +164,13 @@ fn unfit_interface(
     areas: &[AreaConfig],
     interfaces: &[(u8, Interface)],
     interface: Interface,
-) -> Option<Unfit>
+) -> Option<EntryFault>
     ensures { result ≡ unfit_interface areas.now interfaces.now interface }
 {
     if lacks_area(areas, interface.area) {
-        Some(Unfit::NoArea)
+        Some(EntryFault::NoArea)
     } else if shares_address(interfaces, interface) {
-        Some(Unfit::AddressTaken)
+        Some(EntryFault::AddressTaken)
     } else {
         None
     }
@@ -207,7 +207,7 @@ fn has_address(interface: Interface, other: Interface) -> bool
 }
 
 // Why no event could have made an LSA of the LS type in a scope that has so many already.
-fn unfit_under(areas: &[AreaConfig], scope: Scope, kind: u8, row: usize) -> Option<Unfit>
+fn unfit_under(areas: &[AreaConfig], scope: Scope, kind: u8, row: usize) -> Option<EntryFault>
     ensures { result ≡ unfit_under areas.now scope kind row }
 {
     let (lacks_area, is_out_of_scope, most) = match scope {
@@ -219,11 +219,11 @@ fn unfit_under(areas: &[AreaConfig], scope: Scope, kind: u8, row: usize) -> Opti
         Scope::As => (false, kind != AS_EXTERNAL_LSA, Limits::STANDARD.externals),
     };
     if lacks_area {
-        Some(Unfit::NoArea)
+        Some(EntryFault::NoArea)
     } else if is_out_of_scope {
-        Some(Unfit::Scope)
+        Some(EntryFault::Scope)
     } else if u64::from(most) <= row as u64 {
-        Some(Unfit::Full)
+        Some(EntryFault::Full)
     } else {
         None
     }

@@ -2,7 +2,7 @@ ghost use Rattle.std.specs.Prelude.{Some};
 ghost use Rattle.recording.specs.Texts.{fault_text, line_fault_text};
 
 use config_faults::ConfigFault;
-use event_state::Unfit;
+use event_state::EntryFault;
 use lsa_codec::WireFault;
 use ospf_types::memory::Memory;
 use std::fmt;
@@ -25,7 +25,7 @@ pub enum Fault {
     /// The header, of which the line is the last, says a configuration with a fault.
     Config(ConfigFault),
     /// No event could have made what this line and those before it say of the base.
-    Base(Unfit),
+    Base(EntryFault),
     /// Memory ran out.
     Memory,
 }

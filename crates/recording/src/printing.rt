@@ -41,7 +41,7 @@ fn append_lines(alloc: Global, recording: &Recording, out: &mut Vec<u8>) -> Resu
     ensures text { OnOk result (IsText (text_of recording.now) recording.now) }
 {
     let mut text = String::new(alloc);
-    append_front(alloc, recording.version(), recording.base(), &mut text)?;
+    append_preamble(alloc, recording.version(), recording.base(), &mut text)?;
     out.extend_from_slice(text.as_bytes())?;
     for line in recording.lines() {
         text.clear();
@@ -52,7 +52,7 @@ fn append_lines(alloc: Global, recording: &Recording, out: &mut Vec<u8>) -> Resu
 }
 
 /// Appends the lines of a base: the header, and a `has` line for each interface and each LSA.
-pub fn append_front(
+pub fn append_preamble(
     alloc: Global,
     version: Version,
     base: &Base,

@@ -11,7 +11,7 @@ use crate::base_lines::compare_places;
 use crate::line::Line;
 use crate::version::Version;
 use config_faults::fault_in;
-use event_state::{Base, Event, Limits, unfit_in};
+use event_state::{Base, Event, Limits, entry_fault_in};
 use lsa_codec::Checked;
 use ospf_types::config::{AreaConfig, Config, Interface, Range};
 use ospf_types::key::Scope;
@@ -173,7 +173,7 @@ fn is_sound(base: &Base) -> bool
 fn is_fit(base: &Base) -> bool
     ensures { result ≡ is_none (unfit_of standard_limits base.now) }
 {
-    unfit_in(base, Limits::STANDARD).is_none()
+    entry_fault_in(base, Limits::STANDARD).is_none()
 }
 
 fn interfaces_ascend(interfaces: &[(u8, Interface)]) -> bool

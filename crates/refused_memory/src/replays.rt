@@ -3,7 +3,7 @@
 use crate::page::Page;
 use output_format::Format;
 use recording::Fault;
-use replay::{Printing, ReplayFault, Show, replay_one};
+use replay::{PrintOptions, ReplayFault, Show, replay_one};
 use std::hash::RandomState;
 use std::random::RandomSource;
 
@@ -137,7 +137,7 @@ serial 6 built 5\n\
 route 10.1.0.0/16 inter 0.0.0.0 20 0 peer:1@10.0.0.2\n",
 ];
 
-const PRINTING: Printing = Printing {
+const PRINTING: PrintOptions = PrintOptions {
     show: Show::Routes,
     format: Format::Text,
     progress: false,

@@ -5,7 +5,7 @@ use Rattle.std.specs.Io.KnownBytes.{Appends}
 use Rattle.replay.specs.Advance.{AppendsSome, IsProgress, Shows, ShowsEach, ShowsFrom, ShowsProgress, is_all, is_due}
 use Rattle.replay.specs.Writing.{AppendsPart}
 use Rattle.replay.specs.declared.progress.Progress.{Progress}
-use Rattle.replay.specs.declared.writing.CannotWrite.{CannotWrite}
+use Rattle.replay.specs.declared.writing.WriteError.{WriteError}
 use Rattle.replay.proofs.Written.{appends_none}
 
 -- nothing was shown
@@ -48,7 +48,7 @@ some_part : (a b : Option (List ℕ)) (text : List ℕ) → AppendsPart a b text
 some_part a b text part = record { part = part.part; rest = part.rest; joined = part.joined; written = part.written }
 
 -- what a write of the text comes to
-pub some_written : (a b : Option (List ℕ)) (text : List ℕ) (r : Result (Unit {0}) CannotWrite) → OnOk r (Appends a b text) → OnErr r (AppendsPart a b text) → AppendsSome a b text
+pub some_written : (a b : Option (List ℕ)) (text : List ℕ) (r : Result (Unit {0}) WriteError) → OnOk r (Appends a b text) → OnErr r (AppendsPart a b text) → AppendsSome a b text
 some_written a b text (Ok u) all part = some_all a b text all
 some_written a b text (Err why) all part = some_part a b text part
 

@@ -22,8 +22,8 @@ use Rattle.recording.specs.declared.version.Version.{Version}
 use Rattle.output_format.specs.declared.Show.TheVariants as show
 use Rattle.replay.specs.Lines.{first_number, lookup_line, answer_line, roll_line, serial_line, item_line, area_lines, lsa_line, recorded_text}
 use Rattle.replay.specs.Runs.{OfEvent, OfRoll, Answers, Prints}
-use Rattle.replay.specs.declared.page.Stop.{Stop}
-use Rattle.replay.specs.declared.printing.Printing.{Printing}
+use Rattle.replay.specs.declared.buffer.PrintError.{PrintError}
+use Rattle.replay.specs.declared.printing.PrintOptions.{PrintOptions}
 use Rattle.replay.specs.Stops.{IsLeft}
 use Rattle.replay.specs.Outputs.{IsRun, IsShown, IsOutput, IsCutOutput, journal_of}
 use Rattle.replay.specs.Parts.{PrintsRun, IsCut}
@@ -100,13 +100,13 @@ some_shown v show.Journal format printed c = record { whole = recorded_text form
 -- ---- the whole output
 
 -- the run of the first lines goes on to the end, and there is an output, which begins with what they printed
-record Completed (r : RecordingValue) (p : Printing) (printed : List ℕ) : Type 0 where
+record Completed (r : RecordingValue) (p : PrintOptions) (printed : List ℕ) : Type 0 where
   answers : Answers
   whole : List ℕ
   output : IsOutput r p answers whole
   behind : PrintsRun p.show → (tail : List ℕ) × (whole ≡ printed ++ tail)
 
-goes_on : (r : RecordingValue) (p : Printing) (count : ℕ) (answers : Answers) (printed : List ℕ) (now : CoreValue) → IsRun p.format (record r { lines = take count r.lines }) answers printed now → Completed r p printed
+goes_on : (r : RecordingValue) (p : PrintOptions) (count : ℕ) (answers : Answers) (printed : List ℕ) (now : CoreValue) → IsRun p.format (record r { lines = take count r.lines }) answers printed now → Completed r p printed
 goes_on r p count answers printed now h =
     let first = first_number r.version r.base in
     let rest = rested p.format now (first + length (take count r.lines)) (drop count r.lines) in
@@ -121,7 +121,7 @@ goes_on r p count answers printed now h =
       behind = λ prints. let b = text.behind prints in (rest.text ++ b.0, b.1 ∙ append_assoc printed rest.text b.0);
     }
 
-pub completed : (why : Stop) (r : RecordingValue) (p : Printing) (text : List ℕ) → IsCut why r p text → IsCutOutput why r p text
+pub completed : (why : PrintError) (r : RecordingValue) (p : PrintOptions) (text : List ℕ) → IsCut why r p text → IsCutOutput why r p text
 completed why r p text (inl begun) =
     let all = goes_on r p 0 [] [] begun.opened (record { opened = begun.opened; opening = begun.opening; run = (refl, refl) }) in
     record {

@@ -1,4 +1,4 @@
--- What is printed line by line: a part of it is written, and the end of it is on the page.
+-- What is printed line by line: a part of it is written, and the end of it is on the buffer.
 use Rattle.std.proofs.Common.{◌≡◌, ℕ, suc, ◌<◌, ◌+◌, List, length, get_or, drop, add-one, drop-cons, [], ◌∷◌, ◌++◌, Option, refl, sym, ap, subst, ◌∙◌, append_assoc, append-nil}
 use Rattle.std.specs.List.{flat_map}
 use Rattle.output_format.specs.declared.Format.{Format}
@@ -7,27 +7,27 @@ use Rattle.event_core.specs.Lists.{AreaSummariesValue}
 use Rattle.replay.specs.Lines.{area_lines}
 use Rattle.replay.specs.Pages.{Adds, AddsPart}
 use Rattle.replay.specs.Stops.{AreWhole}
-use Rattle.replay.specs.declared.page.Stop.{Stop}
-use Rattle.replay.specs.declared.page.Stop.TheVariants as stop
+use Rattle.replay.specs.declared.buffer.PrintError.{PrintError}
+use Rattle.replay.specs.declared.buffer.PrintError.TheVariants as stop
 use Rattle.replay.proofs.Written.{appends_none, appends_more}
 use Rattle.replay.proofs.Wholes.{none_whole, append_whole, end_whole, left_longer, left_behind}
 
-pub adds_none : (a : Option (List ℕ)) (page : List ℕ) → Adds a a page page []
-adds_none a page = record { written = []; appended = appends_none a; joined = append-nil page; lines = none_whole; pages = λ _. none_whole }
+pub adds_none : (a : Option (List ℕ)) (buffer : List ℕ) → Adds a a buffer buffer []
+adds_none a buffer = record { written = []; appended = appends_none a; joined = append-nil buffer; lines = none_whole; pages = λ _. none_whole }
 
--- a line behind the page
-pub adds_put : (a b : Option (List ℕ)) (before page text next line : List ℕ) → Adds a b before page text → next ≡ page ++ line → AreWhole line → Adds a b before next (text ++ line)
-adds_put a b before page text next line h put whole = record {
+-- a line behind the buffer
+pub adds_put : (a b : Option (List ℕ)) (before buffer text next line : List ℕ) → Adds a b before buffer text → next ≡ buffer ++ line → AreWhole line → Adds a b before next (text ++ line)
+adds_put a b before buffer text next line h put whole = record {
   written = h.written;
   appended = h.appended;
-  joined = sym (append_assoc before text line) ∙ ap (λ l. l ++ line) h.joined ∙ append_assoc h.written page line ∙ ap (λ l. h.written ++ l) (sym put);
+  joined = sym (append_assoc before text line) ∙ ap (λ l. l ++ line) h.joined ∙ append_assoc h.written buffer line ∙ ap (λ l. h.written ++ l) (sym put);
   lines = append_whole text line h.lines whole;
   pages = h.pages;
 }
 
--- what is on the page is whole lines too
-pub page_whole : (a b : Option (List ℕ)) (before page text : List ℕ) → Adds a b before page text → AreWhole before → AreWhole page
-page_whole a b before page text h whole = end_whole h.written page (subst AreWhole h.joined (append_whole before text whole h.lines))
+-- what is on the buffer is whole lines too
+pub page_whole : (a b : Option (List ℕ)) (before buffer text : List ℕ) → Adds a b before buffer text → AreWhole before → AreWhole buffer
+page_whole a b before buffer text h whole = end_whole h.written buffer (subst AreWhole h.joined (append_whole before text whole h.lines))
 
 pub adds_more : (a b c : Option (List ℕ)) (x y z t u : List ℕ) → Adds a b x y t → Adds b c y z u → Adds a c x z (t ++ u)
 adds_more a b c x y z t u p q = record {
@@ -38,15 +38,15 @@ adds_more a b c x y z t u p q = record {
   pages = λ whole. append_whole p.written q.written (p.pages whole) (q.pages (page_whole a b x y t p whole));
 }
 
--- the page may be written in part
+-- the buffer may be written in part
 pub adds_moved : (a b c : Option (List ℕ)) (x y z t : List ℕ) → Adds a b x y t → Adds b c y z [] → Adds a c x z t
 adds_moved a b c x y z t p q = subst (λ l. Adds a c x z l) (append-nil t) (adds_more a b c x y z t [] p q)
 
--- memory ran out, so that the page is not written
-pub part_now : (a b : Option (List ℕ)) (before page text : List ℕ) → AreWhole before → Adds a b before page text → AddsPart stop.Memory a b (before ++ text)
-part_now a b before page text whole h = record { part = h.written; beginning = record { rest = page; joined = h.joined; left = h.pages whole }; appended = h.appended }
+-- memory ran out, so that the buffer is not written
+pub part_now : (a b : Option (List ℕ)) (before buffer text : List ℕ) → AreWhole before → Adds a b before buffer text → AddsPart stop.Memory a b (before ++ text)
+part_now a b before buffer text whole h = record { part = h.written; beginning = record { rest = buffer; joined = h.joined; left = h.pages whole }; appended = h.appended }
 
-pub part_more : (why : Stop) (a b c : Option (List ℕ)) (x y t u : List ℕ) → AreWhole x → Adds a b x y t → AddsPart why b c (y ++ u) → AddsPart why a c (x ++ (t ++ u))
+pub part_more : (why : PrintError) (a b c : Option (List ℕ)) (x y t u : List ℕ) → AreWhole x → Adds a b x y t → AddsPart why b c (y ++ u) → AddsPart why a c (x ++ (t ++ u))
 part_more why a b c x y t u whole p q = record {
   part = p.written ++ q.part;
   beginning = record {
@@ -57,11 +57,11 @@ part_more why a b c x y t u whole p q = record {
   appended = appends_more a b c p.written q.part p.appended q.appended;
 }
 
-pub part_moved : (why : Stop) (a b c : Option (List ℕ)) (x y t : List ℕ) → AreWhole x → Adds a b x y t → AddsPart why b c y → AddsPart why a c (x ++ t)
+pub part_moved : (why : PrintError) (a b c : Option (List ℕ)) (x y t : List ℕ) → AreWhole x → Adds a b x y t → AddsPart why b c y → AddsPart why a c (x ++ t)
 part_moved why a b c x y t whole p q =
     subst (λ l. AddsPart why a c (x ++ l)) (append-nil t) (part_more why a b c x y t [] whole p (subst (λ l. AddsPart why b c l) (sym (append-nil y)) q))
 
-pub part_longer : (why : Stop) (a b : Option (List ℕ)) (x t u : List ℕ) → AddsPart why a b (x ++ t) → AddsPart why a b (x ++ (t ++ u))
+pub part_longer : (why : PrintError) (a b : Option (List ℕ)) (x t u : List ℕ) → AddsPart why a b (x ++ t) → AddsPart why a b (x ++ (t ++ u))
 part_longer why a b x t u h = record {
   part = h.part;
   beginning = record {
@@ -73,62 +73,62 @@ part_longer why a b x t u h = record {
 }
 
 -- how far a text is printed, of which this is the rest
-pub record Adding (a b : Option (List ℕ)) (before page all rest : List ℕ) : Type 0 where
+pub record Adding (a b : Option (List ℕ)) (before buffer all rest : List ℕ) : Type 0 where
   pub text : List ℕ
-  pub adds : Adds a b before page text
+  pub adds : Adds a b before buffer text
   pub left : all ≡ text ++ rest
 
-pub adding_none : (a : Option (List ℕ)) (page all rest : List ℕ) → all ≡ rest → Adding a a page page all rest
-adding_none a page all rest is = record { text = []; adds = adds_none a page; left = is }
+pub adding_none : (a : Option (List ℕ)) (buffer all rest : List ℕ) → all ≡ rest → Adding a a buffer buffer all rest
+adding_none a buffer all rest is = record { text = []; adds = adds_none a buffer; left = is }
 
--- a line is put behind the page, and the page may be written in part
-pub adding_more : (a b c : Option (List ℕ)) (before page put moved all rest line more : List ℕ) → Adding a b before page all rest → rest ≡ line ++ more → put ≡ page ++ line
+-- a line is put behind the buffer, and the buffer may be written in part
+pub adding_more : (a b c : Option (List ℕ)) (before buffer put moved all rest line more : List ℕ) → Adding a b before buffer all rest → rest ≡ line ++ more → put ≡ buffer ++ line
     → AreWhole line → Adds b c put moved [] → Adding a c before moved all more
-adding_more a b c before page put moved all rest line more h next is whole spilled = record {
+adding_more a b c before buffer put moved all rest line more h next is whole spilled = record {
   text = h.text ++ line;
-  adds = adds_moved a b c before put moved (h.text ++ line) (adds_put a b before page h.text put line h.adds is whole) spilled;
+  adds = adds_moved a b c before put moved (h.text ++ line) (adds_put a b before buffer h.text put line h.adds is whole) spilled;
   left = h.left ∙ ap (λ l. h.text ++ l) next ∙ sym (append_assoc h.text line more);
 }
 
 -- memory ran out
-pub adding_part : (a b : Option (List ℕ)) (before page all rest : List ℕ) → AreWhole before → Adding a b before page all rest → AddsPart stop.Memory a b (before ++ all)
-adding_part a b before page all rest whole h =
-    subst (λ l. AddsPart stop.Memory a b (before ++ l)) (sym h.left) (part_longer stop.Memory a b before h.text rest (part_now a b before page h.text whole h.adds))
+pub adding_part : (a b : Option (List ℕ)) (before buffer all rest : List ℕ) → AreWhole before → Adding a b before buffer all rest → AddsPart stop.Memory a b (before ++ all)
+adding_part a b before buffer all rest whole h =
+    subst (λ l. AddsPart stop.Memory a b (before ++ l)) (sym h.left) (part_longer stop.Memory a b before h.text rest (part_now a b before buffer h.text whole h.adds))
 
--- the page could not be written behind a line
-pub adding_stopped : (why : Stop) (a b c : Option (List ℕ)) (before page put all rest line more : List ℕ) → AreWhole before → Adding a b before page all rest → rest ≡ line ++ more → put ≡ page ++ line
+-- the buffer could not be written behind a line
+pub adding_stopped : (why : PrintError) (a b c : Option (List ℕ)) (before buffer put all rest line more : List ℕ) → AreWhole before → Adding a b before buffer all rest → rest ≡ line ++ more → put ≡ buffer ++ line
     → AreWhole line → AddsPart why b c put → AddsPart why a c (before ++ all)
-adding_stopped why a b c before page put all rest line more whole h next is whole_line stopped =
-    let here = part_moved why a b c before put (h.text ++ line) whole (adds_put a b before page h.text put line h.adds is whole_line) stopped in
+adding_stopped why a b c before buffer put all rest line more whole h next is whole_line stopped =
+    let here = part_moved why a b c before put (h.text ++ line) whole (adds_put a b before buffer h.text put line h.adds is whole_line) stopped in
     subst (λ l. AddsPart why a c (before ++ l)) (append_assoc h.text line more ∙ ap (λ l. h.text ++ l) (sym next) ∙ sym h.left) (part_longer why a c before (h.text ++ line) more here)
 
--- lines are printed behind the page
-pub adding_lines : (a b c : Option (List ℕ)) (before page moved all rest lines more : List ℕ) → Adding a b before page all rest → rest ≡ lines ++ more → Adds b c page moved lines
+-- lines are printed behind the buffer
+pub adding_lines : (a b c : Option (List ℕ)) (before buffer moved all rest lines more : List ℕ) → Adding a b before buffer all rest → rest ≡ lines ++ more → Adds b c buffer moved lines
     → Adding a c before moved all more
-adding_lines a b c before page moved all rest lines more h next added = record {
+adding_lines a b c before buffer moved all rest lines more h next added = record {
   text = h.text ++ lines;
-  adds = adds_more a b c before page moved h.text lines h.adds added;
+  adds = adds_more a b c before buffer moved h.text lines h.adds added;
   left = h.left ∙ ap (λ l. h.text ++ l) next ∙ sym (append_assoc h.text lines more);
 }
 
--- the page is whole lines, wherever printing is
-pub adding_page : (a b : Option (List ℕ)) (before page all rest : List ℕ) → Adding a b before page all rest → AreWhole before → AreWhole page
-adding_page a b before page all rest h whole = page_whole a b before page h.text h.adds whole
+-- the buffer is whole lines, wherever printing is
+pub adding_page : (a b : Option (List ℕ)) (before buffer all rest : List ℕ) → Adding a b before buffer all rest → AreWhole before → AreWhole buffer
+adding_page a b before buffer all rest h whole = page_whole a b before buffer h.text h.adds whole
 
 -- and only a part of them could be
-pub adding_cut : (why : Stop) (a b c : Option (List ℕ)) (before page all rest lines more : List ℕ) → AreWhole before → Adding a b before page all rest → rest ≡ lines ++ more
-    → AddsPart why b c (page ++ lines) → AddsPart why a c (before ++ all)
-adding_cut why a b c before page all rest lines more whole h next cut =
-    let here = part_more why a b c before page h.text lines whole h.adds cut in
+pub adding_cut : (why : PrintError) (a b c : Option (List ℕ)) (before buffer all rest lines more : List ℕ) → AreWhole before → Adding a b before buffer all rest → rest ≡ lines ++ more
+    → AddsPart why b c (buffer ++ lines) → AddsPart why a c (before ++ all)
+adding_cut why a b c before buffer all rest lines more whole h next cut =
+    let here = part_more why a b c before buffer h.text lines whole h.adds cut in
     subst (λ l. AddsPart why a c (before ++ l)) (append_assoc h.text lines more ∙ ap (λ l. h.text ++ l) (sym next) ∙ sym h.left) (part_longer why a c before (h.text ++ lines) more here)
 
 -- the text is the same as another
-pub adding_as : (a b : Option (List ℕ)) (before page all other rest : List ℕ) → Adding a b before page all rest → all ≡ other → Adding a b before page other rest
-adding_as a b before page all other rest h same = record { text = h.text; adds = h.adds; left = sym same ∙ h.left }
+pub adding_as : (a b : Option (List ℕ)) (before buffer all other rest : List ℕ) → Adding a b before buffer all rest → all ≡ other → Adding a b before buffer other rest
+adding_as a b before buffer all other rest h same = record { text = h.text; adds = h.adds; left = sym same ∙ h.left }
 
 -- all of it is printed
-pub adding_whole : (a b : Option (List ℕ)) (before page all rest : List ℕ) → Adding a b before page all rest → rest ≡ [] → Adds a b before page all
-adding_whole a b before page all rest h none = subst (λ l. Adds a b before page l) (sym (h.left ∙ ap (λ l. h.text ++ l) none ∙ append-nil h.text)) h.adds
+pub adding_whole : (a b : Option (List ℕ)) (before buffer all rest : List ℕ) → Adding a b before buffer all rest → rest ≡ [] → Adds a b before buffer all
+adding_whole a b before buffer all rest h none = subst (λ l. Adds a b before buffer l) (sym (h.left ∙ ap (λ l. h.text ++ l) none ∙ append-nil h.text)) h.adds
 
 -- ---- a list of which each item has a line
 

@@ -23,8 +23,8 @@ use Rattle.replay.specs.Lines.{IsTextOf, event_line, forms_text, recorded_line, 
 use Rattle.replay.specs.Outputs.{journal_of}
 use Rattle.replay.specs.Pages.{Adds, AddsPart}
 use Rattle.replay.specs.Stops.{AreWhole}
-use Rattle.replay.specs.declared.page.Stop.{Stop}
-use Rattle.replay.specs.declared.page.Stop.TheVariants as stop
+use Rattle.replay.specs.declared.buffer.PrintError.{PrintError}
+use Rattle.replay.specs.declared.buffer.PrintError.TheVariants as stop
 use Rattle.replay.proofs.Wholes.{recorded_whole, forms_whole}
 use Rattle.replay.proofs.Paging.{adds_none, adds_put, adds_more, page_whole, part_more, part_longer, Adding, adding_none, adding_more, adding_part, adding_stopped, adding_whole}
 
@@ -55,23 +55,23 @@ module _ (format : Format) (v : Version) (c : CoreValue) (events : List Event) (
   both : front ++ behind ≡ recorded_text format (journal_of v c)
   both = ap (λ (es : List Event). front ++ flat_map (event_line format) es) same ∙ sym (journal_text format v c)
 
-  pub journal_adds : (x y z : Option (List ℕ)) (before page put : List ℕ) → Adds x y before page front → Adds y z page put behind → Adds x z before put (recorded_text format (journal_of v c))
-  journal_adds x y z before page put first second = subst (λ l. Adds x z before put l) both (adds_more x y z before page put front behind first second)
+  pub journal_adds : (x y z : Option (List ℕ)) (before buffer put : List ℕ) → Adds x y before buffer front → Adds y z buffer put behind → Adds x z before put (recorded_text format (journal_of v c))
+  journal_adds x y z before buffer put first second = subst (λ l. Adds x z before put l) both (adds_more x y z before buffer put front behind first second)
 
-  pub journal_begun : (why : Stop) (x y : Option (List ℕ)) (before : List ℕ) → AddsPart why x y (before ++ front) → AddsPart why x y (before ++ recorded_text format (journal_of v c))
+  pub journal_begun : (why : PrintError) (x y : Option (List ℕ)) (before : List ℕ) → AddsPart why x y (before ++ front) → AddsPart why x y (before ++ recorded_text format (journal_of v c))
   journal_begun why x y before part = subst (λ l. AddsPart why x y (before ++ l)) both (part_longer why x y before front behind part)
 
-  pub journal_stopped : (why : Stop) (x y z : Option (List ℕ)) (before page : List ℕ) → AreWhole before → Adds x y before page front → (AreWhole page → AddsPart why y z (page ++ behind))
+  pub journal_stopped : (why : PrintError) (x y z : Option (List ℕ)) (before buffer : List ℕ) → AreWhole before → Adds x y before buffer front → (AreWhole buffer → AddsPart why y z (buffer ++ behind))
       → AddsPart why x z (before ++ recorded_text format (journal_of v c))
-  journal_stopped why x y z before page whole first stopped =
-      subst (λ l. AddsPart why x z (before ++ l)) both (part_more why x y z before page front behind whole first (stopped (page_whole x y before page front first whole)))
+  journal_stopped why x y z before buffer whole first stopped =
+      subst (λ l. AddsPart why x z (before ++ l)) both (part_more why x y z before buffer front behind whole first (stopped (page_whole x y before buffer front first whole)))
 
--- the lines of a base behind the page, as text
-pub front_put : (format : Format) (a : Option (List ℕ)) (page put : List ℕ) (v : Version) (base other : Base) → format ≡ Text → base ≡ other → put ≡ page ++ text_of_forms (front_forms v base)
-    → Adds a a page put (forms_text format (front_forms v other))
-front_put format a page put v base other text same is =
-    let here : Adds a a page put (forms_text Text (front_forms v base)) = adds_put a a page page [] put (text_of_forms (front_forms v base)) (adds_none a page) is (forms_whole Text (front_forms v base)) in
-    subst (λ (f : Format). Adds a a page put (forms_text f (front_forms v other))) (sym text) (subst (λ (b : Base). Adds a a page put (forms_text Text (front_forms v b))) same here)
+-- the lines of a base behind the buffer, as text
+pub front_put : (format : Format) (a : Option (List ℕ)) (buffer put : List ℕ) (v : Version) (base other : Base) → format ≡ Text → base ≡ other → put ≡ buffer ++ text_of_forms (front_forms v base)
+    → Adds a a buffer put (forms_text format (front_forms v other))
+front_put format a buffer put v base other text same is =
+    let here : Adds a a buffer put (forms_text Text (front_forms v base)) = adds_put a a buffer buffer [] put (text_of_forms (front_forms v base)) (adds_none a buffer) is (forms_whole Text (front_forms v base)) in
+    subst (λ (f : Format). Adds a a buffer put (forms_text f (front_forms v other))) (sym text) (subst (λ (b : Base). Adds a a buffer put (forms_text Text (front_forms v b))) same here)
 
 -- and as objects: what holds of those that a text is put into
 pub front_shown : (P : List ℕ → Type 0) (format : Format) (v : Version) (base other : Base) (text put old : List ℕ) → format ≡ Json → base ≡ other → text ≡ put → put ≡ old ++ text_of_forms (front_forms v base) → old ≡ []
@@ -121,39 +121,39 @@ next_none text forms cut none is parts =
 -- ---- lines that are printed as objects
 
 -- some are printed, and these are left of the text
-pub record Showing (a b : Option (List ℕ)) (before page : List ℕ) (forms : List Form) (left : List ℕ) : Type 0 where
+pub record Showing (a b : Option (List ℕ)) (before buffer : List ℕ) (forms : List Form) (left : List ℕ) : Type 0 where
   pub rest : List Form
   pub text : IsTextOf left rest
-  pub adding : Adding a b before page (flat_map recorded_line forms) (flat_map recorded_line rest)
+  pub adding : Adding a b before buffer (flat_map recorded_line forms) (flat_map recorded_line rest)
 
-pub showing_none : (a : Option (List ℕ)) (page : List ℕ) (forms : List Form) (text : List ℕ) → IsTextOf text forms → Showing a a page page forms text
-showing_none a page forms text is = record { rest = forms; text = is; adding = adding_none a page _ _ refl }
+pub showing_none : (a : Option (List ℕ)) (buffer : List ℕ) (forms : List Form) (text : List ℕ) → IsTextOf text forms → Showing a a buffer buffer forms text
+showing_none a buffer forms text is = record { rest = forms; text = is; adding = adding_none a buffer _ _ refl }
 
 -- what is printed of the next
 object_next : (rest : List Form) (text more : List ℕ) (h : Next rest text more) → flat_map recorded_line rest ≡ recorded_line h.form ++ flat_map recorded_line h.behind
 object_next rest text more h = ap (flat_map recorded_line) h.first
 
-object_put : (rest : List Form) (text more page put : List ℕ) (h : Next rest text more) → put ≡ page ++ json_line (recorded_data text) → put ≡ page ++ recorded_line h.form
-object_put rest text more page put h is = is ∙ ap (λ l. page ++ json_line (recorded_data l)) h.is
+object_put : (rest : List Form) (text more buffer put : List ℕ) (h : Next rest text more) → put ≡ buffer ++ json_line (recorded_data text) → put ≡ buffer ++ recorded_line h.form
+object_put rest text more buffer put h is = is ∙ ap (λ l. buffer ++ json_line (recorded_data l)) h.is
 
-pub showing_more : (a b c : Option (List ℕ)) (before page put moved : List ℕ) (forms : List Form) (left text more : List ℕ) (h : Showing a b before page forms left) → Next h.rest text more
-    → put ≡ page ++ json_line (recorded_data text) → Adds b c put moved [] → Showing a c before moved forms more
-showing_more a b c before page put moved forms left text more h next is spilled = record {
+pub showing_more : (a b c : Option (List ℕ)) (before buffer put moved : List ℕ) (forms : List Form) (left text more : List ℕ) (h : Showing a b before buffer forms left) → Next h.rest text more
+    → put ≡ buffer ++ json_line (recorded_data text) → Adds b c put moved [] → Showing a c before moved forms more
+showing_more a b c before buffer put moved forms left text more h next is spilled = record {
   rest = next.behind;
   text = next.left;
-  adding = adding_more a b c before page put moved _ _ (recorded_line next.form) (flat_map recorded_line next.behind) h.adding (object_next h.rest text more next) (object_put h.rest text more page put next is)
+  adding = adding_more a b c before buffer put moved _ _ (recorded_line next.form) (flat_map recorded_line next.behind) h.adding (object_next h.rest text more next) (object_put h.rest text more buffer put next is)
       (recorded_whole next.form) spilled;
 }
 
-pub showing_part : (a b : Option (List ℕ)) (before page : List ℕ) (forms : List Form) (left : List ℕ) → AreWhole before → Showing a b before page forms left
+pub showing_part : (a b : Option (List ℕ)) (before buffer : List ℕ) (forms : List Form) (left : List ℕ) → AreWhole before → Showing a b before buffer forms left
     → AddsPart stop.Memory a b (before ++ flat_map recorded_line forms)
-showing_part a b before page forms left whole h = adding_part a b before page _ _ whole h.adding
+showing_part a b before buffer forms left whole h = adding_part a b before buffer _ _ whole h.adding
 
-pub showing_stopped : (why : Stop) (a b c : Option (List ℕ)) (before page put : List ℕ) (forms : List Form) (left text more : List ℕ) (whole : AreWhole before) (h : Showing a b before page forms left) → Next h.rest text more
-    → put ≡ page ++ json_line (recorded_data text) → AddsPart why b c put → AddsPart why a c (before ++ flat_map recorded_line forms)
-showing_stopped why a b c before page put forms left text more whole h next is stopped =
-    adding_stopped why a b c before page put _ _ (recorded_line next.form) (flat_map recorded_line next.behind) whole h.adding (object_next h.rest text more next) (object_put h.rest text more page put next is)
+pub showing_stopped : (why : PrintError) (a b c : Option (List ℕ)) (before buffer put : List ℕ) (forms : List Form) (left text more : List ℕ) (whole : AreWhole before) (h : Showing a b before buffer forms left) → Next h.rest text more
+    → put ≡ buffer ++ json_line (recorded_data text) → AddsPart why b c put → AddsPart why a c (before ++ flat_map recorded_line forms)
+showing_stopped why a b c before buffer put forms left text more whole h next is stopped =
+    adding_stopped why a b c before buffer put _ _ (recorded_line next.form) (flat_map recorded_line next.behind) whole h.adding (object_next h.rest text more next) (object_put h.rest text more buffer put next is)
     (recorded_whole next.form) stopped
 
-pub showing_all : (a b : Option (List ℕ)) (before page : List ℕ) (forms : List Form) (left : List ℕ) (h : Showing a b before page forms left) → h.rest ≡ [] → Adds a b before page (flat_map recorded_line forms)
-showing_all a b before page forms left h none = adding_whole a b before page _ _ h.adding (ap (flat_map recorded_line) none)
+pub showing_all : (a b : Option (List ℕ)) (before buffer : List ℕ) (forms : List Form) (left : List ℕ) (h : Showing a b before buffer forms left) → h.rest ≡ [] → Adds a b before buffer (flat_map recorded_line forms)
+showing_all a b before buffer forms left h none = adding_whole a b before buffer _ _ h.adding (ap (flat_map recorded_line) none)

@@ -18,8 +18,8 @@ use Rattle.replay.specs.Lines.{lookup_line, answer_line, roll_line}
 use Rattle.replay.specs.Runs.{OfEvent, OfRoll, Answers, RollsBy, Prints, text_of_answer}
 use Rattle.replay.specs.Pages.{Adds, AddsPart, RanLine, Ran, RanPart, HadMemory, IsRunTo, TakesEvent, TakesRoll}
 use Rattle.replay.specs.Stops.{AreWhole}
-use Rattle.replay.specs.declared.page.Stop.{Stop}
-use Rattle.replay.specs.declared.page.Stop.TheVariants as stop
+use Rattle.replay.specs.declared.buffer.PrintError.{PrintError}
+use Rattle.replay.specs.declared.buffer.PrintError.TheVariants as stop
 use Rattle.replay.proofs.Wholes.{answer_whole, roll_whole, lookup_whole}
 use Rattle.replay.proofs.Paging.{adds_none, adds_put, adds_moved, part_now, part_moved}
 
@@ -127,34 +127,34 @@ prints_more format old mid new number (line.Roll ∷ xs) ys (a ∷ ps) qs t u (n
 -- ---- how far a run is
 
 -- some of the lines were run and printed, and these are left
-pub record Running (format : Format) (old : CoreValue) (first : ℕ) (lines rest : List Line) (number : ℕ) (now : CoreValue) (from to : Option (List ℕ)) (before page : List ℕ) : Type 0 where
+pub record Running (format : Format) (old : CoreValue) (first : ℕ) (lines rest : List Line) (number : ℕ) (now : CoreValue) (from to : Option (List ℕ)) (before buffer : List ℕ) : Type 0 where
   pub done : List Line
   pub left : lines ≡ done ++ rest
   pub counted : number ≡ first + length done
-  pub ran : Ran format old first done now from to before page
+  pub ran : Ran format old first done now from to before buffer
 
-pub running_none : (format : Format) (old : CoreValue) (first number : ℕ) (lines rest : List Line) (from : Option (List ℕ)) (page : List ℕ) → number ≡ first → lines ≡ rest → Running format old first lines rest number old from from page page
-running_none format old first number lines rest from page counted is = record {
+pub running_none : (format : Format) (old : CoreValue) (first number : ℕ) (lines rest : List Line) (from : Option (List ℕ)) (buffer : List ℕ) → number ≡ first → lines ≡ rest → Running format old first lines rest number old from from buffer buffer
+running_none format old first number lines rest from buffer counted is = record {
   done = [];
   left = is;
   counted = omega arith;
-  ran = record { answers = []; text = []; run = (refl, refl); printed = adds_none from page };
+  ran = record { answers = []; text = []; run = (refl, refl); printed = adds_none from buffer };
 }
 
--- a line more, and then the page may be written in part
-pub ran_more : (format : Format) (old mid new : CoreValue) (first number : ℕ) (done : List Line) (l : Line) (from to : Option (List ℕ)) (before page put : List ℕ) → number ≡ first + length done → Ran format old first done mid from to before page
-    → RanLine format mid number l new page put → Ran format old first (done ++ l ∷ []) new from to before put
-ran_more format old mid new first number done l from to before page put counted ran more = record {
+-- a line more, and then the buffer may be written in part
+pub ran_more : (format : Format) (old mid new : CoreValue) (first number : ℕ) (done : List Line) (l : Line) (from to : Option (List ℕ)) (before buffer put : List ℕ) → number ≡ first + length done → Ran format old first done mid from to before buffer
+    → RanLine format mid number l new buffer put → Ran format old first (done ++ l ∷ []) new from to before put
+ran_more format old mid new first number done l from to before buffer put counted ran more = record {
   answers = ran.answers ++ more.answers;
   text = ran.text ++ more.text;
   run = prints_more format old mid new first done (l ∷ []) ran.answers more.answers ran.text more.text ran.run (subst (λ n. Prints format mid n (l ∷ []) more.answers more.text new) counted more.run);
-  printed = adds_put from to before page ran.text put more.text ran.printed more.printed more.lines;
+  printed = adds_put from to before buffer ran.text put more.text ran.printed more.printed more.lines;
 }
 
-pub running_more : (format : Format) (old mid new : CoreValue) (first number : ℕ) (lines rest more : List Line) (l : Line) (from to on : Option (List ℕ)) (before page put moved : List ℕ) → Running format old first lines rest number mid from to before page
-    → rest ≡ l ∷ more → RanLine format mid number l new page put → Adds to on put moved [] → Running format old first lines more (number + 1) new from on before moved
-running_more format old mid new first number lines rest more l from to on before page put moved h next line spilled =
-    let ran = ran_more format old mid new first number h.done l from to before page put h.counted h.ran line in
+pub running_more : (format : Format) (old mid new : CoreValue) (first number : ℕ) (lines rest more : List Line) (l : Line) (from to on : Option (List ℕ)) (before buffer put moved : List ℕ) → Running format old first lines rest number mid from to before buffer
+    → rest ≡ l ∷ more → RanLine format mid number l new buffer put → Adds to on put moved [] → Running format old first lines more (number + 1) new from on before moved
+running_more format old mid new first number lines rest more l from to on before buffer put moved h next line spilled =
+    let ran = ran_more format old mid new first number h.done l from to before buffer put h.counted h.ran line in
     record {
       done = h.done ++ l ∷ [];
       left = h.left ∙ ap (λ w. h.done ++ w) next ∙ sym (append_assoc h.done (l ∷ []) more);
@@ -163,19 +163,19 @@ running_more format old mid new first number lines rest more l from to on before
     }
 
 -- the number of a line that is left is not the last of all numbers
-pub running_fits : (format : Format) (old now : CoreValue) (first number : ℕ) (lines rest more : List Line) (l : Line) (from to : Option (List ℕ)) (before page : List ℕ) → Running format old first lines rest number now from to before page
+pub running_fits : (format : Format) (old now : CoreValue) (first number : ℕ) (lines rest more : List Line) (l : Line) (from to : Option (List ℕ)) (before buffer : List ℕ) → Running format old first lines rest number now from to before buffer
     → rest ≡ l ∷ more → number + 1 ≤ first + length lines
-running_fits format old now first number lines rest more l from to before page h next =
+running_fits format old now first number lines rest more l from to before buffer h next =
     let whole : length lines ≡ length h.done + suc (length more) = ap length (h.left ∙ ap (λ w. h.done ++ w) next) ∙ length-append h.done (l ∷ more) in
     omega (arith, whole, h.counted)
 
-pub running_all : (format : Format) (old now : CoreValue) (first number : ℕ) (lines rest : List Line) (from to : Option (List ℕ)) (before page : List ℕ) → Running format old first lines rest number now from to before page
-    → rest ≡ [] → Ran format old first lines now from to before page
-running_all format old now first number lines rest from to before page h none =
-    subst (λ (done : List Line). Ran format old first done now from to before page) (sym (h.left ∙ ap (λ w. h.done ++ w) none ∙ append-nil h.done)) h.ran
+pub running_all : (format : Format) (old now : CoreValue) (first number : ℕ) (lines rest : List Line) (from to : Option (List ℕ)) (before buffer : List ℕ) → Running format old first lines rest number now from to before buffer
+    → rest ≡ [] → Ran format old first lines now from to before buffer
+running_all format old now first number lines rest from to before buffer h none =
+    subst (λ (done : List Line). Ran format old first done now from to before buffer) (sym (h.left ∙ ap (λ w. h.done ++ w) none ∙ append-nil h.done)) h.ran
 
 -- a run of the first of the lines
-ran_part : (why : Stop) (format : Format) (old now : CoreValue) (first : ℕ) (lines done rest : List Line) (from to : Option (List ℕ)) (before text : List ℕ) (answers : Answers) → lines ≡ done ++ rest → Prints format old first done answers text now
+ran_part : (why : PrintError) (format : Format) (old now : CoreValue) (first : ℕ) (lines done rest : List Line) (from to : Option (List ℕ)) (before text : List ℕ) (answers : Answers) → lines ≡ done ++ rest → Prints format old first done answers text now
     → AddsPart why from to (before ++ text) → RanPart why format old first lines from to before
 ran_part why format old now first lines done rest from to before text answers left run part = record {
   count = length done;
@@ -188,17 +188,17 @@ ran_part why format old now first lines done rest from to before text answers le
 }
 
 -- memory ran out
-pub running_part : (format : Format) (old now : CoreValue) (first number : ℕ) (lines rest : List Line) (from to : Option (List ℕ)) (before page : List ℕ) → AreWhole before
-    → Running format old first lines rest number now from to before page → RanPart stop.Memory format old first lines from to before
-running_part format old now first number lines rest from to before page whole h =
-    ran_part stop.Memory format old now first lines h.done rest from to before h.ran.text h.ran.answers h.left h.ran.run (part_now from to before page h.ran.text whole h.ran.printed)
+pub running_part : (format : Format) (old now : CoreValue) (first number : ℕ) (lines rest : List Line) (from to : Option (List ℕ)) (before buffer : List ℕ) → AreWhole before
+    → Running format old first lines rest number now from to before buffer → RanPart stop.Memory format old first lines from to before
+running_part format old now first number lines rest from to before buffer whole h =
+    ran_part stop.Memory format old now first lines h.done rest from to before h.ran.text h.ran.answers h.left h.ran.run (part_now from to before buffer h.ran.text whole h.ran.printed)
 
--- the page could not be written behind a line
-pub running_stopped : (why : Stop) (format : Format) (old mid new : CoreValue) (first number : ℕ) (lines rest more : List Line) (l : Line) (from to on : Option (List ℕ)) (before page put : List ℕ)
-    → AreWhole before → Running format old first lines rest number mid from to before page → rest ≡ l ∷ more → RanLine format mid number l new page put → AddsPart why to on put
+-- the buffer could not be written behind a line
+pub running_stopped : (why : PrintError) (format : Format) (old mid new : CoreValue) (first number : ℕ) (lines rest more : List Line) (l : Line) (from to on : Option (List ℕ)) (before buffer put : List ℕ)
+    → AreWhole before → Running format old first lines rest number mid from to before buffer → rest ≡ l ∷ more → RanLine format mid number l new buffer put → AddsPart why to on put
     → RanPart why format old first lines from on before
-running_stopped why format old mid new first number lines rest more l from to on before page put whole h next line stopped =
-    let ran = ran_more format old mid new first number h.done l from to before page put h.counted h.ran line in
+running_stopped why format old mid new first number lines rest more l from to on before buffer put whole h next line stopped =
+    let ran = ran_more format old mid new first number h.done l from to before buffer put h.counted h.ran line in
     ran_part why format old new first lines (h.done ++ l ∷ []) more from on before ran.text ran.answers (h.left ∙ ap (λ w. h.done ++ w) next ∙ sym (append_assoc h.done (l ∷ []) more)) ran.run
     (part_moved why from to on before put ran.text whole ran.printed stopped)
 
@@ -235,7 +235,7 @@ pub taking_all : (first number : ℕ) (old now : CoreValue) (lines rest : List L
 taking_all first number old now lines rest h none = subst (λ (done : List Line). IsRunTo old done now) (sym (h.left ∙ ap (λ w. h.done ++ w) none ∙ append-nil h.done)) h.run
 
 -- memory ran out behind the last line
-pub ran_whole : (format : Format) (old now : CoreValue) (first : ℕ) (lines : List Line) (from to : Option (List ℕ)) (before page : List ℕ) → AreWhole before → Ran format old first lines now from to before page
+pub ran_whole : (format : Format) (old now : CoreValue) (first : ℕ) (lines : List Line) (from to : Option (List ℕ)) (before buffer : List ℕ) → AreWhole before → Ran format old first lines now from to before buffer
     → RanPart stop.Memory format old first lines from to before
-ran_whole format old now first lines from to before page whole h =
-    ran_part stop.Memory format old now first lines lines [] from to before h.text h.answers (sym (append-nil lines)) h.run (part_now from to before page h.text whole h.printed)
+ran_whole format old now first lines from to before buffer whole h =
+    ran_part stop.Memory format old now first lines lines [] from to before h.text h.answers (sym (append-nil lines)) h.run (part_now from to before buffer h.text whole h.printed)

@@ -27,8 +27,8 @@ use Rattle.serde_json.specs.Data.{Data}
 use Rattle.serde_json.specs.Written.{compact_text}
 use Rattle.json_objects.specs.Members.{json_line}
 use Rattle.json_lines.specs.Lines.{lookup_data, refused_data, behind_data, serial_data, item_data, shown_due_data, lsa_data, recorded_data}
-use Rattle.replay.specs.declared.page.Stop.{Stop}
-use Rattle.replay.specs.declared.page.Stop.TheVariants as stop
+use Rattle.replay.specs.declared.buffer.PrintError.{PrintError}
+use Rattle.replay.specs.declared.buffer.PrintError.TheVariants as stop
 use Rattle.replay.specs.Lines.{lookup_line, behind_line, refused_line, answer_line, roll_line, standing_line, counts_line, serial_line, item_line, due_line, dest_text, lsa_line, header_text, recorded_line, event_line, forms_text}
 use Rattle.replay.specs.Stops.{IsEnded, AreWhole, IsLeft}
 
@@ -64,12 +64,12 @@ flat_whole line each (x ∷ xs) = append_whole (line x) (flat_map line xs) (each
 
 -- ---- what a stop leaves
 
-pub left_longer : (why : Stop) (text rest more : List ℕ) → IsLeft why text rest → IsLeft why text (rest ++ more)
+pub left_longer : (why : PrintError) (text rest more : List ℕ) → IsLeft why text rest → IsLeft why text (rest ++ more)
 left_longer stop.Write text rest more h = λ none. h (nil_from_length rest (omega (arith, length-append rest more, ap length none)))
 left_longer stop.Closed text rest more h = λ none. h (nil_from_length rest (omega (arith, length-append rest more, ap length none)))
 left_longer stop.Memory text rest more h = h
 
-pub left_behind : (why : Stop) (front text rest : List ℕ) → AreWhole front → IsLeft why text rest → IsLeft why (front ++ text) rest
+pub left_behind : (why : PrintError) (front text rest : List ℕ) → AreWhole front → IsLeft why text rest → IsLeft why (front ++ text) rest
 left_behind stop.Write front text rest whole h = h
 left_behind stop.Closed front text rest whole h = h
 left_behind stop.Memory front text rest whole h = append_whole front text whole h

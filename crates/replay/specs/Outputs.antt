@@ -20,8 +20,8 @@ use Rattle.replay.specs.Runs.{Answers, Prints, IsOpened}
 use Rattle.replay.specs.Inputs.{ReadsAll}
 use Rattle.replay.specs.Pages.{HadMemory}
 use Rattle.replay.specs.Stops.{IsBeginning}
-use Rattle.replay.specs.declared.page.Stop.{Stop}
-use Rattle.replay.specs.declared.printing.Printing.{Printing}
+use Rattle.replay.specs.declared.buffer.PrintError.{PrintError}
+use Rattle.replay.specs.declared.printing.PrintOptions.{PrintOptions}
 
 -- the recording was run with these answers to its events and rolls, and its lines printed this
 pub record IsRun (format : Format) (r : RecordingValue) (answers : Answers) (printed : List ℕ) (closed : CoreValue) : Type 0 where
@@ -48,14 +48,14 @@ IsShown v show.Journal format printed c text = text ≡ recorded_text format (jo
 
 -- The output of a recording, printed so, where its events and rolls had these answers: of the events that the databases take, some may have been refused for
 -- want of memory, and some answered Behind; a roll may have been refused for want of memory. Each of these is one of the answers.
-pub record IsOutput (r : RecordingValue) (p : Printing) (answers : Answers) (text : List ℕ) : Type 0 where
+pub record IsOutput (r : RecordingValue) (p : PrintOptions) (answers : Answers) (text : List ℕ) : Type 0 where
   pub printed : List ℕ
   pub closed : CoreValue
   pub run : IsRun p.format r answers printed closed
   pub shown : IsShown r.version p.show p.format printed closed text
 
 -- the text is the beginning of an output that such a stop leaves
-pub record IsCutOutput (why : Stop) (r : RecordingValue) (p : Printing) (text : List ℕ) : Type 0 where
+pub record IsCutOutput (why : PrintError) (r : RecordingValue) (p : PrintOptions) (text : List ℕ) : Type 0 where
   pub answers : Answers
   pub whole : List ℕ
   pub output : IsOutput r p answers whole
@@ -70,7 +70,7 @@ LosesNoEvent show.Lsdb answers = Unit {0}
 LosesNoEvent show.Journal answers = All HadMemory answers
 
 -- all the bytes that a reader had were a recording, and a writer's known bytes grew by its output
-pub record Replays (p : Printing) (before after : Option (List ℕ)) (old new : Option (List ℕ)) : Type 0 where
+pub record Replays (p : PrintOptions) (before after : Option (List ℕ)) (old new : Option (List ℕ)) : Type 0 where
   pub bytes : List ℕ
   pub read : ReadsAll before after bytes
   pub recording : RecordingValue
@@ -82,7 +82,7 @@ pub record Replays (p : Printing) (before after : Option (List ℕ)) (old new : 
   pub written : Appends old new output
 
 -- all the bytes that a reader had were a recording, and a writer's known bytes grew by the beginning of its output that such a stop leaves
-pub record ReplaysPart (why : Stop) (p : Printing) (before after : Option (List ℕ)) (old new : Option (List ℕ)) : Type 0 where
+pub record ReplaysPart (why : PrintError) (p : PrintOptions) (before after : Option (List ℕ)) (old new : Option (List ℕ)) : Type 0 where
   pub bytes : List ℕ
   pub read : ReadsAll before after bytes
   pub recording : RecordingValue

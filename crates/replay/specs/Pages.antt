@@ -1,4 +1,4 @@
--- The page: the end of what is printed, which is not yet written.
+-- The buffer: the end of what is printed, which is not yet written.
 use Rattle.std.specs.Prelude.{ℕ, ◌≡◌, ◌≢◌, ◌++◌, List, [], ◌∷◌, All, Option, Result, Ok, Err, take}
 use Rattle.std.specs.Io.KnownBytes.{Appends}
 use Rattle.output_format.specs.declared.Format.{Format}
@@ -10,19 +10,19 @@ use Rattle.event_core.specs.Cores.{CoreValue, Applies}
 use Rattle.recording.specs.declared.line.Line.{Line}
 use Rattle.replay.specs.Runs.{Answer, Answers, OfEvent, OfRoll, Prints, RollsBy}
 use Rattle.replay.specs.Stops.{AreWhole, IsBeginning}
-use Rattle.replay.specs.declared.page.Stop.{Stop}
+use Rattle.replay.specs.declared.buffer.PrintError.{PrintError}
 
--- The text, which is whole lines, was printed: what a writer's known bytes grew by, and behind it the page now, is the page of before with the text
--- behind it. Where the page of before was whole lines, so is what was written.
-pub record Adds (old new : Option (List ℕ)) (before page text : List ℕ) : Type 0 where
+-- The text, which is whole lines, was printed: what a writer's known bytes grew by, and behind it the buffer now, is the buffer of before with the text
+-- behind it. Where the buffer of before was whole lines, so is what was written.
+pub record Adds (old new : Option (List ℕ)) (before buffer text : List ℕ) : Type 0 where
   pub written : List ℕ
   pub appended : Appends old new written
-  pub joined : before ++ text ≡ written ++ page
+  pub joined : before ++ text ≡ written ++ buffer
   pub lines : AreWhole text
   pub pages : AreWhole before → AreWhole written
 
 -- a writer's known bytes grew by the beginning of this that such a stop leaves
-pub record AddsPart (why : Stop) (old new : Option (List ℕ)) (whole : List ℕ) : Type 0 where
+pub record AddsPart (why : PrintError) (old new : Option (List ℕ)) (whole : List ℕ) : Type 0 where
   pub part : List ℕ
   pub beginning : IsBeginning why part whole
   pub appended : Appends old new part
@@ -38,14 +38,14 @@ pub record RanLine (format : Format) (old : CoreValue) (number : ℕ) (line : Li
   pub lines : AreWhole text
 
 -- the lines were run, from this number on, and printed
-pub record Ran (format : Format) (old : CoreValue) (number : ℕ) (lines : List Line) (new : CoreValue) (from to : Option (List ℕ)) (before page : List ℕ) : Type 0 where
+pub record Ran (format : Format) (old : CoreValue) (number : ℕ) (lines : List Line) (new : CoreValue) (from to : Option (List ℕ)) (before buffer : List ℕ) : Type 0 where
   pub answers : Answers
   pub text : List ℕ
   pub run : Prints format old number lines answers text new
-  pub printed : Adds from to before page text
+  pub printed : Adds from to before buffer text
 
 -- so many of the lines were run, and a beginning of what they printed was written
-pub record RanPart (why : Stop) (format : Format) (old : CoreValue) (number : ℕ) (lines : List Line) (from to : Option (List ℕ)) (before : List ℕ) : Type 0 where
+pub record RanPart (why : PrintError) (format : Format) (old : CoreValue) (number : ℕ) (lines : List Line) (from to : Option (List ℕ)) (before : List ℕ) : Type 0 where
   pub count : ℕ
   pub answers : Answers
   pub text : List ℕ

@@ -6,9 +6,9 @@ use Rattle.recording.specs.Faults.{IsFaultOf}
 use Rattle.event_core.specs.Cores.{CoreValue}
 use Rattle.replay.specs.declared.fault.ReplayFault.{ReplayFault}
 use Rattle.replay.specs.declared.fault.ReplayFault.TheVariants as fault
-use Rattle.replay.specs.declared.page.Stop.{Stop}
-use Rattle.replay.specs.declared.page.Stop.TheVariants as stop
-use Rattle.replay.specs.declared.printing.Printing.{Printing}
+use Rattle.replay.specs.declared.buffer.PrintError.{PrintError}
+use Rattle.replay.specs.declared.buffer.PrintError.TheVariants as stop
+use Rattle.replay.specs.declared.printing.PrintOptions.{PrintOptions}
 use Rattle.output_format.specs.declared.Show.{Show}
 use Rattle.output_format.specs.declared.Show.TheVariants as show
 use Rattle.replay.specs.Lines.{first_number}
@@ -38,7 +38,7 @@ IsReadFault before after fault.Memory = Unit {0}
 IsReadFault before after (fault.Line f) = (bytes : List ℕ) × ReadsAll before after bytes × IsFaultOf bytes f
 
 -- a writer's known bytes grew by an output of the recording
-pub record WritesOutput (r : RecordingValue) (p : Printing) (old new : Option (List ℕ)) : Type 0 where
+pub record WritesOutput (r : RecordingValue) (p : PrintOptions) (old new : Option (List ℕ)) : Type 0 where
   pub answers : Answers
   pub memory : LosesNoEvent p.show answers
   pub output : List ℕ
@@ -48,7 +48,7 @@ pub record WritesOutput (r : RecordingValue) (p : Printing) (old new : Option (L
 -- ---- where printing stops
 
 -- a core was opened, and memory ran out before anything was written
-pub record IsBegun (why : Stop) (r : RecordingValue) (text : List ℕ) : Type 0 where
+pub record IsBegun (why : PrintError) (r : RecordingValue) (text : List ℕ) : Type 0 where
   pub opened : CoreValue
   pub opening : IsOpened r.base opened
   pub cause : why ≡ stop.Memory
@@ -62,7 +62,7 @@ PrintsRun show.Lsdb = Unit {0}
 PrintsRun show.Journal = ⊥
 
 -- the run came so far, where its lines are printed, and the text is the beginning of what these printed
-pub record IsCutRun (why : Stop) (r : RecordingValue) (p : Printing) (text : List ℕ) : Type 0 where
+pub record IsCutRun (why : PrintError) (r : RecordingValue) (p : PrintOptions) (text : List ℕ) : Type 0 where
   pub prints : PrintsRun p.show
   pub count : ℕ
   pub answers : Answers
@@ -72,11 +72,11 @@ pub record IsCutRun (why : Stop) (r : RecordingValue) (p : Printing) (text : Lis
   pub part : IsBeginning why text printed
 
 -- what may have been written where printing stops
-abbrev pub IsCut : Stop → RecordingValue → Printing → List ℕ → Type 0
+abbrev pub IsCut : PrintError → RecordingValue → PrintOptions → List ℕ → Type 0
 IsCut why r p text = IsBegun why r text ⊎ IsCutRun why r p text ⊎ IsCutOutput why r p text
 
 -- a writer's known bytes grew by what such a stop leaves of what is to be written
-pub record WritesPart (why : Stop) (r : RecordingValue) (p : Printing) (old new : Option (List ℕ)) : Type 0 where
+pub record WritesPart (why : PrintError) (r : RecordingValue) (p : PrintOptions) (old new : Option (List ℕ)) : Type 0 where
   pub part : List ℕ
   pub is : IsCut why r p part
   pub written : Appends old new part

@@ -2,18 +2,18 @@
 use Rattle.std.specs.Prelude.{ℕ, ◌≡◌, ◌≢◌, ◌⊎◌, ◌++◌, List, [], ◌∷◌}
 use Rattle.replay.specs.declared.fault.ReplayFault.{ReplayFault}
 use Rattle.replay.specs.declared.fault.ReplayFault.TheVariants as fault
-use Rattle.replay.specs.declared.page.Stop.{Stop}
-use Rattle.replay.specs.declared.page.Stop.TheVariants as stop
-use Rattle.replay.specs.declared.writing.CannotWrite.{CannotWrite}
-use Rattle.replay.specs.declared.writing.CannotWrite.TheVariants as cannot_write
+use Rattle.replay.specs.declared.buffer.PrintError.{PrintError}
+use Rattle.replay.specs.declared.buffer.PrintError.TheVariants as stop
+use Rattle.replay.specs.declared.writing.WriteError.{WriteError}
+use Rattle.replay.specs.declared.writing.WriteError.TheVariants as cannot_write
 
 -- the stop of a write that failed so
-abbrev pub stop_of : CannotWrite → Stop
+abbrev pub stop_of : WriteError → PrintError
 stop_of cannot_write.Failed = stop.Write
 stop_of cannot_write.Closed = stop.Closed
 
 -- the fault of a replay that stops so
-abbrev pub fault_of : Stop → ReplayFault
+abbrev pub fault_of : PrintError → ReplayFault
 fault_of stop.Write = fault.Write
 fault_of stop.Closed = fault.Closed
 fault_of stop.Memory = fault.Memory
@@ -29,13 +29,13 @@ AreWhole text = (text ≡ []) ⊎ IsEnded text
 
 -- What a stop leaves of a text, of which this was written and that was not. A failed write leaves something unwritten, to a closed pipe or
 -- elsewhere; and where memory runs out, no line was written in part.
-abbrev pub IsLeft : Stop → (written unwritten : List ℕ) → Type 0
+abbrev pub IsLeft : PrintError → (written unwritten : List ℕ) → Type 0
 IsLeft stop.Write written unwritten = unwritten ≢ []
 IsLeft stop.Closed written unwritten = unwritten ≢ []
 IsLeft stop.Memory written unwritten = AreWhole written
 
 -- the text is the beginning of the whole that such a stop leaves
-pub record IsBeginning (why : Stop) (text whole : List ℕ) : Type 0 where
+pub record IsBeginning (why : PrintError) (text whole : List ℕ) : Type 0 where
   pub rest : List ℕ
   pub joined : whole ≡ text ++ rest
   pub left : IsLeft why text rest

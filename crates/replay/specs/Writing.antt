@@ -5,8 +5,8 @@ use Rattle.std.specs.declared.io.ErrorKind.{ErrorKind}
 use Rattle.std.specs.declared.io.ErrorKind.TheVariants as io_kind
 use Rattle.std.specs.IoError.{error_kind}
 use Rattle.std.specs.Io.KnownBytes.{Appends}
-use Rattle.replay.specs.declared.writing.CannotWrite.{CannotWrite}
-use Rattle.replay.specs.declared.writing.CannotWrite.TheVariants.{Failed, Closed}
+use Rattle.replay.specs.declared.writing.WriteError.{WriteError}
+use Rattle.replay.specs.declared.writing.WriteError.TheVariants.{Failed, Closed}
 
 -- a writer's known bytes grew by a beginning of these, and not by all of them
 pub record AppendsPart (old new : Option (List ℕ)) (bytes : List ℕ) : Type 0 where
@@ -24,11 +24,11 @@ IsWriteStep (Ok n) count = (count ≡ n) × (n ≢ 0)
 IsWriteStep (Err e) count = (count ≡ 0) × (error_kind e ≡ io_kind.Interrupted)
 
 -- Why no more is written behind a write that failed so. The pipe was closed exactly where the error is of that kind; one that was interrupted is tried again.
-abbrev pub IsErrorEnd : ErrorKind → CannotWrite → Type 0
+abbrev pub IsErrorEnd : ErrorKind → WriteError → Type 0
 IsErrorEnd kind Closed = kind ≡ io_kind.BrokenPipe
 IsErrorEnd kind Failed = (kind ≢ io_kind.BrokenPipe) × (kind ≢ io_kind.Interrupted)
 
 -- why no more is written behind a write: it took nothing, or it failed
-abbrev pub IsWriteEnd : Result ℕ Error → CannotWrite → Type 0
+abbrev pub IsWriteEnd : Result ℕ Error → WriteError → Type 0
 IsWriteEnd (Ok n) why = (n ≡ 0) × (why ≡ Failed)
 IsWriteEnd (Err e) why = IsErrorEnd (error_kind e) why

@@ -9,11 +9,11 @@ ghost use Rattle.replay.specs.Pages.{Adds, AddsPart};
 ghost use Rattle.replay.specs.Stops.{AreWhole};
 
 use crate::lines::put_event;
-use crate::page::{Stop, spill};
+use crate::buffer::{PrintError, flush_if_full};
 use event_core::{Core, Event};
 use json_lines::put_recorded;
 use output_format::Format;
-use recording::{Version, append_front};
+use recording::{Version, append_preamble};
 use std::io;
 
 /// The core that a run left, and the version of the recording as which its journal is shown.
@@ -29,18 +29,18 @@ impl Journal<'_> {
         self,
         format: Format,
         out: &mut W,
-        page: &mut String,
-    ) -> Result<(), Stop>
+        buffer: &mut String,
+    ) -> Result<(), PrintError>
         ensures ok { OnOk result (Adds (W.contents out.old) (W.contents out.new)
-            (string_bytes page.old) (string_bytes page.new)
+            (string_bytes buffer.old) (string_bytes buffer.new)
             (recorded_text format (journal_of self.entry.version self.entry.core.now))) }
-        ensures err { AreWhole (string_bytes page.old)
+        ensures err { AreWhole (string_bytes buffer.old)
             → IfErr result (λ why. AddsPart why (W.contents out.old) (W.contents out.new)
-            (string_bytes page.old
+            (string_bytes buffer.old
             ++ recorded_text format (journal_of self.entry.version self.entry.core.now))) }
     {
-        self.show_front(format, out, page)?;
-        show_events(format, self.core.journal(), out, page)?;
+        self.show_front(format, out, buffer)?;
+        show_events(format, self.core.journal(), out, buffer)?;
         Ok(())
     }
 
@@ -49,42 +49,42 @@ impl Journal<'_> {
         self,
         format: Format,
         out: &mut W,
-        page: &mut String,
-    ) -> Result<(), Stop>
+        buffer: &mut String,
+    ) -> Result<(), PrintError>
         ensures ok { OnOk result (Adds (W.contents out.old) (W.contents out.new)
-            (string_bytes page.old) (string_bytes page.new)
+            (string_bytes buffer.old) (string_bytes buffer.new)
             (forms_text format (front_forms self.entry.version self.entry.core.now.base))) }
-        ensures err { AreWhole (string_bytes page.old)
+        ensures err { AreWhole (string_bytes buffer.old)
             → IfErr result (λ why. AddsPart why (W.contents out.old) (W.contents out.new)
-            (string_bytes page.old
+            (string_bytes buffer.old
             ++ forms_text format (front_forms self.entry.version self.entry.core.now.base))) }
     {
         let Journal { version, core } = self;
-        let alloc = *page.allocator();
+        let alloc = *buffer.allocator();
         match format {
-            Format::Text => Ok(append_front(alloc, version, core.base(), page)?),
+            Format::Text => Ok(append_preamble(alloc, version, core.base(), buffer)?),
             Format::Json => {
                 let mut front = String::new(alloc);
-                append_front(alloc, version, core.base(), &mut front)?;
-                show_recorded(front.as_str(), out, page)
+                append_preamble(alloc, version, core.base(), &mut front)?;
+                show_recorded(front.as_str(), out, buffer)
             }
         }
     }
 }
 
 // The lines of a recording, each as an object.
-fn show_recorded<W: io::Write>(text: &str, out: &mut W, page: &mut String) -> Result<(), Stop>
+fn show_recorded<W: io::Write>(text: &str, out: &mut W, buffer: &mut String) -> Result<(), PrintError>
     ensures ok { (forms : List Form) → IsTextOf text.now forms
-        → OnOk result (Adds (W.contents out.old) (W.contents out.new) (string_bytes page.old)
-        (string_bytes page.new) (flat_map recorded_line forms)) }
-    ensures err { (forms : List Form) → IsTextOf text.now forms → AreWhole (string_bytes page.old)
+        → OnOk result (Adds (W.contents out.old) (W.contents out.new) (string_bytes buffer.old)
+        (string_bytes buffer.new) (flat_map recorded_line forms)) }
+    ensures err { (forms : List Form) → IsTextOf text.now forms → AreWhole (string_bytes buffer.old)
         → IfErr result (λ why. AddsPart why (W.contents out.old) (W.contents out.new)
-        (string_bytes page.old ++ flat_map recorded_line forms)) }
+        (string_bytes buffer.old ++ flat_map recorded_line forms)) }
 {
     let mut left = text;
     while let Some((line, more)) = left.split_once('\n') {
-        put_recorded(line, page)?;
-        spill(out, page)?;
+        put_recorded(line, buffer)?;
+        flush_if_full(out, buffer)?;
         left = more;
     }
     Ok(())
@@ -95,17 +95,17 @@ fn show_events<W: io::Write>(
     format: Format,
     events: &[Event],
     out: &mut W,
-    page: &mut String,
-) -> Result<(), Stop>
-    ensures ok { OnOk result (Adds (W.contents out.old) (W.contents out.new) (string_bytes page.old)
-        (string_bytes page.new) (flat_map (event_line format) events.now)) }
-    ensures err { AreWhole (string_bytes page.old)
+    buffer: &mut String,
+) -> Result<(), PrintError>
+    ensures ok { OnOk result (Adds (W.contents out.old) (W.contents out.new) (string_bytes buffer.old)
+        (string_bytes buffer.new) (flat_map (event_line format) events.now)) }
+    ensures err { AreWhole (string_bytes buffer.old)
         → IfErr result (λ why. AddsPart why (W.contents out.old) (W.contents out.new)
-        (string_bytes page.old ++ flat_map (event_line format) events.now)) }
+        (string_bytes buffer.old ++ flat_map (event_line format) events.now)) }
 {
     for event in events {
-        put_event(format, event, page)?;
-        spill(out, page)?;
+        put_event(format, event, buffer)?;
+        flush_if_full(out, buffer)?;
     }
     Ok(())
 }

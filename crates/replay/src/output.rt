@@ -9,8 +9,8 @@ ghost use Rattle.output_format.specs.declared.Show.TheVariants as show_value;
 use crate::journal::Journal;
 use crate::lines::put_serial;
 use crate::opened::OpenedRecording;
-use crate::page::{Stop, empty_page, write_page};
-use crate::printing::Printing;
+use crate::buffer::{PrintError, new_buffer, flush_buffer};
+use crate::printing::PrintOptions;
 use crate::showing::{show_items, show_lsas, show_summaries};
 use output_format::Show;
 use std::alloc::Global;
@@ -21,10 +21,10 @@ impl OpenedRecording {
     pub(crate) fn print<W: io::Write, F: io::Write>(
         self,
         alloc: Global,
-        printing: Printing,
+        printing: PrintOptions,
         out: &mut W,
         faults: &mut F,
-    ) -> Result<(), Stop>
+    ) -> Result<(), PrintError>
         requires { IsOpened self.core.base self.core }
         ensures ok { OnOk result (WritesOutput (recording_of self.version self.core.base
             self.lines.items) printing (W.contents out.old) (W.contents out.new)) }
@@ -45,10 +45,10 @@ impl OpenedRecording {
     fn print_routes<W: io::Write, F: io::Write>(
         self,
         alloc: Global,
-        printing: Printing,
+        printing: PrintOptions,
         out: &mut W,
         faults: &mut F,
-    ) -> Result<(), Stop>
+    ) -> Result<(), PrintError>
         requires opened { IsOpened self.core.base self.core }
         requires show { printing.show ≡ show_value.Routes }
         ensures ok { OnOk result (WritesOutput (recording_of self.version self.core.base
@@ -59,11 +59,11 @@ impl OpenedRecording {
         ensures progress { ShowsProgress printing.progress (F.contents faults.old)
             (F.contents faults.new) }
     {
-        let mut page = empty_page(alloc)?;
-        let core = self.run_lines(printing, out, &mut page, faults)?;
-        put_serial(printing.format, &core, &mut page)?;
-        show_items(printing.format, core.table(), out, &mut page)?;
-        write_page(out, &mut page)?;
+        let mut buffer = new_buffer(alloc)?;
+        let core = self.run_lines(printing, out, &mut buffer, faults)?;
+        put_serial(printing.format, &core, &mut buffer)?;
+        show_items(printing.format, core.table(), out, &mut buffer)?;
+        flush_buffer(out, &mut buffer)?;
         Ok(())
     }
 
@@ -71,10 +71,10 @@ impl OpenedRecording {
     fn print_due<W: io::Write, F: io::Write>(
         self,
         alloc: Global,
-        printing: Printing,
+        printing: PrintOptions,
         out: &mut W,
         faults: &mut F,
-    ) -> Result<(), Stop>
+    ) -> Result<(), PrintError>
         requires opened { IsOpened self.core.base self.core }
         requires show { printing.show ≡ show_value.Due }
         ensures ok { OnOk result (WritesOutput (recording_of self.version self.core.base
@@ -85,11 +85,11 @@ impl OpenedRecording {
         ensures progress { ShowsProgress printing.progress (F.contents faults.old)
             (F.contents faults.new) }
     {
-        let mut page = empty_page(alloc)?;
-        let core = self.run_lines(printing, out, &mut page, faults)?;
-        put_serial(printing.format, &core, &mut page)?;
-        show_summaries(printing.format, core.summaries(), out, &mut page)?;
-        write_page(out, &mut page)?;
+        let mut buffer = new_buffer(alloc)?;
+        let core = self.run_lines(printing, out, &mut buffer, faults)?;
+        put_serial(printing.format, &core, &mut buffer)?;
+        show_summaries(printing.format, core.summaries(), out, &mut buffer)?;
+        flush_buffer(out, &mut buffer)?;
         Ok(())
     }
 
@@ -97,10 +97,10 @@ impl OpenedRecording {
     fn print_lsdb<W: io::Write, F: io::Write>(
         self,
         alloc: Global,
-        printing: Printing,
+        printing: PrintOptions,
         out: &mut W,
         faults: &mut F,
-    ) -> Result<(), Stop>
+    ) -> Result<(), PrintError>
         requires opened { IsOpened self.core.base self.core }
         requires show { printing.show ≡ show_value.Lsdb }
         ensures ok { OnOk result (WritesOutput (recording_of self.version self.core.base
@@ -111,12 +111,12 @@ impl OpenedRecording {
         ensures progress { ShowsProgress printing.progress (F.contents faults.old)
             (F.contents faults.new) }
     {
-        let mut page = empty_page(alloc)?;
-        let core = self.run_lines(printing, out, &mut page, faults)?;
+        let mut buffer = new_buffer(alloc)?;
+        let core = self.run_lines(printing, out, &mut buffer, faults)?;
         let lsas = core.lsas()?;
-        put_serial(printing.format, &core, &mut page)?;
-        show_lsas(printing.format, lsas, out, &mut page)?;
-        write_page(out, &mut page)?;
+        put_serial(printing.format, &core, &mut buffer)?;
+        show_lsas(printing.format, lsas, out, &mut buffer)?;
+        flush_buffer(out, &mut buffer)?;
         Ok(())
     }
 
@@ -124,10 +124,10 @@ impl OpenedRecording {
     fn print_journal<W: io::Write, F: io::Write>(
         self,
         alloc: Global,
-        printing: Printing,
+        printing: PrintOptions,
         out: &mut W,
         faults: &mut F,
-    ) -> Result<(), Stop>
+    ) -> Result<(), PrintError>
         requires opened { IsOpened self.core.base self.core }
         requires show { printing.show ≡ show_value.Journal }
         ensures ok { OnOk result (WritesOutput (recording_of self.version self.core.base
@@ -139,14 +139,14 @@ impl OpenedRecording {
             (F.contents faults.new) }
     {
         let version = self.version;
-        let mut page = empty_page(alloc)?;
+        let mut buffer = new_buffer(alloc)?;
         let core = self.run_silently(alloc, printing.progress, faults)?;
         let journal = Journal {
             version,
             core: &core,
         };
-        journal.show(printing.format, out, &mut page)?;
-        write_page(out, &mut page)?;
+        journal.show(printing.format, out, &mut buffer)?;
+        flush_buffer(out, &mut buffer)?;
         Ok(())
     }
 }

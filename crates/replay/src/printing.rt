@@ -4,7 +4,7 @@ use output_format::{Format, Show};
 
 /// What a replay prints.
 #[derive(Clone, Copy, Debug, PartialEq, Eq)]
-pub struct Printing {
+pub struct PrintOptions {
     /// What is shown behind the run.
     pub show: Show,
     /// The form of all lines that are printed.

@@ -2,7 +2,7 @@
 ghost use Rattle.std.specs.Prelude.{◌≡◌, IfOk, string_bytes};
 ghost use Rattle.replay.specs.Advance.{Shows, EndsShowing, is_all, is_due, progress_text};
 
-use crate::page::empty_page;
+use crate::buffer::new_buffer;
 use crate::writing::write_whole;
 use ospf_types::memory::Memory;
 use std::alloc::Global;
@@ -62,7 +62,7 @@ impl Progress {
     fn text(self, alloc: Global, done: usize) -> Result<String, Memory>
         ensures { IfOk result (λ text. string_bytes text ≡ progress_text self.all done) }
     {
-        let mut text = empty_page(alloc)?;
+        let mut text = new_buffer(alloc)?;
         match self.all {
             Some(all) => write!(text, "\r{done} of {all} lines")?,
             None => write!(text, "\r{done} lines")?,

@@ -5,14 +5,14 @@ ghost use Rattle.replay.specs.declared.fault.ReplayFault.TheVariants as replay_f
 ghost use Rattle.recording.specs.declared.fault.LineFault.{LineFault};
 ghost use Rattle.replay.specs.Advance.{ShowsProgress};
 ghost use Rattle.replay.specs.Inputs.{ReadsAll};
-ghost use Rattle.replay.specs.declared.page.Stop.TheVariants as stop;
+ghost use Rattle.replay.specs.declared.buffer.PrintError.TheVariants as stop;
 ghost use Rattle.replay.specs.Outputs.{Replays, ReplaysPart};
 ghost use Rattle.replay.specs.Parts.{IsParsed, IsRead, IsReadFault};
 
 use crate::fault::ReplayFault;
 use crate::opened::OpenedRecording;
-use crate::page::fault_of;
-use crate::printing::Printing;
+use crate::buffer::fault_of;
+use crate::printing::PrintOptions;
 use recording::{Recording, parse};
 use std::alloc::Global;
 use std::hash::RandomState;
@@ -29,7 +29,7 @@ use std::io;
 pub fn replay_one<R: io::Read, W: io::Write, F: io::Write>(
     alloc: Global,
     hashing: RandomState,
-    printing: Printing,
+    printing: PrintOptions,
     input: &mut R,
     out: &mut W,
     faults: &mut F,

@@ -10,8 +10,8 @@ ghost use Rattle.replay.specs.Stops.{AreWhole};
 
 use crate::lines::{put_answer, put_lookup, put_roll};
 use crate::opened::OpenedRecording;
-use crate::page::{Stop, spill};
-use crate::printing::Printing;
+use crate::buffer::{PrintError, flush_if_full};
+use crate::printing::PrintOptions;
 use crate::progress::Progress;
 use event_core::{Base, Core, Event, Refusal};
 use ospf_types::memory::Memory;
@@ -24,31 +24,31 @@ impl OpenedRecording {
     /// Runs the lines behind the base, and prints what comes of them. What is returned is the core after the last line.
     pub(crate) fn run_lines<W: io::Write, F: io::Write>(
         self,
-        printing: Printing,
+        printing: PrintOptions,
         out: &mut W,
-        page: &mut String,
+        buffer: &mut String,
         faults: &mut F,
-    ) -> Result<Core, Stop>
+    ) -> Result<Core, PrintError>
         ensures ok { IfOk result (λ core. Ran printing.format self.core
             (first_number self.version self.core.base) self.lines.items core (W.contents out.old)
-            (W.contents out.new) (string_bytes page.old) (string_bytes page.new)) }
-        ensures err { AreWhole (string_bytes page.old) → IfErr result (λ why.
+            (W.contents out.new) (string_bytes buffer.old) (string_bytes buffer.new)) }
+        ensures err { AreWhole (string_bytes buffer.old) → IfErr result (λ why.
             RanPart why printing.format self.core (first_number self.version self.core.base)
-            self.lines.items (W.contents out.old) (W.contents out.new) (string_bytes page.old)) }
+            self.lines.items (W.contents out.old) (W.contents out.new) (string_bytes buffer.old)) }
         ensures progress { ShowsProgress printing.progress (F.contents faults.old)
             (F.contents faults.new) }
     {
-        let alloc = *page.allocator();
+        let alloc = *buffer.allocator();
         let progress = self.progress(printing.progress);
         let OpenedRecording {
             version,
             mut core,
             lines,
         } = self;
-        let mut number = number_of_first(version, core.base());
+        let mut number = first_event_line(version, core.base());
         for line in lines {
-            run_line(printing.format, &mut core, number, line, page)?;
-            spill(out, page)?;
+            run_line(printing.format, &mut core, number, line, buffer)?;
+            flush_if_full(out, buffer)?;
             progress.show(alloc, number, faults);
             number += 1;
         }
@@ -72,7 +72,7 @@ impl OpenedRecording {
             mut core,
             lines,
         } = self;
-        let mut number = number_of_first(version, core.base());
+        let mut number = first_event_line(version, core.base());
         for line in lines {
             take_line(&mut core, line)?;
             progress.show(alloc, number, faults);
@@ -85,7 +85,7 @@ impl OpenedRecording {
     fn progress(&self, is_shown: bool) -> Progress
         ensures { result.is_shown ≡ is_shown }
     {
-        let before = number_of_first(self.version, self.core.base()) - 1;
+        let before = first_event_line(self.version, self.core.base()) - 1;
         Progress {
             is_shown,
             all: Some(before + self.lines.len()),
@@ -95,7 +95,7 @@ impl OpenedRecording {
 
 /// The number of the first line behind the base, for which there are the first lines of its version, one for each area and each
 /// range, and one for each interface and each LSA.
-pub fn number_of_first(version: Version, base: &Base) -> usize
+pub fn first_event_line(version: Version, base: &Base) -> usize
     requires { first_number version base.now < 2 ^ 64 }
     ensures { result ≡ first_number version base.now }
 {

@@ -8,7 +8,7 @@ ghost use Rattle.replay.specs.Pages.{Adds, AddsPart};
 ghost use Rattle.replay.specs.Stops.{AreWhole};
 
 use crate::lines::{put_due, put_item, put_lsa};
-use crate::page::{Stop, spill};
+use crate::buffer::{PrintError, flush_if_full};
 use event_core::{DueSummaries, DueSummary};
 use lsa_codec::Checked;
 use ospf_types::key::Scope;
@@ -21,17 +21,17 @@ pub fn show_items<W: io::Write>(
     format: Format,
     table: &Table,
     out: &mut W,
-    page: &mut String,
-) -> Result<(), Stop>
-    ensures ok { OnOk result (Adds (W.contents out.old) (W.contents out.new) (string_bytes page.old)
-        (string_bytes page.new) (flat_map (item_line format) (entries table.now.items))) }
-    ensures err { AreWhole (string_bytes page.old)
+    buffer: &mut String,
+) -> Result<(), PrintError>
+    ensures ok { OnOk result (Adds (W.contents out.old) (W.contents out.new) (string_bytes buffer.old)
+        (string_bytes buffer.new) (flat_map (item_line format) (entries table.now.items))) }
+    ensures err { AreWhole (string_bytes buffer.old)
         → IfErr result (λ why. AddsPart why (W.contents out.old) (W.contents out.new)
-        (string_bytes page.old ++ flat_map (item_line format) (entries table.now.items))) }
+        (string_bytes buffer.old ++ flat_map (item_line format) (entries table.now.items))) }
 {
     for (prefix, item) in table.items() {
-        put_item(format, prefix, item, page)?;
-        spill(out, page)?;
+        put_item(format, prefix, item, buffer)?;
+        flush_if_full(out, buffer)?;
     }
     Ok(())
 }
@@ -41,16 +41,16 @@ pub fn show_summaries<W: io::Write>(
     format: Format,
     summaries: &DueSummaries,
     out: &mut W,
-    page: &mut String,
-) -> Result<(), Stop>
-    ensures ok { OnOk result (Adds (W.contents out.old) (W.contents out.new) (string_bytes page.old)
-        (string_bytes page.new) (flat_map (area_lines format) (lists_of summaries.now))) }
-    ensures err { AreWhole (string_bytes page.old)
+    buffer: &mut String,
+) -> Result<(), PrintError>
+    ensures ok { OnOk result (Adds (W.contents out.old) (W.contents out.new) (string_bytes buffer.old)
+        (string_bytes buffer.new) (flat_map (area_lines format) (lists_of summaries.now))) }
+    ensures err { AreWhole (string_bytes buffer.old)
         → IfErr result (λ why. AddsPart why (W.contents out.old) (W.contents out.new)
-        (string_bytes page.old ++ flat_map (area_lines format) (lists_of summaries.now))) }
+        (string_bytes buffer.old ++ flat_map (area_lines format) (lists_of summaries.now))) }
 {
     for area in summaries.areas() {
-        show_area(format, area.area(), area.as_slice(), out, page)?;
+        show_area(format, area.area(), area.as_slice(), out, buffer)?;
     }
     Ok(())
 }
@@ -61,17 +61,17 @@ fn show_area<W: io::Write>(
     area: u32,
     list: &[DueSummary],
     out: &mut W,
-    page: &mut String,
-) -> Result<(), Stop>
-    ensures ok { OnOk result (Adds (W.contents out.old) (W.contents out.new) (string_bytes page.old)
-        (string_bytes page.new) (area_lines format (area, list.now))) }
-    ensures err { AreWhole (string_bytes page.old)
+    buffer: &mut String,
+) -> Result<(), PrintError>
+    ensures ok { OnOk result (Adds (W.contents out.old) (W.contents out.new) (string_bytes buffer.old)
+        (string_bytes buffer.new) (area_lines format (area, list.now))) }
+    ensures err { AreWhole (string_bytes buffer.old)
         → IfErr result (λ why. AddsPart why (W.contents out.old) (W.contents out.new)
-        (string_bytes page.old ++ area_lines format (area, list.now))) }
+        (string_bytes buffer.old ++ area_lines format (area, list.now))) }
 {
     for due in list {
-        put_due(format, area, *due, page)?;
-        spill(out, page)?;
+        put_due(format, area, *due, buffer)?;
+        flush_if_full(out, buffer)?;
     }
     Ok(())
 }
@@ -81,17 +81,17 @@ pub fn show_lsas<W: io::Write>(
     format: Format,
     lsas: Vec<(Scope, Checked)>,
     out: &mut W,
-    page: &mut String,
-) -> Result<(), Stop>
-    ensures ok { OnOk result (Adds (W.contents out.old) (W.contents out.new) (string_bytes page.old)
-        (string_bytes page.new) (flat_map (lsa_line format) lsas.items)) }
-    ensures err { AreWhole (string_bytes page.old)
+    buffer: &mut String,
+) -> Result<(), PrintError>
+    ensures ok { OnOk result (Adds (W.contents out.old) (W.contents out.new) (string_bytes buffer.old)
+        (string_bytes buffer.new) (flat_map (lsa_line format) lsas.items)) }
+    ensures err { AreWhole (string_bytes buffer.old)
         → IfErr result (λ why. AddsPart why (W.contents out.old) (W.contents out.new)
-        (string_bytes page.old ++ flat_map (lsa_line format) lsas.items)) }
+        (string_bytes buffer.old ++ flat_map (lsa_line format) lsas.items)) }
 {
     for (scope, lsa) in lsas {
-        put_lsa(format, scope, &lsa, page)?;
-        spill(out, page)?;
+        put_lsa(format, scope, &lsa, buffer)?;
+        flush_if_full(out, buffer)?;
     }
     Ok(())
 }

@@ -8,7 +8,7 @@ use std::io;
 
 /// Why bytes were not written whole.
 #[derive(Clone, Copy, Debug, PartialEq, Eq)]
-pub enum CannotWrite {
+pub enum WriteError {
     /// The writer failed, or took nothing.
     Failed,
     /// The writer failed with `io::ErrorKind::BrokenPipe`: it is a pipe, and its reading end was closed.
@@ -40,7 +40,7 @@ struct Step {
 
 /// Writes all the bytes; or a part of them, where the writer fails or takes nothing. A write that was
 /// interrupted is tried again. The kind of the writer's error decides between `Closed` and `Failed`.
-pub fn write_whole<W: io::Write>(out: &mut W, bytes: &[u8]) -> Result<(), CannotWrite>
+pub fn write_whole<W: io::Write>(out: &mut W, bytes: &[u8]) -> Result<(), WriteError>
     ensures ok { OnOk result (Appends (W.contents out.old) (W.contents out.new) bytes.now) }
     ensures err { OnErr result (AppendsPart (W.contents out.old) (W.contents out.new) bytes.now) }
 {
@@ -55,12 +55,12 @@ pub fn write_whole<W: io::Write>(out: &mut W, bytes: &[u8]) -> Result<(), Cannot
     if rest.is_empty() {
         Ok(())
     } else {
-        Err(CannotWrite::Failed)
+        Err(WriteError::Failed)
     }
 }
 
 // One write.
-fn write_some<W: io::Write>(out: &mut W, bytes: &[u8]) -> Result<Step, CannotWrite>
+fn write_some<W: io::Write>(out: &mut W, bytes: &[u8]) -> Result<Step, WriteError>
     ensures bound { IfOk result (λ step. step.count ≤ length bytes.now) }
     ensures ok { IfOk result (λ step. Appends (W.contents out.old) (W.contents out.new)
         (take step.count bytes.now)) }
@@ -70,12 +70,12 @@ fn write_some<W: io::Write>(out: &mut W, bytes: &[u8]) -> Result<Step, CannotWri
 }
 
 // What the answer of one write comes to: a step, or why no more is written.
-fn step_of(answer: io::Result<usize>) -> Result<Step, CannotWrite>
+fn step_of(answer: io::Result<usize>) -> Result<Step, WriteError>
     ensures step { IfOk result (λ step. IsWriteStep answer step.count) }
     ensures end { IfErr result (IsWriteEnd answer) }
 {
     match answer {
-        Ok(0) => Err(CannotWrite::Failed),
+        Ok(0) => Err(WriteError::Failed),
         Ok(count) => Ok(Step {
             count,
             failed: None,
@@ -85,7 +85,7 @@ fn step_of(answer: io::Result<usize>) -> Result<Step, CannotWrite>
 }
 
 // What a write comes to that failed so.
-fn step_of_error(kind: io::ErrorKind) -> Result<Step, CannotWrite>
+fn step_of_error(kind: io::ErrorKind) -> Result<Step, WriteError>
     ensures step { IfOk result (λ step. (step.count ≡ 0) × (kind ≡ io_kind.Interrupted)) }
     ensures end { IfErr result (IsErrorEnd kind) }
 {
@@ -96,7 +96,7 @@ fn step_of_error(kind: io::ErrorKind) -> Result<Step, CannotWrite>
         });
     }
     if is_closed_pipe(kind) {
-        return Err(CannotWrite::Closed);
+        return Err(WriteError::Closed);
     }
-    Err(CannotWrite::Failed)
+    Err(WriteError::Failed)
 }

@@ -10,7 +10,7 @@ use Rattle.std.specs.List.Sorted.{IsStrictlySortedBy}
 use Rattle.std.proofs.lemmas.List.{take_all, drop_all, map-append, map-id}
 use Rattle.std.proofs.lemmas.List.Elements.{Contains-append_left, Contains-push, Contains-push_cases}
 use Rattle.ospf_types.proofs.Elements.{no_element, first_or_later, contains_more}
-use Rattle.result_map.specs.Chosen.{AreChosen, AreChosenAnew, AreChosenBut, HasOther, IsChosenAnew}
+use Rattle.result_map.specs.Chosen.{AreChosen, AreRechosen, AreChosenExcept, HasChanged, IsRechosen}
 use Rattle.result_map.proofs.KeyedMaps.{listed_or_not, one_or_other}
 
 -- ---- lists in order
@@ -52,8 +52,8 @@ pub record IsSoFar {K V N : Type 0} (cmp : K → K → Ordering) (IsChosen : K �
   pub here : (k : K) → Contains (take count keys) k → IsChosen k (now k)
   pub others : (k : K) → (Contains (take count keys) k → ⊥) → now k ≡ old k
   pub differing : List K
-  pub told_as : told ≡ map named_as differing
-  pub exact : (k : K) → Contains differing k ↔ HasOther old now k
+  pub reported_as : told ≡ map named_as differing
+  pub exact : (k : K) → Contains differing k ↔ HasChanged old now k
   pub in_order : IsStrictlySortedBy cmp (differing ++ drop count keys)
 
 module _ {K V N : Type 0} (cmp : K → K → Ordering) (IsChosen : K → Option V → Type 0) (named_as : K → N) where
@@ -63,44 +63,44 @@ module _ {K V N : Type 0} (cmp : K → K → Ordering) (IsChosen : K → Option 
     here = λ k c. absurd (no_element k c);
     others = λ k absent. refl;
     differing = [];
-    told_as = none;
+    reported_as = none;
     exact = λ k. (λ c. absurd (no_element k c), λ other. absurd (other refl));
     in_order = sorted;
   }
 
   -- all are done
-  pub so_far_all : (old new : K → Option V) (keys : List K) (i : ℕ) (told : List N) → length keys ≤ i → IsSoFar cmp IsChosen named_as old new keys i told → AreChosenAnew cmp IsChosen named_as old new keys told
+  pub so_far_all : (old new : K → Option V) (keys : List K) (i : ℕ) (told : List N) → length keys ≤ i → IsSoFar cmp IsChosen named_as old new keys i told → AreRechosen cmp IsChosen named_as old new keys told
   so_far_all old new keys i told past done =
       let all : take i keys ≡ keys = take_all i keys past in record {
         here = λ k c. done.here k (subst (λ (ks : List K). Contains ks k) (sym all) c);
         others = λ k absent. done.others k (λ c. absent (subst (λ (ks : List K). Contains ks k) all c));
         differing = done.differing;
-        told_as = done.told_as;
+        reported_as = done.reported_as;
         exact = done.exact;
         in_order = subst (IsStrictlySortedBy cmp) (ap (λ (ks : List K). done.differing ++ ks) (drop_all i keys past) ∙ append-nil done.differing) done.in_order;
       }
 
   -- at the keys the results are chosen anew, and at all others there stood what has to
   pub all_chosen : IsTotalOrder cmp → IsAntisymmetric cmp → (old new : K → Option V) (named keys : List K) (told : List N) → ((k : K) → Contains keys k ↔ Contains named k)
-      → AreChosenBut IsChosen named old → AreChosenAnew cmp IsChosen named_as old new keys told → AreChosen IsChosen new
+      → AreChosenExcept IsChosen named old → AreRechosen cmp IsChosen named_as old new keys told → AreChosen IsChosen new
   all_chosen total exact old new named keys told same stood anew k = elim (listed_or_not total exact k keys) [
     | inl there ↦ anew.here k there
     | inr absent ↦ subst (IsChosen k) (sym (anew.others k absent)) (stood k (λ c. absent ((same k).1 c)))
   ]
 
 -- keys that are told themselves
-pub told_themselves : {K V : Type 0} (cmp : K → K → Ordering) (IsChosen : K → Option V → Type 0) (old new : K → Option V) (keys told : List K) → (anew : AreChosenAnew cmp IsChosen (λ k. k) old new keys told) → told ≡ anew.differing
-told_themselves cmp IsChosen old new keys told anew = anew.told_as ∙ map-id anew.differing
+pub told_themselves : {K V : Type 0} (cmp : K → K → Ordering) (IsChosen : K → Option V → Type 0) (old new : K → Option V) (keys told : List K) → (anew : AreRechosen cmp IsChosen (λ k. k) old new keys told) → told ≡ anew.differing
+told_themselves cmp IsChosen old new keys told anew = anew.reported_as ∙ map-id anew.differing
 
 module _ {K V N : Type 0} (cmp : K → K → Ordering) (total : IsTotalOrder cmp) (exact : IsAntisymmetric cmp) (IsChosen : K → Option V → Type 0) (named_as : K → N)
     (old mid new : K → Option V) (keys : List K) (sorted : IsStrictlySortedBy cmp keys) (i : ℕ) (key : K) (lt : i < length keys) (at : key ≡ get_or keys i key)
-    (before after : List N) (done : IsSoFar cmp IsChosen named_as old mid keys i before) (step : IsChosenAnew IsChosen named_as mid new key before after) where
+    (before after : List N) (done : IsSoFar cmp IsChosen named_as old mid keys i before) (step : IsRechosen IsChosen named_as mid new key before after) where
   -- the result was not chosen anew before
   untouched : mid key ≡ old key
   untouched = done.others key (not_before cmp total keys i key sorted lt at)
 
   -- all other keys are told as before
-  elsewhere : (k : K) → k ≢ key → HasOther old new k ↔ Contains done.differing k
+  elsewhere : (k : K) → k ≢ key → HasChanged old new k ↔ Contains done.differing k
   elsewhere k other = (
     λ differs. (done.exact k).1 (λ e. differs (step.others k other ∙ e)),
     λ c e. (done.exact k).0 c (sym (step.others k other) ∙ e),
@@ -133,9 +133,9 @@ module _ {K V N : Type 0} (cmp : K → K → Ordering) (total : IsTotalOrder cmp
       here = here_then;
       others = others_then;
       differing = done.differing;
-      told_as = same.0 ∙ done.told_as;
+      reported_as = same.0 ∙ done.reported_as;
       exact = λ k. elim (one_or_other total exact key k) [
-        | inl e ↦ subst (λ (x : K). Contains done.differing x ↔ HasOther old new x) (sym e) (
+        | inl e ↦ subst (λ (x : K). Contains done.differing x ↔ HasChanged old new x) (sym e) (
           λ c. absurd ((done.exact key).0 c untouched),
           λ differs. absurd (differs (same.1 ∙ untouched)),
         )
@@ -147,11 +147,11 @@ module _ {K V N : Type 0} (cmp : K → K → Ordering) (total : IsTotalOrder cmp
       here = here_then;
       others = others_then;
       differing = done.differing ++ key ∷ [];
-      told_as = pushed.0 ∙ ap (λ (ns : List N). ns ++ named_as key ∷ []) done.told_as ∙ sym (map-append named_as done.differing (key ∷ []));
+      reported_as = pushed.0 ∙ ap (λ (ns : List N). ns ++ named_as key ∷ []) done.reported_as ∙ sym (map-append named_as done.differing (key ∷ []));
       exact = λ k. (
         λ c. elim (Contains-push_cases done.differing key k c) [
           | inl before ↦ (elsewhere k (λ e. (done.exact key).0 (subst (Contains done.differing) e before) untouched)).1 before
-          | inr e ↦ subst (HasOther old new) e (λ is. pushed.1 (is ∙ sym untouched))
+          | inr e ↦ subst (HasChanged old new) e (λ is. pushed.1 (is ∙ sym untouched))
         ],
         λ differs. elim (one_or_other total exact key k) [
           | inl e ↦ subst (Contains (done.differing ++ key ∷ [])) (sym e) (Contains-push done.differing key)

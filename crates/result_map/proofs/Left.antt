@@ -14,7 +14,7 @@ use Rattle.std.proofs.lemmas.Map.Keys.{IsDistinct-from_sorted}
 use Rattle.std.proofs.lemmas.Map.Steps.{length-le_from_keys}
 use Rattle.std.proofs.lemmas.Map.Views.{Contains-from_any, tells_apart}
 use Rattle.ospf_types.proofs.Elements.{no_element, first_or_later}
-use Rattle.result_map.specs.Results.{OthersStay, result_in}
+use Rattle.result_map.specs.Results.{OthersUnchanged, result_in}
 use Rattle.result_map.proofs.ChosenAnew.{sorted_without}
 
 module _ {K : Type 0} (cmp : K → K → Ordering) where
@@ -73,7 +73,7 @@ module _ {K V : Type 0} {cmp : K → K → Ordering} where
       omega (arith, noted.at_most, few)
 
   module _ (total : IsTotalOrder cmp) (old new : K → Option V) (keys : List K) (i : ℕ) (key : K) (lt : i < length keys) (at : key ≡ get_or keys i key)
-      (left : ℕ) (noted : IsLeft cmp old keys i left) (others : OthersStay old new key) where
+      (left : ℕ) (noted : IsLeft cmp old keys i left) (others : OthersUnchanged old new key) where
     abbrev rest : List K
     rest = drop (i + 1) keys
 

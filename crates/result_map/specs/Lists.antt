@@ -2,8 +2,8 @@
 use Rattle.std.specs.Prelude.{◌⊎◌, ◌↔◌, List, Contains}
 
 -- the list has just these
-abbrev pub HasJust : {A : Type 0} → (A → Type 0) → List A → Type 0
-HasJust {A} these list = (x : A) → Contains list x ↔ these x
+abbrev pub ListsExactly : {A : Type 0} → (A → Type 0) → List A → Type 0
+ListsExactly {A} these list = (x : A) → Contains list x ↔ these x
 
 -- the list has what it had and, beside it, just these
 abbrev pub HasMore : {A : Type 0} → (A → Type 0) → List A → List A → Type 0

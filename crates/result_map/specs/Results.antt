@@ -34,13 +34,13 @@ abbrev pub StandsAt : {K V : Type 0} → (K → K → Ordering) → List (K × V
 StandsAt {V = V} cmp entries key place = (value : V) × (slice_get entries place ≡ Some (key, value)) × (result_in cmp entries key ≡ Some value)
 
 -- at all other keys the results stay
-abbrev pub OthersStay : {K V : Type 0} → (K → Option V) → (K → Option V) → K → Type 0
-OthersStay {K} old new key = (k : K) → k ≢ key → new k ≡ old k
+abbrev pub OthersUnchanged : {K V : Type 0} → (K → Option V) → (K → Option V) → K → Type 0
+OthersUnchanged {K} old new key = (k : K) → k ≢ key → new k ≡ old k
 
 -- the answer tells whether the result at the key differs
-abbrev pub TellsDifference : {K V : Type 0} → (K → Option V) → (K → Option V) → K → Bool → Type 0
-TellsDifference old new key differs = IsTrue differs ↔ (old key ≢ new key)
+abbrev pub ReportsDifference : {K V : Type 0} → (K → Option V) → (K → Option V) → K → Bool → Type 0
+ReportsDifference old new key differs = IsTrue differs ↔ (old key ≢ new key)
 
 -- where the answer is `false`, the result at the key stays
-abbrev pub TellsSame : {K V : Type 0} → (K → Option V) → (K → Option V) → K → Bool → Type 0
-TellsSame old new key differs = differs ≡ false → new key ≡ old key
+abbrev pub ReportsSame : {K V : Type 0} → (K → Option V) → (K → Option V) → K → Bool → Type 0
+ReportsSame old new key differs = differs ≡ false → new key ≡ old key

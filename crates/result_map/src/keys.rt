@@ -1,7 +1,7 @@
 //! The keys by which results are kept.
 ghost use Rattle.std.specs.Prelude.{Contains};
 ghost use Rattle.std.specs.List.Sorted.{IsStrictlySortedBy};
-ghost use Rattle.result_map.specs.Lists.{HasJust};
+ghost use Rattle.result_map.specs.Lists.{ListsExactly};
 
 use ospf_types::key::{Dest, Key};
 use ospf_types::prefix::Prefix;
@@ -71,7 +71,7 @@ impl ResultKey for u32 {
 /// The keys, ascending, each once.
 pub fn ascending<K: ResultKey>(mut keys: Vec<K>) -> Vec<K>
     ensures in_order { IsStrictlySortedBy K.order result.items }
-    ensures same { HasJust (Contains keys.items) result.items }
+    ensures same { ListsExactly (Contains keys.items) result.items }
 {
     keys.sort_unstable();
     keys.dedup();

@@ -5,14 +5,14 @@
 mod choose;
 mod dests;
 mod keys;
-mod places;
+mod entry_positions;
 mod results;
 mod same;
-mod told;
+mod reported_as;
 
 pub use choose::Choose;
 pub use dests::{add_networks, add_routers, dests_of, networks_among, routers_among};
 pub use keys::{ResultKey, ascending};
 pub use results::ResultMap;
 pub use same::{Same, are_same};
-pub use told::Told;
+pub use reported_as::ReportedAs;

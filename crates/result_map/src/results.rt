@@ -2,17 +2,17 @@
 ghost use Rattle.std.specs.Prelude.{◌≡◌, ◌≢◌, ◌++◌, [], IfOk, IfSome, IsSome, OnOk, OnErr, option_copied};
 ghost use Rattle.std.specs.List.{AllPairs};
 ghost use Rattle.std.specs.List.Sorted.{IsStrictlySortedBy};
-ghost use Rattle.result_map.specs.Lists.{HasJust};
+ghost use Rattle.result_map.specs.Lists.{ListsExactly};
 ghost use Rattle.std.specs.Map.{keys_of};
 ghost use Rattle.std.specs.Option.{option_to_list};
-ghost use Rattle.result_map.specs.Results.{AreKeysOf, AreResults, OthersStay, TellsDifference, TellsSame, result_at, result_in};
-ghost use Rattle.result_map.specs.Chosen.{AreChosen, AreChosenAnew, AreChosenBut, HasOther, IsChosenAnew};
+ghost use Rattle.result_map.specs.Results.{AreKeysOf, AreResults, OthersUnchanged, ReportsDifference, ReportsSame, result_at, result_in};
+ghost use Rattle.result_map.specs.Chosen.{AreChosen, AreRechosen, AreChosenExcept, HasChanged, IsRechosen};
 
 use crate::choose::Choose;
 use crate::keys::{ResultKey, ascending};
-use crate::places::{exchange, place_of};
+use crate::entry_positions::{exchange, place_of};
 use crate::same::Same;
-use crate::told::Told;
+use crate::reported_as::ReportedAs;
 use indexmap::IndexMap;
 use indexmap::map::Slice;
 use ospf_types::memory::Memory;
@@ -57,11 +57,11 @@ impl<K: ResultKey, V: Same + Drop> ResultMap<K, V> {
     pub fn new(alloc: Global, hashing: RandomState) -> ResultMap<K, V>
         ensures { result.entries ≡ [] }
     {
-        ResultMap::hashed_by(alloc, WordHash::new(hashing))
+        ResultMap::with_hasher(alloc, WordHash::new(hashing))
     }
 
     /// No results, of which the keys are hashed so.
-    pub fn hashed_by(alloc: Global, hashing: WordHash) -> ResultMap<K, V>
+    pub fn with_hasher(alloc: Global, hashing: WordHash) -> ResultMap<K, V>
         ensures { result.entries ≡ [] }
     {
         ResultMap {
@@ -83,7 +83,7 @@ impl<K: ResultKey, V: Same + Drop> ResultMap<K, V> {
 
     /// The result at the key, for a caller that asks for keys in ascending order: it keeps `next` from one to the next, 0 at
     /// first. What was told last is read where it was left, and nothing is hashed.
-    pub fn get_next(&self, key: K, next: &mut usize) -> Option<&V>
+    pub fn get_with_hint(&self, key: K, next: &mut usize) -> Option<&V>
         ensures value { option_copied result ≡ result_at K.order self.now key }
     {
         match self.entries.get_index(self.left_at(*next)) {
@@ -130,11 +130,11 @@ impl<K: ResultKey, V: Same + Drop> ResultMap<K, V> {
     /// memory runs out, nothing changes.
     pub fn update(&mut self, key: K, fresh: Option<V>) -> Result<bool, Memory>
         ensures here { OnOk result (result_at K.order self.new key ≡ fresh) }
-        ensures others { OnOk result (OthersStay (result_at K.order self.old)
+        ensures others { OnOk result (OthersUnchanged (result_at K.order self.old)
             (result_at K.order self.new) key) }
-        ensures differs { IfOk result (TellsDifference (result_at K.order self.old)
+        ensures differs { IfOk result (ReportsDifference (result_at K.order self.old)
             (result_at K.order self.new) key) }
-        ensures stays { IfOk result (TellsSame (result_at K.order self.old)
+        ensures stays { IfOk result (ReportsSame (result_at K.order self.old)
             (result_at K.order self.new) key) }
         ensures err { OnErr result (self.new.entries ≡ self.old.entries) }
     {
@@ -152,11 +152,11 @@ impl<K: ResultKey, V: Same + Drop> ResultMap<K, V> {
         keys: Vec<K>,
         by: &R,
     ) -> Result<Vec<K>, Memory>
-        requires { AreChosenBut (R.IsChosen by.now) keys.items (result_at K.order self.old) }
+        requires { AreChosenExcept (R.IsChosen by.now) keys.items (result_at K.order self.old) }
         ensures chosen { OnOk result (AreChosen (R.IsChosen by.now) (result_at K.order self.new)) }
         ensures in_order { IfOk result (λ others. IsStrictlySortedBy K.order others.items) }
         ensures exact { IfOk result (λ others.
-            HasJust (HasOther (result_at K.order self.old) (result_at K.order self.new))
+            ListsExactly (HasChanged (result_at K.order self.old) (result_at K.order self.new))
             others.items) }
     {
         let keys = ascending(keys);
@@ -167,7 +167,7 @@ impl<K: ResultKey, V: Same + Drop> ResultMap<K, V> {
 
     /// Chooses the results at the keys anew, which ascend, each once, and tells those at which another stands now. If memory
     /// runs out, some results were chosen anew and others were not.
-    pub fn choose_each<R: Choose<K, V>, N: Told<K> + Drop>(
+    pub fn choose_each<R: Choose<K, V>, N: ReportedAs<K> + Drop>(
         &mut self,
         alloc: Global,
         keys: &[K],
@@ -176,7 +176,7 @@ impl<K: ResultKey, V: Same + Drop> ResultMap<K, V> {
     ) -> Result<(), Memory>
         requires in_order { IsStrictlySortedBy K.order keys.now }
         requires none { told.old.items ≡ [] }
-        ensures { OnOk result (AreChosenAnew K.order (R.IsChosen by.now) N.told_as
+        ensures { OnOk result (AreRechosen K.order (R.IsChosen by.now) N.reported_as
             (result_at K.order self.old) (result_at K.order self.new) keys.now told.new.items) }
     {
         self.left.truncate(0);
@@ -203,19 +203,19 @@ impl<K: ResultKey, V: Same + Drop> ResultMap<K, V> {
 
 // Chooses the result at the key anew, and tells the key where another stands now: the answer is the place of that one, if
 // there is one. If memory runs out, the results at all other keys are as before.
-fn choose_one<K: ResultKey, V: Same + Drop, R: Choose<K, V>, N: Told<K> + Drop>(
+fn choose_one<K: ResultKey, V: Same + Drop, R: Choose<K, V>, N: ReportedAs<K> + Drop>(
     entries: &mut IndexMap<K, V, WordHash>,
     alloc: Global,
     key: K,
     by: &R,
     told: &mut Vec<N>,
 ) -> Result<Option<usize>, Memory>
-    ensures chosen { OnOk result (IsChosenAnew (R.IsChosen by.now) N.told_as
+    ensures chosen { OnOk result (IsRechosen (R.IsChosen by.now) N.reported_as
         (result_in K.order entries.old.entries) (result_in K.order entries.new.entries)
         key told.old.items told.new.items) }
     ensures stands { IfOk result (λ place.
         IfSome place (λ _. IsSome (result_in K.order entries.new.entries key))) }
-    ensures others { OthersStay (result_in K.order entries.old.entries)
+    ensures others { OthersUnchanged (result_in K.order entries.old.entries)
         (result_in K.order entries.new.entries) key }
 {
     let place = place_of(entries, key);

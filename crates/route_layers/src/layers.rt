@@ -27,7 +27,7 @@ ghost use Rattle.state_trees.specs.Trees.{lsas_in};
 use active_ranges::ActiveRanges;
 use event_state::State;
 use external::{External, ExternalInputs};
-use inter::{Examined, Inter, InterInputs};
+use inter::{ExaminedArea, Inter, InterInputs};
 use intra::{Dirty, Intra};
 use lsdb::Database;
 use ospf_types::config::Interface;
@@ -203,7 +203,7 @@ pub fn active_areas(alloc: Global, state: &State) -> Result<SmallVec<u32, 4>, Me
 
 // The area whose summaries are examined (RFC 2328, 16.2): the backbone where two areas or more have an interface that is
 // up, or the only area that has one.
-fn examined(state: &State) -> Option<Examined<'_>>
+fn examined(state: &State) -> Option<ExaminedArea<'_>>
     requires { AreFit state.now.config.areas state.now.databases }
     ensures { IsExaminedOf state.now result }
 {
@@ -211,7 +211,7 @@ fn examined(state: &State) -> Option<Examined<'_>>
     let Some(database) = state.database(Scope::Area(area)) else {
         unreachable!()
     };
-    Some(Examined { area, database })
+    Some(ExaminedArea { area, database })
 }
 
 // Its Area ID.

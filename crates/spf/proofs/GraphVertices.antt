@@ -11,9 +11,9 @@ use Rattle.ospf_types.specs.declared.label.Label.{Label}
 use Rattle.ospf_types.specs.Distances.{IsDistance}
 use Rattle.ospf_types.specs.Lsa.{RouterLink}
 use Rattle.ospf_types.proofs.Elements.{no_element, first_or_later}
-use Rattle.vertex_graph.specs.End.{End}
+use Rattle.vertex_graph.specs.LinkEnd.{LinkEnd}
 use Rattle.vertex_graph.specs.Graphs.{GraphValue, graph_view, link_of, LinksOf, HasRoot, HasFewRouters}
-use Rattle.tree_parts.specs.Members.{HasNoDoubles}
+use Rattle.tree_parts.specs.VertexSet.{HasNoDoubles}
 use Rattle.tree_parts.specs.Maps.{most_distance}
 use Rattle.tree_parts.proofs.Counting.{no_doubles_nil, no_doubles_push}
 use Rattle.tree_parts.proofs.Elements.{cases_element}
@@ -25,7 +25,7 @@ use Rattle.spf.proofs.Reach.{distance_fits}
 
 -- the vertex has ends in the graph
 abbrev pub IsThere : GraphValue → Vertex → Type 0
-IsThere g v = (ends : List End) × (get g.ends v ≡ Some ends)
+IsThere g v = (ends : List LinkEnd) × (get g.ends v ≡ Some ends)
 
 -- ---- the routers among vertices
 
@@ -81,7 +81,7 @@ module _ (g : GraphValue) where
         | None ↦ λ none. inr (λ has. let both : Some has.2.0 ≡ None = sym has.2.1 ∙ none in cc)
       ] refl
     where
-      mapped : List End → List RouterLink
+      mapped : List LinkEnd → List RouterLink
       mapped ends = map link_of ends
 
   -- what a link leads to is there

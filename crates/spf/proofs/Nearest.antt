@@ -11,7 +11,7 @@ use Rattle.vertex_graph.specs.Link.{Link}
 use Rattle.vertex_graph.specs.Graphs.{GraphValue, graph_view, LinksOf, HasRoot}
 use Rattle.vertex_queue.specs.Queues.{Queue, IsFirst, rank as queue_rank}
 use Rattle.vertex_queue.proofs.Ranks.{first_has_least_rank}
-use Rattle.tree_parts.specs.Members.{HasNoDoubles}
+use Rattle.tree_parts.specs.VertexSet.{HasNoDoubles}
 use Rattle.tree_parts.specs.Maps.{DistanceMap}
 use Rattle.tree_parts.proofs.Counting.{no_doubles_nil, no_doubles_push}
 use Rattle.tree_parts.proofs.Elements.{added_end, cases_vertex}

@@ -12,7 +12,7 @@ use Rattle.ospf_types.specs.Distances.{Links}
 use Rattle.vertex_graph.specs.Link.{Link}
 use Rattle.vertex_queue.specs.Queues.{Queue, waits_within, lessened}
 use Rattle.vertex_queue.proofs.Ranks.{lessened_here, lessened_elsewhere}
-use Rattle.tree_parts.specs.Members.{IsAdded}
+use Rattle.tree_parts.specs.VertexSet.{IsAdded}
 use Rattle.tree_parts.proofs.Elements.{cases_vertex}
 use Rattle.tree_parts.proofs.VertexMaps.{set_here}
 use Rattle.spf.specs.declared.relax.Pending.{Pending}

@@ -9,7 +9,7 @@ use Rattle.ospf_types.specs.declared.entry.Vertex.{Vertex}
 use Rattle.ospf_types.proofs.Elements.{no_element}
 use Rattle.vertex_graph.specs.Link.{Link}
 use Rattle.vertex_graph.specs.Graphs.{GraphValue, LinksOf, AreLinksFrom, AreLinksTo}
-use Rattle.tree_parts.specs.Members.{HasNoDoubles, IsAdded, IsWithMember}
+use Rattle.tree_parts.specs.VertexSet.{HasNoDoubles, IsAdded, IsWithMember}
 use Rattle.tree_parts.specs.Maps.{DistanceMap}
 use Rattle.tree_parts.proofs.Counting.{no_doubles_nil, no_doubles_push}
 use Rattle.tree_parts.proofs.Elements.{added_end}

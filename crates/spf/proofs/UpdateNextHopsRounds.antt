@@ -18,7 +18,7 @@ use Rattle.vertex_queue.specs.Queues.{Queue, IsFirst}
 use Rattle.vertex_queue.specs.Queues as queue
 use Rattle.vertex_queue.proofs.Ranks.{first_has_least_rank}
 use Rattle.ospf_types.proofs.VertexOrder.{vertex_exact}
-use Rattle.tree_parts.specs.Members.{HasNoDoubles}
+use Rattle.tree_parts.specs.VertexSet.{HasNoDoubles}
 use Rattle.tree_parts.specs.Maps.{DistanceMap, HopMap}
 use Rattle.tree_parts.proofs.Counting.{no_longer, no_doubles_nil, no_doubles_push}
 use Rattle.tree_parts.proofs.Elements.{cases_contains, added_end, cases_vertex}

@@ -8,5 +8,5 @@ pub mod TreeValues
 pub mod Offers
 pub mod HandedOn
 pub use Rattle.tree_parts.specs.Maps
-pub use Rattle.tree_parts.specs.Members
+pub use Rattle.tree_parts.specs.VertexSet
 pub use Rattle.tree_parts.specs.declared.touched.Touched

@@ -8,7 +8,7 @@ use Rattle.ospf_types.specs.declared.label.Label.{Label}
 use Rattle.vertex_graph.specs.Link.{Link}
 use Rattle.vertex_graph.specs.Graphs.{GraphValue, LinksOf, HasRoot}
 use Rattle.tree_parts.specs.Maps.{DistanceMap}
-use Rattle.tree_parts.specs.Members.{HasNoDoubles}
+use Rattle.tree_parts.specs.VertexSet.{HasNoDoubles}
 use Rattle.spf.specs.declared.lose_support.Search.{Search}
 use Rattle.spf.specs.Changes.{Among}
 use Rattle.spf.specs.Loops.{AreLosingSupport, IsLost}

@@ -9,7 +9,7 @@ use Rattle.ospf_types.specs.Vertices.{vertex_cmp}
 use Rattle.vertex_graph.specs.Link.{Link}
 use Rattle.vertex_graph.specs.Graphs.{GraphValue, LinksOf, HasRoot}
 use Rattle.tree_parts.specs.Differing.{IsNearer}
-use Rattle.tree_parts.specs.Members.{HasNoDoubles}
+use Rattle.tree_parts.specs.VertexSet.{HasNoDoubles}
 use Rattle.tree_parts.specs.Counts.{no_work}
 use Rattle.tree_parts.specs.Maps.{DistanceMap, HopMap}
 use Rattle.tree_parts.specs.declared.touched.Touched.{Touched}

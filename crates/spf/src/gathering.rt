@@ -5,34 +5,34 @@ ghost use Rattle.ospf_types.specs.Distances.{FirstOnly};
 ghost use Rattle.spf.specs.HandedOn.{AreGiven, AreUnited, HasDirect, HaveSameHops, IsHandedOn, IsLeastLink, IsOfSome, IsUnion, IsUnionOver};
 ghost use Rattle.spf.specs.Trees.{HandsOn, first_hops};
 
-use crate::places::is_at_root;
+use crate::hints::is_at_root;
 use hop_sets::HopSet;
 use ospf_types::entry::Vertex;
 use ospf_types::hop::NextHop;
 use ospf_types::memory::Memory;
 use std::alloc::Global;
-use tree_parts::{Distances, HopColumns};
+use tree_parts::{Distances, NextHopMap};
 use vertex_graph::{Graph, Link, LinkLabel};
-use vertex_map::Placed;
+use vertex_map::HintedVertex;
 
 /// A tree whose next hops are being updated: the distances are those after, and each next hop is of before or after.
 #[derive(Clone, Copy)]
 pub(crate) struct TreeInUpdate<'a> {
     pub(crate) graph: &'a Graph,
     pub(crate) distances: &'a Distances,
-    pub(crate) hops: &'a HopColumns,
+    pub(crate) hops: &'a NextHopMap,
 }
 
 impl TreeInUpdate<'_> {
     /// The next hops that the least links into a vertex, which is this far, give it.
-    pub(crate) fn gather(self, alloc: Global, vertex: &Placed, far: u32) -> Result<HopSet, Memory>
+    pub(crate) fn gather(self, alloc: Global, vertex: &HintedVertex, far: u32) -> Result<HopSet, Memory>
         requires { map.get self.distances.now vertex.now ≡ Some far }
         ensures { IfOk result (AreGiven self.entry.graph.now
             self.entry.distances.now self.entry.hops.now vertex.now) }
     {
         let root = self.graph.root();
         let mut set = HopSet::new(alloc);
-        for link in self.graph.links_into(vertex) {
+        for link in self.graph.links_to_at(vertex) {
             self.add_given(root, link, far, &mut set)?;
         }
         Ok(set)

@@ -5,7 +5,7 @@
 
 mod gathering;
 mod lose_support;
-mod places;
+mod hints;
 mod relax;
 mod tree;
 mod update_next_hops;

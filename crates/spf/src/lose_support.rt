@@ -11,9 +11,9 @@ use crate::workspace::MOST_KEPT;
 use ospf_types::entry::Vertex;
 use ospf_types::memory::Memory;
 use std::alloc::Global;
-use tree_parts::{Distances, Members};
+use tree_parts::{Distances, VertexSet};
 use vertex_graph::{Graph, Link, LinkChanges};
-use vertex_map::{Placed, VertexMap};
+use vertex_map::{HintedVertex, VertexMap};
 use word_hash::WordHash;
 
 /// Finds what is lost by the links that went.
@@ -38,9 +38,9 @@ pub(crate) fn lose_support(
 /// What is found while vertices are suspected to have lost all that supported them: those that lose their distance, and
 /// those that are looked at again. It is kept for its memory.
 pub(crate) struct Search {
-    pub(crate) lost: Members,
+    pub(crate) lost: VertexSet,
     pub(crate) pending: Pending,
-    suspects: Members,
+    suspects: VertexSet,
     // At which of the links into a vertex a search for support stopped, if it passed over many.
     stops: VertexMap<usize>,
 }
@@ -64,18 +64,18 @@ impl Search {
         ensures suspects { result.suspects ≡ [] }
     {
         Search {
-            lost: Members::new(alloc, hashing),
+            lost: VertexSet::new(alloc, hashing),
             pending: Pending::new(alloc, hashing),
-            suspects: Members::new(alloc, hashing),
+            suspects: VertexSet::new(alloc, hashing),
             stops: VertexMap::new(alloc, hashing),
         }
     }
 
     /// Gives back the memory of what was found, but not that of the queue.
     pub(crate) fn give_back(&mut self, alloc: Global, hashing: WordHash) {
-        self.lost = Members::new(alloc, hashing);
-        self.pending.stale = Members::new(alloc, hashing);
-        self.suspects = Members::new(alloc, hashing);
+        self.lost = VertexSet::new(alloc, hashing);
+        self.pending.stale = VertexSet::new(alloc, hashing);
+        self.suspects = VertexSet::new(alloc, hashing);
         self.stops = VertexMap::new(alloc, hashing);
     }
 
@@ -133,7 +133,7 @@ impl Search {
     }
 
     // The vertex is stale, and suspected unless it is lost.
-    fn suspect(&mut self, vertex: &Placed) -> Result<(), Memory>
+    fn suspect(&mut self, vertex: &HintedVertex) -> Result<(), Memory>
         requires within { AreWithin self.old.lost self.old.suspects self.old.pending.stale }
         ensures told { OnOk result (AreToldIn (λ v. vertex.now ≡ v) self.old self.new) }
         ensures lost { OnOk result (self.new.lost ≡ self.old.lost) }
@@ -153,7 +153,7 @@ impl Search {
         &mut self,
         graph: &Graph,
         distances: &Distances,
-        suspect: &Placed,
+        suspect: &HintedVertex,
     ) -> Result<(), Memory>
         requires within { AreWithin self.old.lost self.old.suspects self.old.pending.stale }
         requires stale { Contains self.old.pending.stale suspect.now }
@@ -174,7 +174,7 @@ impl Search {
         }
         self.lost.push(suspect)?;
         self.suspect_beyond(
-            graph.links_out_of(suspect),
+            graph.links_from_at(suspect),
             graph.root(),
             distances,
             distance,
@@ -186,7 +186,7 @@ impl Search {
 #[derive(Clone, Copy)]
 struct StillReached<'a> {
     distances: &'a Distances,
-    lost: &'a Members,
+    lost: &'a VertexSet,
 }
 
 impl StillReached<'_> {
@@ -196,13 +196,13 @@ impl StillReached<'_> {
         self,
         stops: &mut VertexMap<usize>,
         graph: &Graph,
-        vertex: &Placed,
+        vertex: &HintedVertex,
         distance: u32,
     ) -> Result<bool, Memory>
         ensures { IfOk result (TellsSupport graph.now self.entry.distances.now self.entry.lost.now
             vertex.now distance) }
     {
-        let links = graph.links_into(vertex);
+        let links = graph.links_to_at(vertex);
         let start = start_of(stops, vertex).min(links.len());
         let (passed, open) = links.split_at(start);
         if let Some(place) = self.find_support(open, distance) {
@@ -241,7 +241,7 @@ impl StillReached<'_> {
 }
 
 // Where the search for the vertex's support goes on.
-fn start_of(stops: &VertexMap<usize>, vertex: &Placed) -> usize {
+fn start_of(stops: &VertexMap<usize>, vertex: &HintedVertex) -> usize {
     if stops.is_empty() {
         return 0;
     }
@@ -251,7 +251,7 @@ fn start_of(stops: &VertexMap<usize>, vertex: &Placed) -> usize {
 // Notes where a search for support stopped that passed over many links. A few are soon read again, and take no memory.
 fn note_stop(
     stops: &mut VertexMap<usize>,
-    vertex: &Placed,
+    vertex: &HintedVertex,
     stop: usize,
     passed: usize,
 ) -> Result<(), Memory> {

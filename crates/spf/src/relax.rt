@@ -10,13 +10,13 @@ ghost use Rattle.tree_parts.specs.Maps.{most_distance};
 ghost use Rattle.spf.specs.Offers.{AreHeadsAt, AreMadeAt, AreMadeIn, IntoIn, IsCleared, OneOffer, OutOfIn, OverLink, OverLinks, OverReachedIn};
 ghost use Rattle.spf.specs.Parts.{AreLinksOfGraph, AreReadyToRelax, AreReset, IsRelaxed};
 
-use crate::places::is_at_root;
+use crate::hints::is_at_root;
 use ospf_types::entry::Vertex;
 use ospf_types::memory::Memory;
 use std::alloc::Global;
-use tree_parts::{Distances, Members, Touched, VertexList};
+use tree_parts::{Distances, VertexSet, Touched, VertexList};
 use vertex_graph::{Graph, Link};
-use vertex_map::Placed;
+use vertex_map::HintedVertex;
 use vertex_queue::Queue;
 use word_hash::WordHash;
 
@@ -24,14 +24,14 @@ use word_hash::WordHash;
 #[derive(Clone, Copy)]
 pub(crate) struct LinksAfter<'a> {
     pub(crate) graph: &'a Graph,
-    pub(crate) root: &'a Placed,
+    pub(crate) root: &'a HintedVertex,
     pub(crate) came: &'a [Link],
 }
 
 /// The vertices that are looked at again: those that wait in the queue, and the stale ones, whose least links changed.
 pub(crate) struct Pending {
     pub(crate) queue: Queue,
-    pub(crate) stale: Members,
+    pub(crate) stale: VertexSet,
 }
 
 // proof: one call drops it, in place of a drop of each part wherever one is held.
@@ -50,7 +50,7 @@ impl Pending {
     {
         Pending {
             queue: Queue::new(alloc, hashing),
-            stale: Members::new(alloc, hashing),
+            stale: VertexSet::new(alloc, hashing),
         }
     }
 
@@ -58,7 +58,7 @@ impl Pending {
     pub(crate) fn relax(
         &mut self,
         after: LinksAfter<'_>,
-        lost: &Members,
+        lost: &VertexSet,
         distances: &mut Distances,
         moved: &mut VertexList,
     ) -> Result<Touched, Memory>
@@ -91,7 +91,7 @@ impl Pending {
     fn reach(
         &mut self,
         graph: &Graph,
-        vertex: &Placed,
+        vertex: &HintedVertex,
         distance: u32,
         distances: &mut Distances,
     ) -> Result<(), Memory>
@@ -101,7 +101,7 @@ impl Pending {
         ensures made { OnOk result (AreMadeIn (OutOfIn graph.now vertex.now distance)
             distances.new self.old self.new) }
     {
-        let links = graph.links_out_of(vertex);
+        let links = graph.links_from_at(vertex);
         distances.set(vertex, distance)?;
         self.offer_from(graph.root(), links, distance, distances)
     }
@@ -110,7 +110,7 @@ impl Pending {
     fn offer_into(
         &mut self,
         graph: &Graph,
-        vertices: &[Placed],
+        vertices: &[HintedVertex],
         distances: &Distances,
     ) -> Result<(), Memory>
         ensures { OnOk result (AreMadeIn (IntoIn graph.now distances.now vertices.now)
@@ -118,7 +118,7 @@ impl Pending {
     {
         let root = graph.root();
         for vertex in vertices {
-            let links = graph.links_into(vertex);
+            let links = graph.links_to_at(vertex);
             let far = distances.get(vertex);
             self.offer_to(root, links, far, distances)?;
         }
@@ -208,7 +208,7 @@ impl Pending {
 
     // 16.1 (2d): offers a vertex, which is this far, a distance. If that is nearer the vertex is queued; if it is as
     // near, the vertex is stale.
-    fn offer(&mut self, vertex: &Placed, distance: u32, far: Option<u32>) -> Result<(), Memory>
+    fn offer(&mut self, vertex: &HintedVertex, distance: u32, far: Option<u32>) -> Result<(), Memory>
         ensures { OnOk result (AreMadeAt (OneOffer vertex.now distance) vertex.now far
             self.old self.new) }
     {
@@ -229,8 +229,8 @@ impl Pending {
 // is a vertex.
 fn reset(
     graph: &Graph,
-    place: &Placed,
-    lost: &[Placed],
+    place: &HintedVertex,
+    lost: &[HintedVertex],
     distances: &mut Distances,
 ) -> Result<(), Memory>
     ensures { OnOk result (AreReset graph.now distances.old lost.now distances.new) }
@@ -246,14 +246,14 @@ fn reset(
 }
 
 // Whether the root is a vertex. It is one where links lead out of it, and they are found at its place.
-fn has_root(graph: &Graph, root: &Placed) -> bool
+fn has_root(graph: &Graph, root: &HintedVertex) -> bool
     requires { root.now ≡ RouterValue graph.now.root }
     ensures { IsTrue result ↔ HasRoot graph.now }
 {
-    !graph.links_out_of(root).is_empty() || graph.has_root()
+    !graph.links_from_at(root).is_empty() || graph.has_root()
 }
 
-fn clear(lost: &[Placed], distances: &mut Distances)
+fn clear(lost: &[HintedVertex], distances: &mut Distances)
     ensures { IsCleared (map.get distances.old) lost.now (map.get distances.new) }
 {
     for vertex in lost {

@@ -6,7 +6,7 @@ ghost use Rattle.tree_parts.specs.Maps.{most_distance};
 ghost use Rattle.spf.specs.TreeValues.{AreChanged, AreOthersKept, IsBoundedBy, IsBuildWork, IsIdleUnless, IsRepairWork, IsTreeBefore, IsTreeOf, at_rest, listed_hops, spent_value};
 
 use crate::lose_support::lose_support;
-use crate::places::{root_of, tail_of};
+use crate::hints::{root_of, tail_of};
 use crate::relax::LinksAfter;
 use crate::workspace::Workspace;
 use ospf_types::entry::Vertex;
@@ -16,19 +16,19 @@ use std::alloc::Global;
 use std::hash::RandomState;
 use std::marker::Model;
 use tree_parts::differing::{Repaired, remember};
-use tree_parts::{Distances, HopColumns, Touched};
+use tree_parts::{Distances, NextHopMap, Touched};
 use vertex_graph::{Graph, LinkChanges};
-use vertex_map::Placed;
+use vertex_map::HintedVertex;
 use word_hash::WordHash;
 
 /// The shortest-path tree of an area.
 pub struct Tree {
     distances: Distances,
-    hops: HopColumns,
+    hops: NextHopMap,
     changed: Vec<Vertex>,
     spent: bool,
     // The root, with its place.
-    root: Placed,
+    root: HintedVertex,
     workspace: Workspace,
 }
 
@@ -75,7 +75,7 @@ impl Tree {
     {
         let hashing = WordHash::new(hashing);
         let mut distances = Distances::with_room(alloc, hashing, graph.len())?;
-        let mut hops = HopColumns::with_room(alloc, hashing, graph.len())?;
+        let mut hops = NextHopMap::with_room(alloc, hashing, graph.len())?;
         let mut workspace = Workspace::new(alloc, hashing);
         let root = Vertex::Router(graph.root());
         let came = graph.links_from(root);
@@ -156,7 +156,7 @@ impl Tree {
     }
 
     /// The distance of a vertex that comes with the place of its row in the graph. Mostly nothing is hashed.
-    pub fn distance_at(&self, vertex: &Placed) -> Option<u32>
+    pub fn distance_at(&self, vertex: &HintedVertex) -> Option<u32>
         ensures value { result ≡ map.get self.now.distances vertex.now }
         ensures bounded { IfSome result (λ distance. distance < most_distance) }
     {
@@ -164,7 +164,7 @@ impl Tree {
     }
 
     /// The next hops of a vertex that comes with the place of its row in the graph. Mostly nothing is hashed.
-    pub fn hops_at(&self, vertex: &Placed) -> &[NextHop]
+    pub fn hops_at(&self, vertex: &HintedVertex) -> &[NextHop]
         ensures value { result.now ≡ listed_hops (map.get self.now.hops vertex.now) }
         ensures in_order { IsStrictlySortedBy hop_cmp result.now }
     {

@@ -2,20 +2,20 @@
 //! nearest vertex first.
 ghost use Rattle.std.specs.Prelude.{◌≡◌, ◌-◌, ◌^◌, ◌<◌, ◌≤◌, ◌++◌, ◌∷◌, [], Some, IfSome, IfNone, OnOk, Contains, length};
 ghost use Rattle.std.specs.FinMap as map;
-ghost use Rattle.tree_parts.specs.Members.{HasNoDoubles};
+ghost use Rattle.tree_parts.specs.VertexSet.{HasNoDoubles};
 ghost use Rattle.tree_parts.specs.Maps.{with_hops};
 ghost use Rattle.spf.specs.HandedOn.{AreBlank, AreHeadsPut, AreReachedPut, HasDistance, IsHeadPut, IsLeastLink, IsReachedPut, IsSettledIn};
 ghost use Rattle.spf.specs.Parts.{AreReadyToUpdate, AreSettledIn};
 
 use crate::gathering::{TreeInUpdate, are_same};
-use crate::places::is_at_root;
+use crate::hints::is_at_root;
 use crate::relax::Pending;
 use hop_sets::HopSet;
 use ospf_types::memory::Memory;
 use std::alloc::Global;
-use tree_parts::{Distances, HopColumns, Members, Touched, VertexList};
+use tree_parts::{Distances, NextHopMap, VertexSet, Touched, VertexList};
 use vertex_graph::{Graph, Link};
-use vertex_map::Placed;
+use vertex_map::HintedVertex;
 use vertex_queue::Queue;
 
 /// What relaxing leaves: the graph with the distances after, the vertices that lost theirs, and those that moved.
@@ -23,7 +23,7 @@ use vertex_queue::Queue;
 pub(crate) struct Relaxed<'a> {
     pub(crate) graph: &'a Graph,
     pub(crate) distances: &'a Distances,
-    pub(crate) lost: &'a Members,
+    pub(crate) lost: &'a VertexSet,
     pub(crate) moved: &'a VertexList,
 }
 
@@ -60,7 +60,7 @@ impl HopWriter {
         &mut self,
         relaxed: Relaxed<'_>,
         pending: &mut Pending,
-        hops: &mut HopColumns,
+        hops: &mut NextHopMap,
     ) -> Result<(), Memory>
         requires none_wait { pending.old.queue ≡ map.empty }
         requires unsettled { AreReadyToUpdate relaxed hops.old pending.old.stale }
@@ -101,8 +101,8 @@ impl HopWriter {
     fn blank(
         &mut self,
         distances: &Distances,
-        lost: &[Placed],
-        hops: &mut HopColumns,
+        lost: &[HintedVertex],
+        hops: &mut NextHopMap,
     ) -> Result<(), Memory>
         requires apart { HasNoDoubles lost.now }
         requires none { self.old.written ≡ [] }
@@ -126,7 +126,7 @@ impl HopWriter {
         &mut self,
         least_links: LeastLinks<'_>,
         taken: &Taken,
-        hops: &mut HopColumns,
+        hops: &mut NextHopMap,
         queue: &mut Queue,
     ) -> Result<(), Memory>
         requires at { map.get least_links.distances.now taken.now.vertex ≡ Some taken.now.distance }
@@ -155,9 +155,9 @@ impl HopWriter {
     // Writes the next hops of a vertex where none were written yet.
     fn write(
         &mut self,
-        vertex: &Placed,
+        vertex: &HintedVertex,
         set: Option<HopSet>,
-        hops: &mut HopColumns,
+        hops: &mut NextHopMap,
     ) -> Result<(), Memory>
         requires fresh { Contains self.old.written vertex.now → ⊥ }
         requires counted { self.old.touched.hop_sets ≡ length self.old.written }
@@ -175,7 +175,7 @@ impl HopWriter {
 // A vertex that was taken from the queue, at the distance that it has.
 #[derive(Drop)]
 struct Taken {
-    vertex: Placed,
+    vertex: HintedVertex,
     distance: u32,
 }
 
@@ -194,7 +194,7 @@ impl LeastLinks<'_> {
             taken.now.vertex queue.old queue.new) }
     {
         let root = self.graph.root();
-        for link in self.graph.links_out_of(&taken.vertex) {
+        for link in self.graph.links_from_at(&taken.vertex) {
             self.put_head(root, link, taken.distance, queue)?;
         }
         Ok(())
@@ -220,7 +220,7 @@ impl LeastLinks<'_> {
 fn put_reached(
     root: u32,
     distances: &Distances,
-    vertices: &[Placed],
+    vertices: &[HintedVertex],
     queue: &mut Queue,
 ) -> Result<(), Memory>
     ensures { OnOk result (AreReachedPut root distances.now vertices.now queue.old queue.new) }
@@ -234,7 +234,7 @@ fn put_reached(
 fn put_if_reached(
     root: u32,
     distances: &Distances,
-    vertex: &Placed,
+    vertex: &HintedVertex,
     queue: &mut Queue,
 ) -> Result<(), Memory>
     ensures { OnOk result (IsReachedPut root distances.now vertex.now queue.old queue.new) }

@@ -9,8 +9,8 @@ use crate::relax::LinksAfter;
 use crate::update_next_hops::{HopWriter, Relaxed};
 use ospf_types::memory::Memory;
 use std::alloc::Global;
-use tree_parts::{Distances, HopColumns, Listing, Touched, VertexList};
-use vertex_map::Placed;
+use tree_parts::{Distances, NextHopMap, SortedVertices, Touched, VertexList};
+use vertex_map::HintedVertex;
 use vertex_queue::Queue;
 use word_hash::WordHash;
 
@@ -21,10 +21,10 @@ pub(crate) const MOST_KEPT: usize = 512;
 pub(crate) struct Workspace {
     pub(crate) search: Search,
     // The root and what was lost, each with its distance before.
-    pub(crate) remembered: Vec<(Placed, Option<u32>)>,
+    pub(crate) remembered: Vec<(HintedVertex, Option<u32>)>,
     pub(crate) moved: VertexList,
     pub(crate) writer: HopWriter,
-    pub(crate) listing: Listing,
+    pub(crate) listing: SortedVertices,
     hashing: WordHash,
 }
 
@@ -53,7 +53,7 @@ impl Workspace {
             remembered: Vec::new(alloc),
             moved: VertexList::new(alloc),
             writer: HopWriter::new(alloc),
-            listing: Listing::new(alloc),
+            listing: SortedVertices::new(alloc),
             hashing,
         }
     }
@@ -64,7 +64,7 @@ impl Workspace {
         &mut self,
         after: LinksAfter<'_>,
         distances: &mut Distances,
-        hops: &mut HopColumns,
+        hops: &mut NextHopMap,
     ) -> Result<Touched, Memory>
         requires begun { IsBegunWith after.graph.now after.came.now
             (tree_of distances.old hops.old) self.old.search }
@@ -111,7 +111,7 @@ impl Workspace {
         if self.moved.len().max(self.writer.written.len()) > MOST_KEPT {
             self.moved = VertexList::new(alloc);
             self.writer.written = VertexList::new(alloc);
-            self.listing = Listing::new(alloc);
+            self.listing = SortedVertices::new(alloc);
         }
     }
 }

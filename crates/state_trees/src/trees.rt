@@ -3,7 +3,7 @@ ghost use Rattle.std.specs.Prelude.{◌≡◌, ◌↔◌, ◌≤◌, ◌+◌, �
 ghost use Rattle.ospf_types.specs.declared.key.Key.{Key as KeyValue};
 ghost use Rattle.spf.specs.Touched.{Touched as TouchedValue};
 ghost use Rattle.spf.specs.TreeValues.{IsWorkForAll, IsWorkDone};
-ghost use Rattle.vertex_graph.specs.Graphs.{most_routers};
+ghost use Rattle.vertex_graph.specs.Graphs.{max_routers};
 ghost use Rattle.area_trees.specs.Areas.{IsWorkBounded};
 ghost use Rattle.spf.specs.TreeValues.{AreOthersKept};
 ghost use Rattle.event_state.specs.States.{State as StateValue, place_of};
@@ -27,7 +27,7 @@ pub fn build_trees(
     state: &State,
     hashing: RandomState,
 ) -> Result<(Vec<AreaTree>, Touched), Memory>
-    requires few { state.now.limits.area_lsas ≤ most_routers }
+    requires few { state.now.limits.area_lsas ≤ max_routers }
     ensures right { IfOk result (λ built.
         AreTreesOf state.now state.now.config.areas built.0.items) }
     ensures work { IfOk result (λ built. (works : List TouchedValue)
@@ -50,7 +50,7 @@ fn build_tree(
     area: u32,
     hashing: RandomState,
 ) -> Result<(AreaTree, Touched), Memory>
-    requires few { state.now.limits.area_lsas ≤ most_routers }
+    requires few { state.now.limits.area_lsas ≤ max_routers }
     requires there { IsSome (place_of state.now.config.areas (Scope.Area area)) }
     ensures right { IfOk result (λ built. IsTreeFor state.now area built.0) }
     ensures work { IfOk result (λ built. IsWorkForAll built.0.area.graph built.0.tree
@@ -81,7 +81,7 @@ pub fn follow_trees(
     changed: ChangedState<'_>,
     vertices: &mut Vec<(u32, Vertex)>,
 ) -> Result<Touched, Memory>
-    requires few { changed.state.now.limits.area_lsas ≤ most_routers }
+    requires few { changed.state.now.limits.area_lsas ≤ max_routers }
     requires before { (before : StateValue) × AreTreesOf before before.config.areas trees.old
         × StatesDifferAmong changed.keys.now changed.interfaces.now true before
         changed.state.now }
@@ -105,7 +105,7 @@ fn follow_tree(
     changed: ChangedState<'_>,
     area: u32,
 ) -> Result<Touched, Memory>
-    requires few { changed.state.now.limits.area_lsas ≤ most_routers }
+    requires few { changed.state.now.limits.area_lsas ≤ max_routers }
     requires there { IsSome (place_of changed.state.now.config.areas (Scope.Area area)) }
     requires before { (before : StateValue) × IsTreeFor before area tree.old
         × StatesDifferAmong changed.keys.now changed.interfaces.now true before

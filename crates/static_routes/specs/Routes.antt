@@ -2,7 +2,7 @@
 use Rattle.std.specs.Prelude.{ℕ, ◌≡◌, ◌≤◌, ◌⊎◌, List, Option, Some, None, Contains}
 use Rattle.ospf_types.specs.declared.prefix.Prefix.{Prefix}
 use Rattle.ospf_types.specs.Network.{network_cmp}
-use Rattle.result_map.specs.Chosen.{AreChosen, AreChosenBut}
+use Rattle.result_map.specs.Chosen.{AreChosen, AreChosenExcept}
 use Rattle.result_map.specs.Results.{Results, result_at}
 
 -- a route to the network is configured at the metric
@@ -33,4 +33,4 @@ AreRoutesOf configured taken routes = AreChosen (IsRouteOf configured taken) (re
 
 -- each network but these
 abbrev pub AreRoutesButAt : List (Prefix × ℕ) → List Prefix → List Prefix → Results Prefix ℕ → Type 0
-AreRoutesButAt configured taken networks routes = AreChosenBut (IsRouteOf configured taken) networks (result_at network_cmp routes)
+AreRoutesButAt configured taken networks routes = AreChosenExcept (IsRouteOf configured taken) networks (result_at network_cmp routes)

@@ -1,8 +1,8 @@
 ghost use Rattle.std.specs.Prelude.{◌≡◌, IfOk, OnOk, true, false, map as list_map, option_copied};
 ghost use Rattle.std.specs.List.Sorted.{IsStrictlySortedBy};
 ghost use Rattle.ospf_types.specs.Network.{network_cmp};
-ghost use Rattle.result_map.specs.Chosen.{HasOther};
-ghost use Rattle.result_map.specs.Lists.{HasJust};
+ghost use Rattle.result_map.specs.Chosen.{HasChanged};
+ghost use Rattle.result_map.specs.Lists.{ListsExactly};
 ghost use Rattle.result_map.specs.Results.{result_at};
 ghost use Rattle.static_routes.specs.Routes.{AreRoutesOf, AreRoutesButAt, IsConfigured, IsLeast, IsLesser};
 
@@ -96,8 +96,8 @@ impl StaticRoutes {
         ensures kept { OnOk result
             (AreRoutesOf inputs.now.configured.now inputs.now.taken.now self.new) }
         ensures in_order { IfOk result (λ others. IsStrictlySortedBy network_cmp others.items) }
-        ensures exact { IfOk result (λ others. HasJust
-            (HasOther (result_at network_cmp self.old) (result_at network_cmp self.new))
+        ensures exact { IfOk result (λ others. ListsExactly
+            (HasChanged (result_at network_cmp self.old) (result_at network_cmp self.new))
             others.items) }
     {
         let others = self.routes.follow(alloc, networks, inputs)?;

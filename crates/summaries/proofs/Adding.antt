@@ -15,10 +15,10 @@ use Rattle.summaries.specs.Giving.{IsDueIn, IsDueTo, IsNetworkDueIn, IsRouterDue
 use Rattle.result_map.specs.Lists.{GainsAll, IsOfSome}
 use Rattle.summaries.specs.Touched.{IsOverIn, IsTouchedBy, IsRangeOver}
 
--- ---- those that are touched
+-- ---- those that are affected
 
 pub all_touched : (areas : List AreaConfig) (dests found : List Dest) → GainsAll (IsOfSome areas (λ (a : AreaConfig). IsOverIn a.ranges dests)) dests found → (d : Dest) → IsTouchedBy areas dests d → Contains found d
-all_touched areas dests found has d touched = elim touched [
+all_touched areas dests found has d affected = elim affected [
   | inl named ↦ has d (inl named)
   | inr over ↦
       let p = over.0 in

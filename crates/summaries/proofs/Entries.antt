@@ -20,7 +20,7 @@ use Rattle.ospf_types.proofs.OneBest.{same_key, same_items}
 use Rattle.ospf_types.proofs.Orders.{area_cost_total, area_cost_exact, path_total, path_exact, preference_total, preference_exact}
 use Rattle.intra.specs.Intras.{IsEntryFor as IsIntraEntry}
 use Rattle.inter.specs.Right.{IsEntryOf as IsInterEntry}
-use Rattle.external.specs.Preferred.{PreferredValue, IsPreferredFor}
+use Rattle.external.specs.AsbrRoute.{PreferredValue, IsPreferredFor}
 
 -- ---- kinds of paths
 

@@ -1,4 +1,4 @@
--- What is due to a destination that is not touched stays due, where the routes differ in no more than is named.
+-- What is due to a destination that is not affected stays due, where the routes differ in no more than is named.
 --   due_stays: it is due at a metric now just where it was
 use Rattle.std.proofs.Common.{◌≡◌, ℕ, List, Option, Some, None, refl, sym, subst, ◌∙◌, inl, inr}
 use Rattle.std.specs.Prelude.{◌↔◌, Contains}
@@ -13,10 +13,10 @@ use Rattle.ospf_types.specs.declared.key.Dest.TheVariants.{Net, Router}
 use Rattle.ospf_types.specs.declared.prefix.Prefix.{Prefix}
 use Rattle.ospf_types.specs.Address.{Covers}
 use Rattle.ospf_types.specs.Summaries.{IsGreatest}
-use Rattle.external.specs.Preferred.{PreferredValue}
+use Rattle.external.specs.AsbrRoute.{PreferredValue}
 use Rattle.active_ranges.proofs.Searching.{all_lack}
 use Rattle.active_ranges.specs.Active.{IsWithin, RangesDifferAt}
-use Rattle.active_ranges.specs.declared.member.Member.{Member}
+use Rattle.active_ranges.specs.declared.member.RangeMember.{RangeMember}
 use Rattle.summaries.specs.Changes.{InputsDifferAmong}
 use Rattle.summaries.specs.Giving.{GivesIn, IsAdvertised, IsComponentIn, IsDueIn, IsDueTo, IsNetworkDueIn, IsOutside, IsRouterDueIn, IsServed, PreferredGives}
 use Rattle.summaries.specs.Inputs.{SummaryInputsValue}
@@ -31,7 +31,7 @@ record AreAlike (dests : List Dest) (a b : SummaryInputsValue) : Type 0 where
   pub within : (area : ℕ) (q p : Prefix) → range ≡ Some (area, q) → (Contains dests (Net p) → ⊥) → IsWithin a.intra.entries area q p → ⊥
   pub active : b.active ≡ a.active
   pub intra : (p : Prefix) → (Contains dests (Net p) → ⊥) → get b.intra.entries p ≡ get a.intra.entries p
-  pub members : (m : Member) → (Contains dests (Net m.network) → Covers m.range m.network → ⊥) → get b.ranges.members m ≡ get a.ranges.members m
+  pub members : (m : RangeMember) → (Contains dests (Net m.network) → Covers m.range m.network → ⊥) → get b.ranges.members m ≡ get a.ranges.members m
   pub inter : (p : Prefix) → (Contains dests (Net p) → ⊥) → get b.inter.entries (Net p) ≡ get a.inter.entries (Net p)
   pub preferred : (r : ℕ) → (Contains dests (Router r) → ⊥) → get b.external.preferred r ≡ get a.external.preferred r
 
@@ -57,7 +57,7 @@ greatest_same P Q there back n is = record { holds = there n is.holds; greatest 
 abbrev IsQuiet : List Dest → Prefix → Type 0
 IsQuiet dests p = (network : Prefix) → Contains dests (Net network) → Covers p network → ⊥
 
--- where the prefix is that of a range, and is not touched
+-- where the prefix is that of a range, and is not affected
 quiet : (areas : List AreaConfig) (dests : List Dest) (p : Prefix) (through : ℕ) → (IsTouchedBy areas dests (Net p) → ⊥) → IsAdvertised areas through p → IsQuiet dests p
 quiet areas dests p through untouched range network named covers =
     let over : IsRangeOver areas dests p = (range.0, range.1, network, range.2, range.4, range.5, named, covers) in
@@ -85,7 +85,7 @@ module _ (dests : List Dest) (a b : SummaryInputsValue) (alike : AreAlike dests 
   component_stays : (through cost : ℕ) → IsQuiet dests p → IsComponentIn a through p cost → IsComponentIn b through p cost
   component_stays through cost none is =
       let had = is.0 in
-      let m : Member = record { range = p; area = through; network = had.0 } in
+      let m : RangeMember = record { range = p; area = through; network = had.0 } in
       ((had.0, alike.members m (none had.0) ∙ had.1), is.1)
 
 module _ (dests : List Dest) (a b : SummaryInputsValue) (alike : AreAlike dests a b) (p : Prefix) (untouched : IsTouchedBy a.areas dests (Net p) → ⊥) where
@@ -108,9 +108,9 @@ module _ (dests : List Dest) (a b : SummaryInputsValue) (alike : AreAlike dests 
 
 -- ---- all destinations
 
--- what is touched by the ranges of the one is by those of the other
+-- what is affected by the ranges of the one is by those of the other
 touched_stays : (dests : List Dest) (a b : SummaryInputsValue) → AreAlike dests a b → (d : Dest) → (IsTouchedBy a.areas dests d → ⊥) → IsTouchedBy b.areas dests d → ⊥
-touched_stays dests a b alike d untouched touched = elim touched [
+touched_stays dests a b alike d untouched affected = elim affected [
   | inl named ↦ untouched (inl named)
   | inr over ↦
       let p = over.0 in

@@ -13,7 +13,7 @@ use Rattle.ospf_types.specs.Summaries.{IsGreatest}
 use Rattle.ospf_types.proofs.Elements.{no_element, contains_more}
 use Rattle.ospf_types.proofs.InOrder.{only_item}
 use Rattle.active_ranges.proofs.Greatest.{is_greatest}
-use Rattle.external.specs.Preferred.{PreferredValue}
+use Rattle.external.specs.AsbrRoute.{PreferredValue}
 use Rattle.summaries.specs.declared.giving.Through.{Through}
 use Rattle.summaries.specs.Candidates.{CostsInto, IsIntraThrough, IsPreferredThrough, IsRangeThrough, LeadsThrough, metric_beside}
 use Rattle.summaries.specs.Inputs.{SummaryInputsValue}

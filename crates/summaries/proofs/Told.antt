@@ -14,7 +14,7 @@ use Rattle.ospf_types.specs.Inputs.{Inputs, Area}
 use Rattle.ospf_types.specs.Inter.{LSInfinity}
 use Rattle.ospf_types.specs.Routes.{IsEntry}
 use Rattle.ospf_types.specs.Summaries.{HasHop, IsTold, IsComponent, IsGreatest, Gives, IsNetworkDue, IsRouterDue}
-use Rattle.active_ranges.specs.declared.member.Member.{Member}
+use Rattle.active_ranges.specs.declared.member.RangeMember.{RangeMember}
 use Rattle.summaries.specs.Giving.{Enters, IsOutside, IsComponentIn, IntraGives, InterGives, RangeGives, GivesIn, IsNetworkDueIn, IsRouterDueIn}
 use Rattle.summaries.specs.Inputs.{SummaryInputsValue}
 use Rattle.summaries.specs.Right.{AreInputsOf}
@@ -40,7 +40,7 @@ module _ (s : Inputs) (v : SummaryInputsValue) (are : AreInputsOf s v) (a : Area
     component_from : b.id ≢ a.id → (cost : ℕ) → IsComponentIn v b.id r.prefix cost → IsComponent s a b r cost
     component_from foreign cost c =
         let network : Prefix = c.0.0 in
-        let m : Member = record { range = r.prefix; area = b.id; network = network } in
+        let m : RangeMember = record { range = r.prefix; area = b.id; network = network } in
         let w = (are.ranges.members m cost).0 c.0.1 in
         let e = w.0 in
         let is = intra_is s network (get v.intra.entries network) e (are.intra.entries network) w.1 in
@@ -53,7 +53,7 @@ module _ (s : Inputs) (v : SummaryInputsValue) (are : AreInputsOf s v) (a : Area
         let t = c.2 in
         let x = config_of s v are b here in
         let held = intra_there s network (get v.intra.entries network) e (are.intra.entries network) t.entry c.3 in
-        let m : Member = record { range = r.prefix; area = b.id; network = network } in
+        let m : RangeMember = record { range = r.prefix; area = b.id; network = network } in
         let member = (are.ranges.members m cost).1 (e, held, t.of_area.1, c.5, (x.0, r, x.1, sym x.2, subst (λ rs. Contains rs r) x.3 configured, refl), c.4) in
         ((network, member), subst (λ n. n < LSInfinity) c.5 t.may.finite)
 

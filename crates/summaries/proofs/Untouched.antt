@@ -1,7 +1,7 @@
--- What is due otherwise than before is touched.
+-- What is due otherwise than before is affected.
 --   alike_touched: where the same areas are active as before
 --   alike_few: where fewer than two are, and nothing is due
---   alike_all: where all that is due and all that was due is touched
+--   alike_all: where all that is due and all that was due is affected
 --   lists_rest: where nothing is due otherwise
 --   lists_now: the lists of before are those of the areas now, of which the ranges may differ
 use Rattle.std.proofs.Common.{◌≡◌, ◌<◌, ℕ, List, [], ◌∷◌, ◌++◌, Ordering, arith, length, refl, sym, ap, subst, ◌∙◌, inl, inr}
@@ -24,9 +24,9 @@ use Rattle.summaries.specs.Touched.{IsTouchedBy}
 use Rattle.summaries.proofs.Frame.{due_stays}
 
 -- where the same areas are active as before
-pub alike_touched : (dests touched : List Dest) (before now : SummaryInputsValue) (w : DueSummariesValue) → ((d : Dest) → IsTouchedBy now.areas dests d → Contains touched d) → w.active ≡ now.active
-    → AreSummariesOf before w → InputsDifferAmong dests before now → AreDueAlikeBut touched before now
-alike_touched dests touched before now w enough active were differ a d there absent m =
+pub alike_touched : (dests affected : List Dest) (before now : SummaryInputsValue) (w : DueSummariesValue) → ((d : Dest) → IsTouchedBy now.areas dests d → Contains affected d) → w.active ≡ now.active
+    → AreSummariesOf before w → InputsDifferAmong dests before now → AreDueAlikeBut affected before now
+alike_touched dests affected before now w enough active were differ a d there absent m =
     due_stays dests before now differ (sym active ∙ were.active) d (λ t. absent (enough d t)) a m
 
 -- one active area has no other
@@ -42,8 +42,8 @@ no_other (x ∷ []) area few served = served.other.2 (only x served.other.0 serv
 no_other (x ∷ y ∷ active) area few served = omega (arith, few)
 
 -- where fewer than two areas are active, and the same ones as before
-pub alike_few : (touched : List Dest) (before now : SummaryInputsValue) (w : DueSummariesValue) → length now.active < 2 → w.active ≡ now.active → AreSummariesOf before w → AreDueAlikeBut touched before now
-alike_few touched before now w few active were a d there absent m = (
+pub alike_few : (affected : List Dest) (before now : SummaryInputsValue) (w : DueSummariesValue) → length now.active < 2 → w.active ≡ now.active → AreSummariesOf before w → AreDueAlikeBut affected before now
+alike_few affected before now w few active were a d there absent m = (
   λ h. absurd (no_other before.active a.id (subst (λ (xs : List ℕ). length xs < 2) (sym active ∙ were.active) few) h.served),
   λ h. absurd (no_other now.active a.id few h.served),
 )
@@ -84,11 +84,11 @@ listed_dest v (b ∷ areas) (w ∷ lists) are a d m there due = elim (first_or_l
 ]
 
 -- where all that is due and all that was due is among them
-pub alike_all : (all pushed touched : List Dest) (before now : SummaryInputsValue) (w : DueSummariesValue) → ((a : AreaConfig) (d : Dest) (m : ℕ) → IsDueIn now a d m → Contains all d) → pushed ≡ all ++ flat_map dests_of w.areas
-    → ((d : Dest) → Contains touched d ↔ Contains pushed d) → AreListsOf before now.areas w.areas → AreDueAlikeBut touched before now
-alike_all all pushed touched before now w enough is same were a d there absent m =
+pub alike_all : (all pushed affected : List Dest) (before now : SummaryInputsValue) (w : DueSummariesValue) → ((a : AreaConfig) (d : Dest) (m : ℕ) → IsDueIn now a d m → Contains all d) → pushed ≡ all ++ flat_map dests_of w.areas
+    → ((d : Dest) → Contains affected d ↔ Contains pushed d) → AreListsOf before now.areas w.areas → AreDueAlikeBut affected before now
+alike_all all pushed affected before now w enough is same were a d there absent m =
     let own = flat_map dests_of w.areas in
-    let among : Contains (all ++ own) d → Contains touched d = λ c. (same d).1 (subst (λ (ds : List Dest). Contains ds d) (sym is) c) in (
+    let among : Contains (all ++ own) d → Contains affected d = λ c. (same d).1 (subst (λ (ds : List Dest). Contains ds d) (sym is) c) in (
       λ h. absurd (absent (among (Contains-append_right all own d (listed_dest before now.areas w.areas were a d m there h)))),
       λ h. absurd (absent (among (Contains-append_left all own d (enough a d m h)))),
     )

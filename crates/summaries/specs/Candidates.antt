@@ -8,7 +8,7 @@ use Rattle.ospf_types.specs.declared.key.Dest.TheVariants.{Net, Router}
 use Rattle.ospf_types.specs.declared.prefix.Prefix.{Prefix}
 use Rattle.ospf_types.specs.Inter.{LSInfinity}
 use Rattle.ospf_types.specs.Summaries.{IsGreatest}
-use Rattle.external.specs.Preferred.{PreferredValue}
+use Rattle.external.specs.AsbrRoute.{PreferredValue}
 use Rattle.summaries.specs.declared.giving.Candidate.{Candidate}
 use Rattle.summaries.specs.declared.giving.Given.{Given}
 use Rattle.summaries.specs.declared.giving.Through.{Through}

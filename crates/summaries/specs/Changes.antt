@@ -9,7 +9,7 @@ use Rattle.ospf_types.specs.declared.prefix.Prefix.{Prefix}
 use Rattle.ospf_types.specs.Address.{Covers}
 use Rattle.ospf_types.specs.RangeChanges.{areas_without_ranges}
 use Rattle.active_ranges.specs.Active.{IsRangeNamed, RangesDifferAt}
-use Rattle.active_ranges.specs.declared.member.Member.{Member}
+use Rattle.active_ranges.specs.declared.member.RangeMember.{RangeMember}
 use Rattle.summary_lists.specs.declared.due.DueSummary.{DueSummary}
 use Rattle.summaries.specs.DueSummaries.{AreSummariesOf, DueSummariesValue}
 use Rattle.summaries.specs.Inputs.{SummaryInputsValue}
@@ -23,7 +23,7 @@ pub record InputsDifferAmong (dests : List Dest) (old new : SummaryInputsValue) 
   pub ranges : RangesDifferAt range old.areas new.areas
   pub whole : IsRangeNamed range dests old.intra.entries
   pub intra : (p : Prefix) → (Contains dests (Net p) → ⊥) → get new.intra.entries p ≡ get old.intra.entries p
-  pub members : (m : Member) → (Contains dests (Net m.network) → Covers m.range m.network → ⊥) → get new.ranges.members m ≡ get old.ranges.members m
+  pub members : (m : RangeMember) → (Contains dests (Net m.network) → Covers m.range m.network → ⊥) → get new.ranges.members m ≡ get old.ranges.members m
   pub inter : (p : Prefix) → (Contains dests (Net p) → ⊥) → get new.inter.entries (Net p) ≡ get old.inter.entries (Net p)
   pub preferred : (r : ℕ) → (Contains dests (Router r) → ⊥) → get new.external.preferred r ≡ get old.external.preferred r
 

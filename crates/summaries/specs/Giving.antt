@@ -12,7 +12,7 @@ use Rattle.ospf_types.specs.Address.{Covers}
 use Rattle.ospf_types.specs.Inter.{LSInfinity}
 use Rattle.ospf_types.specs.Summaries.{IsGreatest, default_route}
 use Rattle.active_ranges.specs.Active.{HasCost}
-use Rattle.external.specs.Preferred.{PreferredValue}
+use Rattle.external.specs.AsbrRoute.{PreferredValue}
 use Rattle.summaries.specs.Inputs.{SummaryInputsValue}
 
 -- the greatest of the numbers that have the property; none where none has it

@@ -8,7 +8,7 @@ ghost use Rattle.summaries.specs.Giving.{RangeGives, Advertises, IsOutside, IsSe
 ghost use Rattle.summaries.specs.Candidates.{IsCandidateOf, IsNetworkIn, IsOrdered, metric_into, CostsInto, HasMostOf, IsIntraThrough, IsMetricOf, IsNetworkMetricOf, IsOnly, IsRangeThrough, IsRouterIn, LeadsThrough, IsPreferredThrough};
 
 use crate::inputs::SummaryInputs;
-use external::Preferred;
+use external::AsbrRoute;
 use ospf_types::config::{AreaConfig, Stub};
 use ospf_types::entry::Entry;
 use ospf_types::key::Dest;
@@ -137,11 +137,11 @@ pub(crate) fn metric(area: &AreaConfig, served: bool, candidate: &Candidate) -> 
 pub(crate) fn is_served(active: &[u32], area: u32) -> bool
     ensures { IsTrue result ↔ IsServed active.now area }
 {
-    active.contains(&area) && has_other(active, area)
+    active.contains(&area) && has_other_active_area(active, area)
 }
 
 /// Whether another area is active.
-pub fn has_other(active: &[u32], area: u32) -> bool
+pub fn has_other_active_area(active: &[u32], area: u32) -> bool
     ensures { IsTrue result ↔ ((another : ℕ) × Contains active.now another × (another ≢ area)) }
 {
     for another in active {
@@ -178,7 +178,7 @@ fn is_default(network: Prefix) -> bool
 pub(crate) fn default_network() -> Prefix
     ensures { result ≡ default_route }
 {
-    Prefix::of_mask(0, 0)
+    Prefix::from_mask(0, 0)
 }
 
 // What gives a summary for the network.
@@ -320,7 +320,7 @@ fn router_metric(stub: Option<Stub>, area: u32, given: Given) -> Option<u32>
 }
 
 // What gives a summary for the AS boundary router whose preferred route this is.
-fn router_given(preferred: Option<&Preferred>) -> Given
+fn router_given(preferred: Option<&AsbrRoute>) -> Given
     ensures { IsRouterIn (option_copied preferred.entry) result }
 {
     Given {
@@ -330,7 +330,7 @@ fn router_given(preferred: Option<&Preferred>) -> Given
 }
 
 // The area that the preferred entry leads through, where its cost is finite.
-fn preferred_through(preferred: Option<&Preferred>) -> Option<Through>
+fn preferred_through(preferred: Option<&AsbrRoute>) -> Option<Through>
     ensures { IsOnly (IsPreferredThrough (option_copied preferred.entry)) result }
 {
     let preferred = preferred?;

@@ -6,10 +6,10 @@ mod due_changes;
 mod giving;
 mod inputs;
 mod summaries;
-mod touched;
+mod affected;
 
 pub use due_changes::DueChanges;
-pub use giving::{advertises, has_other};
+pub use giving::{advertises, has_other_active_area};
 pub use inputs::SummaryInputs;
 pub use summaries::{DueSummaries, Plan};
 pub use summary_lists::{AreaSummaries, DueSummary};

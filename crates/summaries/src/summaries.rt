@@ -13,7 +13,7 @@ ghost use Rattle.summaries.specs.Right.{IsRightWith};
 use crate::due_changes::DueChanges;
 use crate::giving::{Candidate, find_candidate, is_served, metric};
 use crate::inputs::SummaryInputs;
-use crate::touched::{all, ascending, touched};
+use crate::affected::{all, ascending, affected};
 use ospf_types::config::AreaConfig;
 use ospf_types::key::Dest;
 use ospf_types::memory::Memory;
@@ -100,13 +100,13 @@ impl DueSummaries {
         ensures kept { IfOk result (MakesSummariesOf inputs.now self.new) }
         ensures changes { IfOk result (MakesChangesFrom self.old self.new) }
     {
-        let touched = self.touched(alloc, inputs, dests)?;
+        let affected = self.affected(alloc, inputs, dests)?;
         let active = SmallVec::from_slice(alloc, inputs.active)?;
-        if touched.is_empty() {
+        if affected.is_empty() {
             let areas = Vec::new(alloc);
             return Ok(Plan { areas, active });
         }
-        find_candidates(inputs, &touched, &mut self.candidates)?;
+        find_candidates(inputs, &affected, &mut self.candidates)?;
         let planning = Planning {
             inputs,
             candidates: &self.candidates,
@@ -164,7 +164,7 @@ impl DueSummaries {
     }
 
     // The destinations whose summaries may differ, ascending, each once: all where other areas are active than before.
-    fn touched(
+    fn affected(
         &self,
         alloc: Global,
         inputs: &SummaryInputs<'_>,
@@ -182,7 +182,7 @@ impl DueSummaries {
         if inputs.active.len() < 2 {
             return Ok(Vec::new(alloc));
         }
-        touched(alloc, inputs.areas, dests)
+        affected(alloc, inputs.areas, dests)
     }
 
     // All destinations that are due or may be, ascending, each once.

@@ -3,7 +3,7 @@ mod device;
 pub mod samples;
 
 use anyhow::Result;
-use capture_recording::{Beginning, Capturing, Options, record_capture};
+use capture_recording::{Preamble, Capturing, Options, record_capture};
 use device::{Input, Output};
 use samples::{CAPTURE, FIRST, FRONT, HEADER};
 use std::hash::RandomState;
@@ -22,7 +22,7 @@ const AMPLE: usize = 1_000;
 #[derive(Clone, Copy)]
 struct Trial<'a> {
     name: &'a str,
-    beginning: Beginning<'a>,
+    beginning: Preamble<'a>,
     /// How many bytes of the capture come.
     length: usize,
     /// Behind them a read fails.
@@ -37,7 +37,7 @@ struct Trial<'a> {
 /// All is recorded.
 const WHOLE: Trial<'static> = Trial {
     name: "nothing fails",
-    beginning: Beginning::Given(FRONT),
+    beginning: Preamble::Given(FRONT),
     length: CAPTURE.len(),
     fails: false,
     room: AMPLE,
@@ -80,12 +80,12 @@ fn trials() -> [Trial<'static>; 7] {
         },
         Trial {
             name: "the beginning is no recording",
-            beginning: Beginning::Given(b"abr 1\n"),
+            beginning: Preamble::Given(b"abr 1\n"),
             ..WHOLE
         },
         Trial {
             name: "the capture has no packet",
-            beginning: Beginning::Router(0x0a00_0001),
+            beginning: Preamble::Router(0x0a00_0001),
             length: HEADER,
             ..WHOLE
         },

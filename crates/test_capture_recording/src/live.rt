@@ -2,7 +2,7 @@
 
 use crate::failures::samples::{CAPTURE, FIRST, FRONT, HEADER};
 use anyhow::{Result, ensure};
-use capture_recording::{Beginning, Capturing, Options, record_capture};
+use capture_recording::{Preamble, Capturing, Options, record_capture};
 use std::cell::Cell;
 use std::hash::RandomState;
 use std::io;
@@ -68,7 +68,7 @@ pub fn run(rt: &HostRuntime) -> Result<()> {
     let mut said = Vec::new(rt.alloc());
     let capturing = Capturing {
         options: OPTIONS,
-        beginning: Beginning::Given(FRONT),
+        beginning: Preamble::Given(FRONT),
     };
     let hashing = RandomState::new(rt)?;
     let answer = record_capture(

@@ -2,7 +2,7 @@
 
 use crate::failures::samples::{CAPTURE, FIRST, FRONT, HEADER};
 use anyhow::{Result, ensure};
-use capture_recording::{Beginning, Capturing, Options, record_capture};
+use capture_recording::{Preamble, Capturing, Options, record_capture};
 use std::alloc::Global;
 use std::hash::RandomState;
 
@@ -22,8 +22,8 @@ const OPTIONS: Options = Options {
 pub fn run(rt: &HostRuntime) -> Result<()> {
     let (alloc, hashing) = (rt.alloc(), RandomState::new(rt)?);
     let capture = capture_of_many(alloc)?;
-    let given = recorded(alloc, hashing, Beginning::Given(FRONT), &capture)?;
-    let told = recorded(alloc, hashing, Beginning::Router(0x0a00_0001), &capture)?;
+    let given = recorded(alloc, hashing, Preamble::Given(FRONT), &capture)?;
+    let told = recorded(alloc, hashing, Preamble::Router(0x0a00_0001), &capture)?;
     let lines = given.get(FRONT.len()..).unwrap_or(&[]);
     ensure!(lines.len() > PACKED, "the lines are few");
     ensure!(told.ends_with(lines), "the lines differ");
@@ -42,7 +42,7 @@ fn capture_of_many(alloc: Global) -> Result<Vec<u8>> {
 fn recorded(
     alloc: Global,
     hashing: RandomState,
-    beginning: Beginning<'_>,
+    beginning: Preamble<'_>,
     capture: &[u8],
 ) -> Result<Vec<u8>> {
     let options = OPTIONS;

@@ -1,5 +1,5 @@
 //! What a core answers to each event: its serial, whether anything that is used changed, and how many networks the table
-//! then has; and that no event builds anything anew.
+//! then has; and that no event build_count anything anew.
 use crate::{events_of, networks_of};
 use event_core::{Core, Event, Refusal, Reply, Status};
 use std::alloc::Global;
@@ -103,7 +103,7 @@ fn what_no_longer_counts_changes_nothing(rt: HostRuntime) -> Result<(), Fail> {
 // Whether the event is followed: the core is current, and has built nothing since it was opened.
 fn is_followed(core: &mut Core, event: Event) -> bool {
     match core.apply(event) {
-        Ok(reply) => reply.state == Status::Current && core.builds() == 1,
+        Ok(reply) => reply.state == Status::Current && core.build_count() == 1,
         Err(_) => false,
     }
 }

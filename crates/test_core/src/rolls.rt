@@ -10,7 +10,7 @@ use std::test::Fail;
 
 // The range that is set, dropped and set again.
 fn range() -> Prefix {
-    Prefix::of_mask(0x0a00_0000, 0xff00_0000)
+    Prefix::from_mask(0x0a00_0000, 0xff00_0000)
 }
 
 // A core that is rolled now and then, one that never is, and how many events they took.

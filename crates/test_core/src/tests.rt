@@ -142,8 +142,8 @@ fn changes_due(core: &Core, wanted: &[(Dest, Option<u32>)]) -> bool {
 // The network that a range of the backbone stood for is due in the range's place, and then the range again.
 #[test]
 fn a_range_that_goes_changes_what_is_due(rt: HostRuntime) -> Result<(), Fail> {
-    let range = Dest::Net(Prefix::of_mask(0x0a04_0000, 0xfffc_0000));
-    let network = Dest::Net(Prefix::of_mask(0x0a04_0000, 0xffff_0000));
+    let range = Dest::Net(Prefix::from_mask(0x0a04_0000, 0xfffc_0000));
+    let network = Dest::Net(Prefix::from_mask(0x0a04_0000, 0xffff_0000));
     let mut core = follows(&rt, BORDER, "range-drop 0.0.0.0 10.4.0.0/14\n")?;
     let is_told = changes_due(&core, &[(range, None), (network, Some(11))]);
     let answer = core.apply(event_of(&rt, "range-set 0.0.0.0 10.4.0.0/14 advertise\n")?);
@@ -225,9 +225,9 @@ fn catches_up(
         return Ok(core.apply(event).is_ok());
     }
     let is_behind = !core.is_current();
-    let builds = core.builds();
+    let build_count = core.build_count();
     let is_current = core.catch_up() == Status::Current;
-    Ok(is_current && (core.builds() > builds) == is_behind)
+    Ok(is_current && (core.build_count() > build_count) == is_behind)
 }
 
 // What a core tells after the event, with ample memory.
@@ -265,9 +265,9 @@ fn goes_on(
     new: &str,
 ) -> Result<bool, Fail> {
     let event = event_of(rt, line)?;
-    let builds = core.builds();
+    let build_count = core.build_count();
     let answer = core.apply(event);
-    let followed = !is_current(answer) || core.builds() == builds;
+    let followed = !is_current(answer) || core.build_count() == build_count;
     let right = is_as_answered(rt, core, answer, old, new)? && rolls(rt, core)?;
     let caught_up = catches_up(rt, core, answer.is_err(), line)?;
     let last = has_items(rt, core, new)? && rolls(rt, core)?;

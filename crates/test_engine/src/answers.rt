@@ -59,7 +59,7 @@ fn is_same(answer: Result<Answer, BytesFault>) -> bool {
 // The route of 10.1.0.0/16 costs 10 to the border router and 10 from there. It is told to the other area alone.
 fn summaries_follow<R: Wait>(rt: &R, engine: &Engine) -> bool {
     let (kind, metric) = (3, 20);
-    let dest = Dest::Net(Prefix::of_mask(0x0a01_0000, 0xffff_0000));
+    let dest = Dest::Net(Prefix::from_mask(0x0a01_0000, 0xffff_0000));
     let is_taken = is_current(engine.submit_bytes(rt, BACKBONE, &SUMMARY), 5);
     let is_due = was_due(engine.due(rt, 1), &[DueSummary { kind, dest, metric }]);
     let is_again = is_same(engine.submit_bytes(rt, BACKBONE, &SUMMARY));

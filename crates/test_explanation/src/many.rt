@@ -2,7 +2,7 @@
 use crate::core_after;
 use anyhow::{Result, anyhow};
 use event_core::Event;
-use explanation::{Candidate, Fate, explain};
+use explanation::{Candidate, Verdict, explain};
 use lsa_codec::{Checked, read, sum_of};
 use ospf_types::key::Scope;
 use std::alloc::Global;
@@ -45,5 +45,5 @@ fn print_counts(rt: &HostRuntime, candidates: &[Candidate]) -> Result<()> {
 }
 
 fn is_taken_once(candidate: &Candidate) -> bool {
-    candidate.fate == Fate::Taken && candidate.traces.len() == 1
+    candidate.verdict == Verdict::Taken && candidate.traces.len() == 1
 }

@@ -1,4 +1,4 @@
-//! Prints why summaries are due in areas, or are not. In the recordings each reason decides once, and each fate befalls a source.
+//! Prints why summaries are due in areas, or are not. In the recordings each reason decides once, and each verdict befalls a source.
 mod printing;
 
 use crate::core_after;
@@ -41,14 +41,14 @@ const ROUTERS: [(u32, u32); 4] = [
 pub fn run(rt: &HostRuntime) -> Result<()> {
     let core = core_after(rt, "due.rec")?;
     for (area, address, mask) in NETWORKS {
-        print_network(rt, &core, area, Prefix::of_mask(address, mask))?;
+        print_network(rt, &core, area, Prefix::from_mask(address, mask))?;
     }
     for (area, router) in ROUTERS {
         println!(rt; "{} to {}:", Address(router), Address(area))?;
         print_due(rt, &core, area, Dest::Router(router))?;
     }
     let alone = core_after(rt, "alone.rec")?;
-    print_network(rt, &alone, 0, Prefix::of_mask(0x0a08_0000, 0xffff_0000))
+    print_network(rt, &alone, 0, Prefix::from_mask(0x0a08_0000, 0xffff_0000))
 }
 
 fn print_network(rt: &HostRuntime, core: &Core, area: u32, network: Prefix) -> Result<()> {

@@ -116,11 +116,11 @@ fn shows_router(lsa: &Checked) -> bool {
 fn shows_network(lsa: &Checked) -> bool {
     lsa.listed(0) == Some(0x0a00_0001)
         && lsa.listed(1) == Some(0x0a00_0002)
-        && lsa.prefix() == Some(Prefix::of_mask(0xc000_0200, 0xffff_ff00))
+        && lsa.prefix() == Some(Prefix::from_mask(0xc000_0200, 0xffff_ff00))
 }
 
 fn shows_summary(lsa: &Checked) -> bool {
-    lsa.prefix() == Some(Prefix::of_mask(0x0a01_0000, 0xffff_0000))
+    lsa.prefix() == Some(Prefix::from_mask(0x0a01_0000, 0xffff_0000))
         && lsa.metric() == Some(10)
         && lsa.header().kind == 3
         && lsa.header().age == 1

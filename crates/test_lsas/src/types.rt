@@ -62,7 +62,7 @@ fn prints_entries(rt: HostRuntime) -> Result<(), Fail> {
 
 #[test]
 fn masks_an_address(rt: HostRuntime) -> Result<(), Fail> {
-    let prefix = Prefix::of_mask(0xc000_024d, 0xffff_ff00);
+    let prefix = Prefix::from_mask(0xc000_024d, 0xffff_ff00);
     let printed = format!(in rt.alloc(); "{prefix}")?;
     assert!(rt; printed.as_str() == "192.0.2.0/24" && Prefix::new(0xc000_0200, 24) == Some(prefix));
     Ok(())
@@ -80,7 +80,7 @@ fn key(kind: u8, id: u32) -> Key {
 fn compares(rt: HostRuntime) {
     let keys = key(1, 9).compare(key(2, 3));
     let scopes = Scope::Area(9).compare(Scope::As);
-    let networks = Prefix::of_mask(9, 0).compare(Prefix::of_mask(9, 0xffff_ffff));
+    let networks = Prefix::from_mask(9, 0).compare(Prefix::from_mask(9, 0xffff_ffff));
     assert!(rt; keys == Ordering::Less && scopes == Ordering::Less && networks == Ordering::Less);
 }
 
@@ -88,7 +88,7 @@ fn ranges(alloc: Global, area: u32) -> Result<Ranges, Memory> {
     let mut ranges = Ranges::new(alloc);
     for i in 0..32 {
         ranges.push(Range {
-            prefix: Prefix::of_mask((area << 24) | (i << 16), 0xffff_0000),
+            prefix: Prefix::from_mask((area << 24) | (i << 16), 0xffff_0000),
             advertise: i % 3 == 0,
         })?;
     }

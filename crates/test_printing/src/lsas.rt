@@ -3,7 +3,7 @@ mod samples;
 
 use anyhow::Result;
 use lsa_codec::read;
-use lsa_words::put_in_words;
+use lsa_words::put_lsa_text;
 use samples::{BOUNDARY, EXTERNAL, LINKS, LONGEST, NETWORK, ROUTER, STUB_LINK, SUMMARY};
 use std::alloc::Global;
 
@@ -22,7 +22,7 @@ pub fn run(rt: &HostRuntime) -> Result<()> {
 
 fn in_words(alloc: Global, bytes: &[u8]) -> Result<String> {
     let mut text = String::new(alloc);
-    put_in_words(&read(alloc, bytes)?, &mut text)?;
+    put_lsa_text(&read(alloc, bytes)?, &mut text)?;
     Ok(text)
 }
 

@@ -3,7 +3,7 @@ ghost use Rattle.std.specs.Prelude.{◌≡◌, IfOk};
 
 use crate::backbone::{ROOT, inside, install};
 use active_ranges::ActiveRanges;
-use inter::{Examined, Inter, InterInputs};
+use inter::{ExaminedArea, Inter, InterInputs};
 use intra::Dirty;
 use lsdb::Database;
 use ospf_types::key::Dest;
@@ -47,7 +47,7 @@ fn backbone(alloc: Global, hashing: RandomState) -> Result<Database, Fail>
 
 // 10.1.0.0/16.
 fn network() -> Dest {
-    Dest::Net(Prefix::of_mask(0x0a01_0000, 0xffff_0000))
+    Dest::Net(Prefix::from_mask(0x0a01_0000, 0xffff_0000))
 }
 
 // What names the network.
@@ -80,7 +80,7 @@ fn a_summary_leads_through_its_border_router(rt: HostRuntime) -> Result<(), Fail
     let database = backbone(alloc, hashing)?;
     let intra = inside(alloc, hashing, &database, ADDRESS, PEER)?;
     let active = ActiveRanges::build(alloc, &[], &intra)?;
-    let examined = Some(Examined {
+    let examined = Some(ExaminedArea {
         area: 0,
         database: &database,
     });

@@ -5,7 +5,7 @@ ghost use Rattle.ospf_types.specs.Lsa.{key_of};
 
 use lsa_codec::Checked;
 use lsdb::Database;
-use offer_index::{ChangedOffers, LsaGroup, OfferIndex, ScopeDatabase};
+use offer_index::{AffectedDests, IndexKey, AdvertisedIndex, ScopeDatabase};
 use ospf_types::key::{Dest, Key, Scope};
 use ospf_types::memory::Memory;
 use ospf_types::prefix::Prefix;
@@ -38,11 +38,11 @@ fn database_of(rt: &HostRuntime, lsa: Checked) -> Result<Database, Fail>
 }
 
 // What the summary advertises.
-fn summary(rt: &HostRuntime, affected: &mut ChangedOffers) -> Result<OfferIndex, Fail> {
+fn summary(rt: &HostRuntime, affected: &mut AffectedDests) -> Result<AdvertisedIndex, Fail> {
     let lsa = lsa_codec::read(rt.alloc(), &SUMMARY)?;
     let key = lsa.key();
     let database = database_of(rt, lsa)?;
-    let mut index = OfferIndex::new(rt.alloc(), RandomState::new(rt)?);
+    let mut index = AdvertisedIndex::new(rt.alloc(), RandomState::new(rt)?);
     let from = ScopeDatabase {
         root: 1,
         scope: AREA,
@@ -53,10 +53,10 @@ fn summary(rt: &HostRuntime, affected: &mut ChangedOffers) -> Result<OfferIndex,
 }
 
 // What the external advertises.
-fn external(rt: &HostRuntime, affected: &mut ChangedOffers) -> Result<OfferIndex, Fail> {
+fn external(rt: &HostRuntime, affected: &mut AffectedDests) -> Result<AdvertisedIndex, Fail> {
     let lsa = lsa_codec::read(rt.alloc(), &EXTERNAL)?;
     let database = database_of(rt, lsa)?;
-    let mut index = OfferIndex::new(rt.alloc(), RandomState::new(rt)?);
+    let mut index = AdvertisedIndex::new(rt.alloc(), RandomState::new(rt)?);
     let from = ScopeDatabase {
         root: 1,
         scope: Scope::As,
@@ -67,9 +67,9 @@ fn external(rt: &HostRuntime, affected: &mut ChangedOffers) -> Result<OfferIndex
 }
 
 fn leads_to(
-    index: &OfferIndex,
+    index: &AdvertisedIndex,
     alloc: Global,
-    group: LsaGroup,
+    group: IndexKey,
     dest: Dest,
 ) -> Result<bool, Memory> {
     let mut dests = Vec::new(alloc);
@@ -77,14 +77,14 @@ fn leads_to(
     Ok(dests.as_slice() == [dest].as_slice())
 }
 
-fn has_key(index: &OfferIndex, alloc: Global, group: LsaGroup, key: Key) -> Result<bool, Memory> {
+fn has_key(index: &AdvertisedIndex, alloc: Global, group: IndexKey, key: Key) -> Result<bool, Memory> {
     let mut keys = Vec::new(alloc);
     index.list_keys(group, &mut keys)?;
     Ok(keys.as_slice() == [key].as_slice())
 }
 
 // Whether the gateway is the one forwarding address in the network.
-fn forwards_into(index: &OfferIndex, alloc: Global, network: Prefix) -> Result<bool, Memory> {
+fn forwards_into(index: &AdvertisedIndex, alloc: Global, network: Prefix) -> Result<bool, Memory> {
     let mut addresses = Vec::new(alloc);
     index.list_addresses(network, &mut addresses)?;
     Ok(addresses.as_slice() == [GATEWAY].as_slice())
@@ -96,24 +96,24 @@ fn network(address: u32, length: u8) -> Result<Prefix, Fail> {
 
 #[test]
 fn a_summary_leads_to_its_network(rt: HostRuntime) -> Result<(), Fail> {
-    let mut affected = ChangedOffers::none(rt.alloc());
+    let mut affected = AffectedDests::none(rt.alloc());
     let index = summary(&rt, &mut affected)?;
     let dest = Dest::Net(network(0x0a00_0000, 8)?);
-    let found = leads_to(&index, rt.alloc(), LsaGroup::By(7), dest)?;
+    let found = leads_to(&index, rt.alloc(), IndexKey::By(7), dest)?;
     assert!(rt; found && affected.dests.as_slice() == [dest].as_slice());
     Ok(())
 }
 
 #[test]
 fn an_external_is_found_by_its_forwarding_address(rt: HostRuntime) -> Result<(), Fail> {
-    let mut affected = ChangedOffers::none(rt.alloc());
+    let mut affected = AffectedDests::none(rt.alloc());
     let mut index = external(&rt, &mut affected)?;
     let key = Key {
         kind: 5,
         id: 0x0a00_0000,
         router: 7,
     };
-    let found = has_key(&index, rt.alloc(), LsaGroup::Forwarded(GATEWAY), key)?;
+    let found = has_key(&index, rt.alloc(), IndexKey::Forwarded(GATEWAY), key)?;
     let inside = forwards_into(&index, rt.alloc(), network(GATEWAY, 24)?)?;
     let there = index.has_address(GATEWAY);
     index.clear(&mut affected)?;

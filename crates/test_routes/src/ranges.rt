@@ -1,6 +1,6 @@
 //! A range with the one network of a small area.
 use crate::backbone::{inside, install};
-use active_ranges::{ActiveRanges, Member};
+use active_ranges::{ActiveRanges, RangeMember};
 use intra::Intra;
 use lsdb::Database;
 use ospf_types::config::{AreaConfig, Areas, Range, Ranges};
@@ -45,7 +45,7 @@ fn is_active(alloc: Global, range: Prefix, intra: &Intra) -> Result<bool, Fail> 
     let areas = areas.as_slice();
     let mut active = ActiveRanges::build(alloc, areas, intra)?;
     let prefixes = active.prefixes(alloc)?;
-    let network = Prefix::of_mask(ADDRESS, 0xffff_ff00);
+    let network = Prefix::from_mask(ADDRESS, 0xffff_ff00);
     let turned = active.update(alloc, areas, intra, &[Dest::Net(network)])?;
     let same = prefixes.as_slice() == [range].as_slice() && turned.is_empty();
     Ok(same && active.contains(range) && !active.spent())
@@ -55,7 +55,7 @@ fn is_active(alloc: Global, range: Prefix, intra: &Intra) -> Result<bool, Fail> 
 fn a_range_with_a_network_is_active(rt: HostRuntime) -> Result<(), Fail> {
     let alloc = rt.alloc();
     let intra = routes(alloc, RandomState::new(&rt)?)?;
-    let range = Prefix::of_mask(ADDRESS, 0xffff_0000);
+    let range = Prefix::from_mask(ADDRESS, 0xffff_0000);
     assert!(rt; is_active(alloc, range, &intra)?);
     Ok(())
 }
@@ -66,9 +66,9 @@ fn is_reconfigured(alloc: Global, range: Prefix, intra: &Intra) -> Result<bool, 
     let areas = areas.as_slice();
     let mut active = ActiveRanges::build(alloc, areas, intra)?;
     let members = active.reconfigure(alloc, areas, intra, (0, range))?;
-    let network = Prefix::of_mask(ADDRESS, 0xffff_ff00);
+    let network = Prefix::from_mask(ADDRESS, 0xffff_ff00);
     let area = 0;
-    let wanted = Member {
+    let wanted = RangeMember {
         range,
         area,
         network,
@@ -80,7 +80,7 @@ fn is_reconfigured(alloc: Global, range: Prefix, intra: &Intra) -> Result<bool, 
 fn a_range_has_the_networks_that_it_covers(rt: HostRuntime) -> Result<(), Fail> {
     let alloc = rt.alloc();
     let intra = routes(alloc, RandomState::new(&rt)?)?;
-    let range = Prefix::of_mask(ADDRESS, 0xffff_0000);
+    let range = Prefix::from_mask(ADDRESS, 0xffff_0000);
     assert!(rt; is_reconfigured(alloc, range, &intra)?);
     Ok(())
 }

@@ -8,8 +8,8 @@ use std::test::*;
 #[test]
 fn the_static_route_of_the_least_metric_is_used(rt: HostRuntime) -> Result<(), Fail> {
     let alloc = rt.alloc();
-    let free = Prefix::of_mask(0x0a01_0000, 0xffff_0000);
-    let other = Prefix::of_mask(0x0a02_0000, 0xffff_0000);
+    let free = Prefix::from_mask(0x0a01_0000, 0xffff_0000);
+    let other = Prefix::from_mask(0x0a02_0000, 0xffff_0000);
     let inputs = StaticInputs {
         configured: &[(free, 5), (free, 3), (other, 7)],
         taken: &[other],

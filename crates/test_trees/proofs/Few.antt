@@ -12,7 +12,7 @@ use Rattle.ospf_types.specs.declared.entry.Vertex.TheVariants.{Router}
 use Rattle.ospf_types.specs.Lsa.{Body}
 use Rattle.ospf_types.proofs.Elements.{mapped_element, mapped_from}
 use Rattle.vertex_graph.specs.Graphs.{GraphValue, Handed, IsThereAfter, AreFewAfter, handed_of}
-use Rattle.spf.specs.Members.{HasNoDoubles}
+use Rattle.spf.specs.VertexSet.{HasNoDoubles}
 use Rattle.spf.proofs.Counting.{no_longer}
 use Rattle.spf.proofs.VertexMaps.{key_there}
 

@@ -5,18 +5,18 @@ use ospf_types::entry::Vertex;
 use ospf_types::memory::Memory;
 use std::hash::RandomState;
 use std::test::Fail;
-use vertex_map::{Placed, VertexMap};
+use vertex_map::{HintedVertex, VertexMap};
 use word_hash::WordHash;
 
 // A hundred vertices, the last place first.
 fn fill(map: &mut VertexMap<u32>) -> Result<(), Memory> {
     for number in 0..100u32 {
-        map.insert(&Placed::new(Vertex::Router(number), 99 - number), number)?;
+        map.insert(&HintedVertex::new(Vertex::Router(number), 99 - number), number)?;
     }
     Ok(())
 }
 
-fn at(map: &VertexMap<u32>, vertex: &Placed) -> Option<u32> {
+fn at(map: &VertexMap<u32>, vertex: &HintedVertex) -> Option<u32> {
     map.get(vertex).copied()
 }
 
@@ -25,10 +25,10 @@ fn is_there(map: &VertexMap<u32>, number: u32) -> bool
     requires { number < 100 }
 {
     let vertex = Vertex::Router(number);
-    at(map, &Placed::new(vertex, 99 - number)) == Some(number)
-        && at(map, &Placed::new(vertex, number)) == Some(number)
-        && at(map, &Placed::nowhere(vertex)) == Some(number)
-        && at(map, &Placed::new(Vertex::Network(number), 99 - number)).is_none()
+    at(map, &HintedVertex::new(vertex, 99 - number)) == Some(number)
+        && at(map, &HintedVertex::new(vertex, number)) == Some(number)
+        && at(map, &HintedVertex::nowhere(vertex)) == Some(number)
+        && at(map, &HintedVertex::new(Vertex::Network(number), 99 - number)).is_none()
 }
 
 fn finds_all(map: &mut VertexMap<u32>) -> Result<bool, Memory> {
@@ -52,13 +52,13 @@ fn a_vertex_is_found_wherever_it_is_looked_for(rt: HostRuntime) -> Result<(), Fa
 fn most_go(map: &mut VertexMap<u32>) -> Result<bool, Memory> {
     fill(map)?;
     for number in 10..100u32 {
-        map.remove(&Placed::new(Vertex::Router(number), number));
+        map.remove(&HintedVertex::new(Vertex::Router(number), number));
     }
-    let left = map.len() == 10 && at(map, &Placed::new(Vertex::Router(10), 89)).is_none();
+    let left = map.len() == 10 && at(map, &HintedVertex::new(Vertex::Router(10), 89)).is_none();
     map.trim(20);
-    map.insert(&Placed::new(Vertex::Network(200), 0), 7)?;
-    map.insert(&Placed::new(Vertex::Network(200), 3), 8)?;
-    let came = map.len() == 11 && at(map, &Placed::new(Vertex::Network(200), 0)) == Some(8);
+    map.insert(&HintedVertex::new(Vertex::Network(200), 0), 7)?;
+    map.insert(&HintedVertex::new(Vertex::Network(200), 3), 8)?;
+    let came = map.len() == 11 && at(map, &HintedVertex::new(Vertex::Network(200), 0)) == Some(8);
     let mut stayed = true;
     for number in 0..10u32 {
         stayed = stayed & is_there(map, number);

@@ -3,12 +3,12 @@ use ospf_types::entry::Vertex;
 use ospf_types::memory::Memory;
 use std::hash::RandomState;
 use std::test::Fail;
-use vertex_map::Placed;
+use vertex_map::HintedVertex;
 use vertex_queue::Queue;
 use word_hash::WordHash;
 
 fn put(queue: &mut Queue, vertex: Vertex, distance: u32) -> Result<(), Memory> {
-    queue.put(&Placed::nowhere(vertex), distance)
+    queue.put(&HintedVertex::nowhere(vertex), distance)
 }
 
 // Whether the vertex leaves next, at the distance.
@@ -38,7 +38,7 @@ fn leave(queue: &mut Queue) -> bool {
 
 fn enter_and_leave(queue: &mut Queue) -> Result<bool, Memory> {
     fill(queue)?;
-    let put = queue.len() == 4 && queue.get(&Placed::nowhere(Vertex::Router(2))) == Some(5);
+    let put = queue.len() == 4 && queue.get(&HintedVertex::nowhere(Vertex::Router(2))) == Some(5);
     Ok(leave(queue) && put)
 }
 

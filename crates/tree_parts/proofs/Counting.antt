@@ -5,7 +5,7 @@ use Rattle.std.proofs.lemmas.Bool.{cases_lt}
 use Rattle.std.proofs.lemmas.List.{get_or_default}
 use Rattle.std.proofs.lemmas.List.Edits.{length-remove, get_or-remove_below, get_or-remove_above}
 use Rattle.std.proofs.lemmas.List.Quantifiers.{all_pairs_push}
-use Rattle.tree_parts.specs.Members.{HasNoDoubles}
+use Rattle.tree_parts.specs.VertexSet.{HasNoDoubles}
 use Rattle.ospf_types.proofs.Elements.{first_element, later_element}
 
 module _ {X : Type 0} where

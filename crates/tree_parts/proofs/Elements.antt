@@ -6,7 +6,7 @@ use Rattle.ospf_types.specs.declared.entry.Vertex.{Vertex}
 use Rattle.ospf_types.specs.declared.entry.Vertex.TheVariants.{Router, Network}
 use Rattle.ospf_types.proofs.Elements.{no_element, first_element, later_element, first_or_later}
 use Rattle.std.proofs.lemmas.List.Elements.{Contains-append_left, Contains-push, Contains-push_cases}
-use Rattle.tree_parts.specs.Members.{IsAdded}
+use Rattle.tree_parts.specs.VertexSet.{IsAdded}
 
 -- vertices are the same or not
 pub cases_vertex : (v w : Vertex) → (v ≡ w) ⊎ (v ≢ w)

@@ -16,7 +16,7 @@ use Rattle.ospf_types.specs.declared.entry.Vertex.{Vertex}
 use Rattle.ospf_types.specs.Vertices.{vertex_cmp}
 use Rattle.ospf_types.proofs.Maps.{find-lookup}
 use Rattle.ospf_types.proofs.VertexOrder.{vertex_total, vertex_exact, vertices_equal, vertices_order}
-use Rattle.tree_parts.specs.Members.{HasNoDoubles}
+use Rattle.tree_parts.specs.VertexSet.{HasNoDoubles}
 use Rattle.tree_parts.proofs.Counting.{no_longer}
 
 -- a vertex ties with no other

@@ -3,7 +3,7 @@ use Rattle.std.proofs.Common.{◌≡◌, ℕ, ◌<◌, Bool, List, [], ◌∷◌
 use Rattle.std.specs.List.{Contains}
 use Rattle.std.proofs.lemmas.List.{get_or-take, get_or_default, length-take-le}
 use Rattle.ospf_types.specs.declared.entry.Vertex.{Vertex}
-use Rattle.tree_parts.specs.Members.{HasNoDoubles, IsAdded, IsWithMember}
+use Rattle.tree_parts.specs.VertexSet.{HasNoDoubles, IsAdded, IsWithMember}
 use Rattle.tree_parts.proofs.Elements.{added_end}
 
 -- what was added is there

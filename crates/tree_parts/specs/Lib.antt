@@ -1,5 +1,5 @@
 pub mod Maps
-pub mod Members
+pub mod VertexSet
 pub mod Differing
 pub mod Marks
 pub mod Keys

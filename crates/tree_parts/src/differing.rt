@@ -5,20 +5,20 @@ ghost use Rattle.ospf_types.specs.Vertices.{vertex_cmp};
 ghost use Rattle.tree_parts.specs.Differing.{HasExactly, IsDiffering, IsFarther, IsGrown, IsNearer, with_distances};
 
 use crate::distances::Distances;
-use crate::listing::Listing;
-use crate::members::Members;
+use crate::sorted_vertices::SortedVertices;
+use crate::vertex_set::VertexSet;
 use crate::vertex_list::VertexList;
 use ospf_types::entry::Vertex;
 use ospf_types::memory::Memory;
-use vertex_map::Placed;
+use vertex_map::HintedVertex;
 
 /// The root and what is lost, each with its distance, to be compared once the distances after are known. They
 /// take the place of what was remembered.
 pub fn remember(
     distances: &Distances,
-    root: &Placed,
-    lost: &[Placed],
-    remembered: &mut Vec<(Placed, Option<u32>)>,
+    root: &HintedVertex,
+    lost: &[HintedVertex],
+    remembered: &mut Vec<(HintedVertex, Option<u32>)>,
 ) -> Result<(), Memory>
     ensures { OnOk result (remembered.new.items
         ≡ with_distances distances.now (root.now ∷ lost.now)) }
@@ -35,11 +35,11 @@ pub fn remember(
 #[derive(Clone, Copy)]
 pub struct Repaired<'a> {
     /// The root and what was lost, each with its distance before.
-    pub remembered: &'a [(Placed, Option<u32>)],
+    pub remembered: &'a [(HintedVertex, Option<u32>)],
     /// The distances now.
     pub distances: &'a Distances,
     /// The vertices that had lost their distance.
-    pub lost: &'a Members,
+    pub lost: &'a VertexSet,
     /// The vertices that came nearer, and those that got a distance again.
     pub moved: &'a VertexList,
     /// The vertices whose next hops were written.
@@ -51,7 +51,7 @@ impl<'a> Repaired<'a> {
     /// now, those that moved and were not lost, and those whose next hops were written.
     pub fn list_differing(
         self,
-        listing: &mut Listing,
+        listing: &mut SortedVertices,
         changed: &mut Vec<Vertex>,
     ) -> Result<(), Memory>
         ensures in_order { OnOk result (IsStrictlySortedBy vertex_cmp changed.new.items) }
@@ -68,7 +68,7 @@ impl<'a> Repaired<'a> {
 }
 
 // Adds all of these.
-fn add_all(listing: &mut Listing, vertices: &[Placed]) -> Result<(), Memory>
+fn add_all(listing: &mut SortedVertices, vertices: &[HintedVertex]) -> Result<(), Memory>
     ensures { OnOk result (listing.new ≡ listing.old ++ vertices.now) }
 {
     for vertex in vertices {
@@ -79,8 +79,8 @@ fn add_all(listing: &mut Listing, vertices: &[Placed]) -> Result<(), Memory>
 
 // Adds those remembered that have another distance now.
 fn add_farther(
-    listing: &mut Listing,
-    remembered: &[(Placed, Option<u32>)],
+    listing: &mut SortedVertices,
+    remembered: &[(HintedVertex, Option<u32>)],
     distances: &Distances,
 ) -> Result<(), Memory>
     ensures { OnOk result (IsGrown listing.new listing.old
@@ -95,7 +95,7 @@ fn add_farther(
 }
 
 // Adds those that moved and were not lost.
-fn add_nearer(listing: &mut Listing, moved: &[Placed], lost: &Members) -> Result<(), Memory>
+fn add_nearer(listing: &mut SortedVertices, moved: &[HintedVertex], lost: &VertexSet) -> Result<(), Memory>
     ensures { OnOk result (IsGrown listing.new listing.old (IsNearer moved.now lost.now)) }
 {
     for vertex in moved {

@@ -7,7 +7,7 @@ use ospf_types::entry::Vertex;
 use ospf_types::memory::Memory;
 use std::alloc::Global;
 use std::marker::Model;
-use vertex_map::{Placed, VertexMap};
+use vertex_map::{HintedVertex, VertexMap};
 use word_hash::WordHash;
 
 /// The vertices that are reached, each at its distance: a sum of metrics below 2^30.
@@ -50,7 +50,7 @@ impl Distances {
 
     /// The distance of a vertex; none where it is not reached.
     #[inline]
-    pub fn get(&self, vertex: &Placed) -> Option<u32>
+    pub fn get(&self, vertex: &HintedVertex) -> Option<u32>
         ensures value { result ≡ map.get self.now vertex.now }
         ensures bounded { IfSome result (λ distance. distance < most_distance) }
     {
@@ -62,7 +62,7 @@ impl Distances {
         ensures value { result ≡ map.get self.now vertex }
         ensures bounded { IfSome result (λ distance. distance < most_distance) }
     {
-        self.get(&Placed::nowhere(vertex))
+        self.get(&HintedVertex::nowhere(vertex))
     }
 
     /// How many vertices are reached.
@@ -74,7 +74,7 @@ impl Distances {
     }
 
     /// Gives the vertex this distance.
-    pub fn set(&mut self, vertex: &Placed, distance: u32) -> Result<(), Memory>
+    pub fn set(&mut self, vertex: &HintedVertex, distance: u32) -> Result<(), Memory>
         requires { distance < most_distance }
         ensures set { OnOk result (self.new ≡ map.insert self.old vertex.now distance) }
         ensures unchanged { OnErr result (self.new ≡ self.old) }
@@ -84,7 +84,7 @@ impl Distances {
     }
 
     /// Takes the distance of a vertex out.
-    pub fn remove(&mut self, vertex: &Placed)
+    pub fn remove(&mut self, vertex: &HintedVertex)
         ensures { self.new ≡ map.remove self.old vertex.now }
     {
         self.by_vertex.remove(vertex);

@@ -4,15 +4,15 @@
 
 pub mod differing;
 mod distances;
-mod hop_columns;
-mod listing;
-mod members;
+mod next_hop_map;
+mod sorted_vertices;
+mod vertex_set;
 mod touched;
 mod vertex_list;
 
 pub use distances::Distances;
-pub use hop_columns::HopColumns;
-pub use listing::Listing;
-pub use members::Members;
+pub use next_hop_map::NextHopMap;
+pub use sorted_vertices::SortedVertices;
+pub use vertex_set::VertexSet;
 pub use touched::Touched;
 pub use vertex_list::VertexList;

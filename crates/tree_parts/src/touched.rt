@@ -5,10 +5,10 @@ ghost use Rattle.tree_parts.specs.Counts.{no_work, with_hop_sets, with_taken};
 ghost use Rattle.tree_parts.specs.Maps.{with_hops};
 ghost use Rattle.vertex_queue.specs.Queues.{IsFirst};
 
-use crate::hop_columns::HopColumns;
+use crate::next_hop_map::NextHopMap;
 use hop_sets::HopSet;
 use ospf_types::memory::Memory;
-use vertex_map::Placed;
+use vertex_map::HintedVertex;
 use vertex_queue::Queue;
 
 /// The work of building or repairing a tree.
@@ -32,7 +32,7 @@ impl Touched {
     }
 
     /// Takes the first vertex from the queue. Nothing else takes one.
-    pub fn take(&mut self, queue: &mut Queue) -> Option<(Placed, u32)>
+    pub fn take(&mut self, queue: &mut Queue) -> Option<(HintedVertex, u32)>
         requires { self.old.taken + 1 < 2 ^ 64 }
         ensures none { IfNone result (queue.old ≡ map.empty) }
         ensures still_none { IfNone result (queue.new ≡ map.empty) }
@@ -49,8 +49,8 @@ impl Touched {
     /// Writes the next hops of a vertex. Nothing else writes them.
     pub fn write(
         &mut self,
-        sets: &mut HopColumns,
-        vertex: &Placed,
+        sets: &mut NextHopMap,
+        vertex: &HintedVertex,
         hops: Option<HopSet>,
     ) -> Result<(), Memory>
         requires { self.old.hop_sets + 1 < 2 ^ 64 }

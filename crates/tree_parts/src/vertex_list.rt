@@ -1,16 +1,16 @@
 //! Vertices, each once, none of which is looked for.
 ghost use Rattle.std.specs.Prelude.{◌≡◌, ◌<◌, ◌^◌, ◌++◌, ◌∷◌, [], OnOk, OnErr, Contains, length};
-ghost use Rattle.tree_parts.specs.Members.{HasNoDoubles};
+ghost use Rattle.tree_parts.specs.VertexSet.{HasNoDoubles};
 
 use ospf_types::memory::Memory;
 use std::alloc::Global;
 use std::marker::Model;
-use vertex_map::Placed;
+use vertex_map::HintedVertex;
 
-/// A list of vertices that has each vertex once, in the order in which they were added. `Members` also says whether
+/// A list of vertices that has each vertex once, in the order in which they were added. `VertexSet` also says whether
 /// a vertex is there; this list does not, and takes less memory and less work.
 pub struct VertexList {
-    list: Vec<Placed>,
+    list: Vec<HintedVertex>,
 }
 
 // proof: one call drops it, in place of a drop of each part wherever one is held.
@@ -23,7 +23,7 @@ impl Drop for VertexList {
 impl Model for VertexList {
     ghost use Rattle.std.specs.Prelude.{List};
     ghost use Rattle.ospf_types.specs.declared.entry.Vertex.{Vertex};
-    ghost use Rattle.tree_parts.specs.Members.{HasNoDoubles};
+    ghost use Rattle.tree_parts.specs.VertexSet.{HasNoDoubles};
 
     ghost Value = { List Vertex };
 
@@ -51,7 +51,7 @@ impl VertexList {
     }
 
     /// Lends the vertices, in the order in which they were added.
-    pub fn as_slice(&self) -> &[Placed]
+    pub fn as_slice(&self) -> &[HintedVertex]
         ensures value { result.now ≡ self.now }
         ensures apart { HasNoDoubles self.now }
     {
@@ -59,7 +59,7 @@ impl VertexList {
     }
 
     /// Adds a vertex that is not there at the end.
-    pub fn push(&mut self, vertex: &Placed) -> Result<(), Memory>
+    pub fn push(&mut self, vertex: &HintedVertex) -> Result<(), Memory>
         requires { Contains self.old vertex.now → ⊥ }
         ensures pushed { OnOk result (self.new ≡ self.old ++ vertex.now ∷ []) }
         ensures unchanged { OnErr result (self.new ≡ self.old) }

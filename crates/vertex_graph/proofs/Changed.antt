@@ -12,11 +12,11 @@ use Rattle.ospf_types.specs.declared.entry.Vertex.TheVariants.{Router, Network}
 use Rattle.ospf_types.specs.declared.label.Label.{Label}
 use Rattle.ospf_types.specs.Distances.{Links}
 use Rattle.ospf_types.specs.Vertices.{vertex_cmp}
-use Rattle.graph_links.specs.declared.end.End.{End}
+use Rattle.graph_links.specs.declared.link_end.LinkEnd.{LinkEnd}
 use Rattle.graph_links.specs.declared.link.Link.{Link}
 use Rattle.graph_links.specs.declared.link.Up.{Up}
 use Rattle.graph_links.specs.declared.row.Row.{Row}
-use Rattle.vertex_graph.specs.Graphs.{GraphValue, link_of, LinksOf, HasRoot, AreLinksFrom, AreLinksTo, HasEnds, HasFewRouters, AreExact, most_routers}
+use Rattle.vertex_graph.specs.Graphs.{GraphValue, link_of, LinksOf, HasRoot, AreLinksFrom, AreLinksTo, HasEnds, HasFewRouters, AreExact, max_routers}
 use Rattle.graph_links.specs.Pairs.{AreApart, Names}
 use Rattle.vertex_graph.specs.Rows.{graph_of, AreRows}
 use Rattle.graph_links.specs.Sides.{Leading, RowList, row_ends, ends_or, LinksBy, AreOut, AreInto, IsRow, IsFreshRow, AreMissing, AreRowsBy}
@@ -28,7 +28,7 @@ use Rattle.vertex_graph.proofs.PairLinks.{pair_of_link}
 use Rattle.vertex_graph.proofs.Untouched.{IsAlike, untouched_by_ends, untouched_by_ups}
 use Rattle.graph_links.proofs.VertexTests.{is_vertex, found_mapped}
 
-abbrev ends_entries : RowList → List (Vertex × List End)
+abbrev ends_entries : RowList → List (Vertex × List LinkEnd)
 ends_entries = map (λ (p : Vertex × Row). (p.0, p.1.ends.items))
 
 -- the graph leads where its rows do
@@ -36,13 +36,13 @@ pub get_graph : (root : ℕ) (rows : RowList) (ups : List Up) (v : Vertex) → g
 get_graph root rows ups v = get-from_entries vertex_total (ends_entries rows) v ∙ found_mapped (λ (row : Row). row.ends.items) rows v
 
 -- a vertex that is none of these is not found
-missing : (v : Vertex) (es : List (Vertex × List End)) → AllByRecursion (λ k. is_vertex v k ≡ false) (keys_of es) → find vertex_cmp v es ≡ None
+missing : (v : Vertex) (es : List (Vertex × List LinkEnd)) → AllByRecursion (λ k. is_vertex v k ≡ false) (keys_of es) → find vertex_cmp v es ≡ None
 missing v [] none = refl
 missing v (e ∷ es) none = ap (λ b. cond b (Some e.1) (find vertex_cmp v es)) none.0 ∙ missing v es none.1
 
 -- there are as many vertices as entries, if none stands twice
-len_is : (es : List (Vertex × List End)) → IsDistinct is_vertex (keys_of es) → len (from_entries {R = vertex_cmp} es) ≡ length es
-len_is [] unique = len-empty vertex_cmp (List End)
+len_is : (es : List (Vertex × List LinkEnd)) → IsDistinct is_vertex (keys_of es) → len (from_entries {R = vertex_cmp} es) ≡ length es
+len_is [] unique = len-empty vertex_cmp (List LinkEnd)
 len_is (e ∷ es) unique =
     let absent : contains_key (from_entries {R = vertex_cmp} es) e.0 ≡ false = ap is_some (get-from_entries vertex_total es e.0 ∙ missing e.0 es (IsDistinct-head is_vertex e.0 (keys_of es) unique)) in
     let rest = len_is es (IsDistinct-tail is_vertex e.0 (keys_of es) unique) in
@@ -218,7 +218,7 @@ no_rows root =
     not_there : (v : Vertex) → ((v : Vertex) → get (graph_of root [] []).ends v ≡ None) → IsSome (get (graph_of root [] []).ends v) → ⊥
     not_there v none is = false≢true (subst IsSome (none v) is)
 
-    no_routers : (routers : List ℕ) → ((r : ℕ) → Contains routers r → ⊥) → length routers ≤ most_routers
+    no_routers : (routers : List ℕ) → ((r : ℕ) → Contains routers r → ⊥) → length routers ≤ max_routers
     no_routers [] nobody = omega arith
     no_routers (r ∷ rs) nobody = absurd (nobody r (first_element r rs))
 
@@ -229,7 +229,7 @@ root_there g b is = (
   λ there. is ∙ ap is_some there.2.1,
 )
   where
-    some_ends : (o : Option (List End)) → is_some o ≡ true → (ends : List End) × (o ≡ Some ends)
+    some_ends : (o : Option (List LinkEnd)) → is_some o ≡ true → (ends : List LinkEnd) × (o ≡ Some ends)
     some_ends None e = absurd (false≢true e)
     some_ends (Some ends) e = (ends, refl)
 

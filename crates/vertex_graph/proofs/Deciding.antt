@@ -14,7 +14,7 @@ use Rattle.ospf_types.specs.declared.entry.Vertex.TheVariants.{Router, Network}
 use Rattle.ospf_types.specs.declared.label.Label.{Label}
 use Rattle.ospf_types.specs.declared.label.Label.TheVariants.{Over, At, Plain}
 use Rattle.ospf_types.proofs.Elements.{no_element, first_element, later_element, first_or_later}
-use Rattle.graph_links.specs.declared.end.End.{End}
+use Rattle.graph_links.specs.declared.link_end.LinkEnd.{LinkEnd}
 use Rattle.graph_links.specs.declared.link.Up.{Up}
 use Rattle.graph_links.specs.EndOrder.{end_cmp}
 use Rattle.vertex_graph.specs.Graphs.{GraphValue, LinksOf, HasEnds}
@@ -61,8 +61,8 @@ some_decided {X} P decided (x ∷ xs) = elim (decided x) [
   ]
 ]
 
-names_decided : (ends : List End) (v : Vertex) → IsDecided (Names ends v)
-names_decided ends v = some_decided (λ (e : End). e.to ≡ v) (λ e. cases_vertex e.to v) ends
+names_decided : (ends : List LinkEnd) (v : Vertex) → IsDecided (Names ends v)
+names_decided ends v = some_decided (λ (e : LinkEnd). e.to ≡ v) (λ e. cases_vertex e.to v) ends
 
 has_up_decided : (ups : List Up) (up : Up) → IsDecided (Contains ups up)
 has_up_decided ups up = elim (some_decided (λ (u : Up). u ≡ up) (λ u. cases_up u up) ups) [
@@ -75,10 +75,10 @@ label_decided root ups from detail (Over id) = both_decided (from ≡ root) (Con
 label_decided root ups from detail Plain = elim (cases_eq from root) [ inl e ↦ inr (λ n. n e) | inr n ↦ inl n ]
 label_decided root ups from detail (At addresses) = inr (λ h. h)
 
-at_vertex : Vertex → End → Bool
+at_vertex : Vertex → LinkEnd → Bool
 at_vertex v e = elim (cases_vertex e.to v) [ inl is ↦ true | inr other ↦ false ]
 
-at_vertex_is : (v : Vertex) (e : End) → (at_vertex v e ≡ true) ↔ (e.to ≡ v)
+at_vertex_is : (v : Vertex) (e : LinkEnd) → (at_vertex v e ≡ true) ↔ (e.to ≡ v)
 unfolding at_vertex
 at_vertex_is v e =
     elim (cases_vertex e.to v) as (λ d. (elim d [ inl is ↦ true | inr other ↦ false ] ≡ true) ↔ (e.to ≡ v)) [
@@ -87,7 +87,7 @@ at_vertex_is v e =
     ]
 
 -- what a filter keeps
-kept_from : (p : End → Bool) (xs : List End) (e : End) → Contains (filter p xs) e → Contains xs e × (p e ≡ true)
+kept_from : (p : LinkEnd → Bool) (xs : List LinkEnd) (e : LinkEnd) → Contains (filter p xs) e → Contains xs e × (p e ≡ true)
 kept_from p [] e c = absurd (no_element e c)
 kept_from p (x ∷ xs) e c =
     let later : Contains (filter p xs) e → Contains (x ∷ xs) e × (p e ≡ true) = λ h. let r = kept_from p xs e h in (later_element x e xs r.0, r.1) in
@@ -96,7 +96,7 @@ kept_from p (x ∷ xs) e c =
       | false ↦ λ f h. later h
     ] refl c
 
-kept : (p : End → Bool) (xs : List End) (e : End) → Contains xs e → p e ≡ true → Contains (filter p xs) e
+kept : (p : LinkEnd → Bool) (xs : List LinkEnd) (e : LinkEnd) → Contains xs e → p e ≡ true → Contains (filter p xs) e
 kept p [] e c t = absurd (no_element e c)
 kept p (x ∷ xs) e c t =
     ⊎_elim
@@ -108,17 +108,17 @@ kept p (x ∷ xs) e c t =
     (first_or_later x e xs c)
 
 -- the addresses of a vertex at another are a list
-details_there : (v : Vertex) (ends : List End) → IsStrictlySortedBy end_cmp ends → (addresses : List ℕ) × AreDetailsTo v ends addresses
+details_there : (v : Vertex) (ends : List LinkEnd) → IsStrictlySortedBy end_cmp ends → (addresses : List ℕ) × AreDetailsTo v ends addresses
 details_there v ends sorted =
-    let here : List End = filter (at_vertex v) ends in (
-      dedup eqb (map (λ (e : End). e.detail) here),
+    let here : List LinkEnd = filter (at_vertex v) ends in (
+      dedup eqb (map (λ (e : LinkEnd). e.detail) here),
       details_of_ends v ends here (IsStrictlySortedBy-filter end_cmp (at_vertex v) ends sorted) (λ e. (
         λ c. let k = kept_from (at_vertex v) ends e c in (k.0, (at_vertex_is v e).0 k.1),
         λ h. kept (at_vertex v) ends e h.0 ((at_vertex_is v e).1 h.1),
       )),
     )
 
-at_decided : (v : Vertex) (ends : List End) → IsStrictlySortedBy end_cmp ends → (label : Label) → IsDecided ((addresses : List ℕ) × AreDetailsTo v ends addresses × (label ≡ At addresses))
+at_decided : (v : Vertex) (ends : List LinkEnd) → IsStrictlySortedBy end_cmp ends → (label : Label) → IsDecided ((addresses : List ℕ) × AreDetailsTo v ends addresses × (label ≡ At addresses))
 at_decided v ends sorted (Over id) = inr (λ h. let apart = h.2 in absurd cc)
 at_decided v ends sorted Plain = inr (λ h. let apart = h.2 in absurd cc)
 at_decided v ends sorted (At addresses) =
@@ -132,9 +132,9 @@ positive_decided : (n : ℕ) → IsDecided (0 < n)
 positive_decided n = elim (cases_lt 0 n) [ inl lt ↦ inl lt | inr le ↦ inr (λ lt. omega arith) ]
 
 -- a link of two vertices is there or not
-pair_decided : (root : ℕ) (ups : List Up) (v w : Vertex) (ends back : List End) (cost : ℕ) (label : Label) → IsStrictlySortedBy end_cmp back → IsDecided (IsPairLink root ups v ends w back cost label)
+pair_decided : (root : ℕ) (ups : List Up) (v w : Vertex) (ends back : List LinkEnd) (cost : ℕ) (label : Label) → IsStrictlySortedBy end_cmp back → IsDecided (IsPairLink root ups v ends w back cost label)
 pair_decided root ups (Router from) w ends back cost label sorted =
-    elim (some_decided (λ (e : End). (e.to ≡ w) × ((e.metric ≡ cost) × ((0 < cost) × (IsOutLabel root ups from e.detail label × Names back (Router from)))))
+    elim (some_decided (λ (e : LinkEnd). (e.to ≡ w) × ((e.metric ≡ cost) × ((0 < cost) × (IsOutLabel root ups from e.detail label × Names back (Router from)))))
     (λ e. both_decided _ _ (cases_vertex e.to w) (both_decided _ _ (cases_eq e.metric cost) (both_decided _ _ (positive_decided cost) (both_decided _ _ (label_decided root ups from e.detail label) (names_decided back (Router from))))))
     ends) [
       | inl is ↦ inl (is.0, is.1, is.2.0, is.2.1.0, is.2.1.1.0, is.2.1.1.1.0, is.2.1.1.1.1)
@@ -160,7 +160,7 @@ link_decided g has v w cost label =
               let pair = pair_of_link g has v w cost label l in
               let own : pair.0 ≡ ends = let at = pair.2 in cc in
               let other : pair.1 ≡ back = let at = pair.3 in cc in
-              none (subst (λ (es : List End). IsPairLink g.root g.interfaces v es w back cost label) own (subst (λ (bs : List End). IsPairLink g.root g.interfaces v pair.0 w bs cost label) other pair.4)))
+              none (subst (λ (es : List LinkEnd). IsPairLink g.root g.interfaces v es w back cost label) own (subst (λ (bs : List LinkEnd). IsPairLink g.root g.interfaces v pair.0 w bs cost label) other pair.4)))
         ]
       ] refl
     ] refl

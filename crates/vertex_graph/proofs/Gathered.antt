@@ -17,9 +17,9 @@ use Rattle.ospf_types.specs.declared.lsa.LinkKind.TheVariants as kind
 use Rattle.ospf_types.specs.Lsa.{Body, RouterLink}
 use Rattle.ospf_types.proofs.Elements.{no_element, first_element, later_element, first_or_later, mapped_element, mapped_from}
 use Rattle.lsa_codec.specs.Readers.{links_of, routers_of, without_tos}
-use Rattle.graph_links.specs.declared.end.End.{End}
-use Rattle.graph_links.specs.contracts.end.EndOrd.TheImpl as end_order
-use Rattle.graph_links.specs.contracts.end.EndPartialEq.TheImpl as end_equality
+use Rattle.graph_links.specs.declared.link_end.LinkEnd.{LinkEnd}
+use Rattle.graph_links.specs.contracts.link_end.LinkEndOrd.TheImpl as end_order
+use Rattle.graph_links.specs.contracts.link_end.LinkEndPartialEq.TheImpl as end_equality
 use Rattle.graph_links.specs.EndOrder.{end_cmp, listed_end}
 use Rattle.vertex_graph.specs.Ends.{end_by, end_of, end_of_link, LeadsTo, AreEnds}
 use Rattle.graph_links.proofs.EndOrders.{end_total, end_exact, end_cmp_is, end_tied_is}
@@ -61,8 +61,8 @@ module _ {X Y : Type 0} (f : X → Option Y) where
       (first_or_later z x xs c)
 
 -- the list has where the vertex leads
-abbrev pub HasAll : Vertex → Body → List End → Type 0
-HasAll v body raw = (e : End) → Contains raw e ↔ LeadsTo v body e
+abbrev pub HasAll : Vertex → Body → List LinkEnd → Type 0
+HasAll v body raw = (e : LinkEnd) → Contains raw e ↔ LeadsTo v body e
 
 pub router_has : (r : ℕ) (body : Body) → HasAll (Router r) body (filter_map end_of (links_of body))
 router_has r body e = (given_from end_of (links_of body) e, λ h. given end_of (links_of body) h.0 e h.1 h.2)
@@ -74,22 +74,22 @@ network_has n body e = (
 )
 
 -- the list and the vertex by other names
-pub has_all_of_eq : (v w : Vertex) (body : Body) (xs ys : List End) → v ≡ w → xs ≡ ys → HasAll w body ys → HasAll v body xs
+pub has_all_of_eq : (v w : Vertex) (body : Body) (xs ys : List LinkEnd) → v ≡ w → xs ≡ ys → HasAll w body ys → HasAll v body xs
 has_all_of_eq v w body xs ys same list all = subst (λ (u : Vertex). HasAll u body xs) (sym same) (subst (HasAll w body) (sym list) all)
 
 -- sorted, and each once, they are the ends of the vertex
-pub gathered : (v : Vertex) (body : Body) (raw sorted kept : List End) → HasAll v body raw → IsPermutation raw sorted → IsSorted end_order.ghosts.cmp sorted
+pub gathered : (v : Vertex) (body : Body) (raw sorted kept : List LinkEnd) → HasAll v body raw → IsPermutation raw sorted → IsSorted end_order.ghosts.cmp sorted
     → IsFiltered (DiffersFromLast (end_equality.eq-value).it) [] sorted kept → AreEnds v body kept
 gathered v body raw sorted kept all moved in_order once = record {
-  in_order = subst (IsStrictlySortedBy end_cmp) (sym is) (IsStrictlySortedBy-dedup end_total (λ x y. refl) sorted (subst (λ (R : End → End → Ordering). IsSorted R sorted) end_cmp_is in_order));
+  in_order = subst (IsStrictlySortedBy end_cmp) (sym is) (IsStrictlySortedBy-dedup end_total (λ x y. refl) sorted (subst (λ (R : LinkEnd → LinkEnd → Ordering). IsSorted R sorted) end_cmp_is in_order));
   exact = λ e. (
-    λ c. (all e).0 (Contains-permutation sorted raw e (IsPermutation-sym raw sorted moved) (Contains-from_dedup same sorted e (subst (λ (es : List End). Contains es e) is c))),
-    λ leads. subst (λ (es : List End). Contains es e) (sym is) (Contains-dedup (eq_by_cmp_equiv end_total) (tells_apart end_exact) sorted e (Contains-permutation raw sorted e moved ((all e).1 leads))),
+    λ c. (all e).0 (Contains-permutation sorted raw e (IsPermutation-sym raw sorted moved) (Contains-from_dedup same sorted e (subst (λ (es : List LinkEnd). Contains es e) is c))),
+    λ leads. subst (λ (es : List LinkEnd). Contains es e) (sym is) (Contains-dedup (eq_by_cmp_equiv end_total) (tells_apart end_exact) sorted e (Contains-permutation raw sorted e moved ((all e).1 leads))),
   );
 }
   where
-    same : End → End → Bool
+    same : LinkEnd → LinkEnd → Bool
     same = eq_by_cmp end_cmp
 
     is : kept ≡ dedup same sorted
-    is = dedup_is same sorted kept (subst (λ (E : End → End → Bool). IsFiltered (DiffersFromLast E) [] sorted kept) end_tied_is once)
+    is = dedup_is same sorted kept (subst (λ (E : LinkEnd → LinkEnd → Bool). IsFiltered (DiffersFromLast E) [] sorted kept) end_tied_is once)

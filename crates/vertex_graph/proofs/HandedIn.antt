@@ -14,8 +14,8 @@ use Rattle.ospf_types.specs.declared.entry.Vertex.{Vertex}
 use Rattle.ospf_types.specs.declared.entry.Vertex.TheVariants.{Router, Network}
 use Rattle.ospf_types.specs.Lsa.{Body}
 use Rattle.ospf_types.proofs.Elements.{no_element, first_element, later_element, first_or_later}
-use Rattle.graph_links.specs.declared.end.End.{End}
-use Rattle.graph_links.specs.contracts.end.EndPartialEq.TheImpl as end_equality
+use Rattle.graph_links.specs.declared.link_end.LinkEnd.{LinkEnd}
+use Rattle.graph_links.specs.contracts.link_end.LinkEndPartialEq.TheImpl as end_equality
 use Rattle.graph_links.specs.Pairs.{Names}
 use Rattle.graph_links.specs.EndOrder.{end_cmp, listed_end}
 use Rattle.vertex_graph.specs.Ends.{AreEnds}
@@ -40,7 +40,7 @@ handed_or_not (h ∷ hs) v =
     (handed_or_not hs v)) (one_or_other v h.0)
 
 -- no ends are in order
-sorted_or : (o : Option (List End)) → ((ends : List End) → o ≡ Some ends → IsStrictlySortedBy end_cmp ends) → IsStrictlySortedBy end_cmp (ends_or o)
+sorted_or : (o : Option (List LinkEnd)) → ((ends : List LinkEnd) → o ≡ Some ends → IsStrictlySortedBy end_cmp ends) → IsStrictlySortedBy end_cmp (ends_or o)
 unfolding IsStrictlySortedBy
 sorted_or None sorted = tt
 sorted_or (Some ends) sorted = sorted ends refl
@@ -49,16 +49,16 @@ sorted_or (Some ends) sorted = sorted ends refl
 pub graph_in_order : (g : GraphValue) (leading : Leading) → ((v : Vertex) → get g.ends v ≡ leading v) → HasEnds g → IsInOrder leading
 graph_in_order g leading leads has v = sorted_or (leading v) (λ ends is. has.in_order v ends (leads v ∙ is))
 
-abbrev IsListed : Vertex → List End → Type 0
-IsListed v ends = (n : ℕ) (e : End) → v ≡ Network n → Contains ends e → (router : ℕ) × (e ≡ listed_end router)
+abbrev IsListed : Vertex → List LinkEnd → Type 0
+IsListed v ends = (n : ℕ) (e : LinkEnd) → v ≡ Network n → Contains ends e → (router : ℕ) × (e ≡ listed_end router)
 
-ends_listed : (v : Vertex) (body : Body) (ends : List End) → AreEnds v body ends → IsListed v ends
+ends_listed : (v : Vertex) (body : Body) (ends : List LinkEnd) → AreEnds v body ends → IsListed v ends
 ends_listed (Router r) body ends are n e is there = absurd cc
 ends_listed (Network m) body ends are n e is there = let led = (are.exact e).0 there in (led.0, led.2)
 
 module _ (old : GraphValue) (before after : Leading) (handed : List Handed) (has : HasEnds old) (leads : (v : Vertex) → get old.ends v ≡ before v) (h : IsHandedIn before after handed) where
   -- what a vertex that was handed in leads to
-  given_ends : (v : Vertex) (given : Option Body) → Contains handed (v, given) → (ends : List End) → after v ≡ Some ends → (body : Body) × (given ≡ Some body) × AreEnds v body ends
+  given_ends : (v : Vertex) (given : Option Body) → Contains handed (v, given) → (ends : List LinkEnd) → after v ≡ Some ends → (body : Body) × (given ≡ Some body) × AreEnds v body ends
   given_ends v None there ends is = let e : None ≡ Some ends = sym (h.away v there) ∙ is in absurd cc
   given_ends v (Some body) there ends is =
       let own = h.there v body there in
@@ -66,12 +66,12 @@ module _ (old : GraphValue) (before after : Leading) (handed : List Handed) (has
       let same : own.0 ≡ ends = cc in
       (body, refl, subst (AreEnds v body) same own.2)
 
-  after_in_order : (v : Vertex) (ends : List End) → after v ≡ Some ends → IsStrictlySortedBy end_cmp ends
+  after_in_order : (v : Vertex) (ends : List LinkEnd) → after v ≡ Some ends → IsStrictlySortedBy end_cmp ends
   after_in_order v ends is =
       ⊎_elim (λ (there : WasHandedIn handed v). (given_ends v there.0 there.1 ends is).2.in_order)
       (λ (none : (given : Option Body) → Contains handed (v, given) → ⊥). has.in_order v ends (leads v ∙ sym (h.others v none) ∙ is)) (handed_or_not handed v)
 
-  after_listed : (v : Vertex) (ends : List End) → after v ≡ Some ends → IsListed v ends
+  after_listed : (v : Vertex) (ends : List LinkEnd) → after v ≡ Some ends → IsListed v ends
   after_listed v ends is n e network there =
       ⊎_elim (λ (handed_in : WasHandedIn handed v). let own = given_ends v handed_in.0 handed_in.1 ends is in ends_listed v own.0 ends own.2 n e network there)
       (λ (none : (given : Option Body) → Contains handed (v, given) → ⊥). has.listed n ends e (ap (get old.ends) (sym network) ∙ leads v ∙ sym (h.others v none) ∙ is) there) (handed_or_not handed v)
@@ -87,7 +87,7 @@ module _ (old : GraphValue) (before after : Leading) (handed : List Handed) (has
     }
 
     there_after : (v : Vertex) (given : Option Body) → Contains handed (v, given) → IsSome (get new.ends v) → IsThereAfter old handed v
-    there_after v None there is = let none : IsSome {T = List End} None = subst IsSome (leads_new v ∙ h.away v there) is in absurd cc
+    there_after v None there is = let none : IsSome {T = List LinkEnd} None = subst IsSome (leads_new v ∙ h.away v there) is in absurd cc
     there_after v (Some body) there is = inl (body, there)
 
     pub handed_few : AreFewAfter old handed → HasFewRouters new
@@ -109,7 +109,7 @@ module _ (old : GraphValue) (before after : Leading) (handed : List Handed) (has
 
 -- what is staged of those that were handed in so far
 pub record IsStagedUpTo (rows : RowList) (staged : StagedList) (handed : List Handed) : Type 0 where
-  pub there : (v : Vertex) (body : Body) → Contains handed (v, Some body) → (ends : List End) × (ends_after rows staged v ≡ Some ends) × AreEnds v body ends
+  pub there : (v : Vertex) (body : Body) → Contains handed (v, Some body) → (ends : List LinkEnd) × (ends_after rows staged v ≡ Some ends) × AreEnds v body ends
   pub away : (v : Vertex) → Contains handed (v, None) → ends_after rows staged v ≡ None
   pub unstaged : (v : Vertex) → ((given : Option Body) → Contains handed (v, given) → ⊥) → find vertex_cmp v staged ≡ None
 
@@ -127,11 +127,11 @@ staged_all rows staged handed h = record {
   others = λ v none. ap (λ o. staged_or o (row_ends rows v)) (h.unstaged v none);
 }
 
-ends_there : (v : Vertex) (body : Body) (ends : Option (List End)) → IsGivenEnds v (Some body) ends → (es : List End) × (ends ≡ Some es) × AreEnds v body es
+ends_there : (v : Vertex) (body : Body) (ends : Option (List LinkEnd)) → IsGivenEnds v (Some body) ends → (es : List LinkEnd) × (ends ≡ Some es) × AreEnds v body es
 ends_there v body None given = absurd given
 ends_there v body (Some ends) given = (ends, refl, given)
 
-module _ (rows : RowList) (old new : StagedList) (done more : List Handed) (v : Vertex) (given : Option Body) (ends : Option (List End)) (h : IsStagedUpTo rows old done)
+module _ (rows : RowList) (old new : StagedList) (done more : List Handed) (v : Vertex) (given : Option Body) (ends : Option (List LinkEnd)) (h : IsStagedUpTo rows old done)
     (apart : (other : Option Body) → Contains done (v, other) → ⊥) (all : (p : Handed) → Contains more p ↔ (Contains done p ⊎ (p ≡ (v, given)))) (is : IsGivenEnds v given ends) (staged : IsStaged rows v ends old new) where
   kept : (w : Vertex) (other : Option Body) → Contains done (w, other) → ends_after rows new w ≡ ends_after rows old w
   kept w other c = ap (λ o. staged_or o (row_ends rows w)) (staged.others w (λ same. apart other (subst (λ u. Contains done (u, other)) same c)))
@@ -162,13 +162,13 @@ not_before handed i p apart within at other c =
 
 -- ---- what is touched
 
-module _ (rows : RowList) (v : Vertex) (ends : Option (List End)) (old new : StagedList) (touched touched_new : List Vertex) (staged : IsStaged rows v ends old new) (before : AreTouched (row_ends rows) (ends_after rows old) touched)
+module _ (rows : RowList) (v : Vertex) (ends : Option (List LinkEnd)) (old new : StagedList) (touched touched_new : List Vertex) (staged : IsStaged rows v ends old new) (before : AreTouched (row_ends rows) (ends_after rows old) touched)
     (own : Contains touched_new v) (within : IsWithin touched touched_new) (gone : TouchesOthers (ends_or (row_ends rows v)) (ends_or ends) touched_new) (came : TouchesOthers (ends_or ends) (ends_or (row_ends rows v)) touched_new) where
   other_ends : (w : Vertex) → w ≢ v → ends_after rows new w ≡ ends_after rows old w
   other_ends w apart = ap (λ o. staged_or o (row_ends rows w)) (staged.others w apart)
 
   -- an end at a vertex that is not touched is in both lists or in none
-  in_both : (u : Vertex) → (Contains touched_new u → ⊥) → (e : End) → e.to ≡ u → Contains (ends_or (row_ends rows v)) e ↔ Contains (ends_or ends) e
+  in_both : (u : Vertex) → (Contains touched_new u → ⊥) → (e : LinkEnd) → e.to ≡ u → Contains (ends_or (row_ends rows v)) e ↔ Contains (ends_or ends) e
   in_both u apart e at = (
     λ c. ⊎_elim (λ (both : Contains (ends_or ends) e). both) (λ (t : Contains touched_new e.to). absurd (apart (subst (Contains touched_new) at t))) (gone e c),
     λ c. ⊎_elim (λ (both : Contains (ends_or (row_ends rows v)) e). both) (λ (t : Contains touched_new e.to). absurd (apart (subst (Contains touched_new) at t))) (came e c),
@@ -179,8 +179,8 @@ module _ (rows : RowList) (v : Vertex) (ends : Option (List End)) (old new : Sta
     own = λ u apart. other_ends u (λ same. apart (subst (Contains touched_new) (sym same) own)) ∙ before.own u (λ t. apart (within u t));
     named = λ u w apart e at.
         ⊎_elim (λ (same : w ≡ v).
-        subst (λ (o : Option (List End) × Option (List End)). Contains (ends_or o.0) e ↔ Contains (ends_or o.1) e) (λ i. (row_ends rows (sym same i), (sym staged.own ∙ ap (ends_after rows new) (sym same)) i)) (in_both u apart e at))
-        (λ (other : w ≢ v). subst (λ (o : Option (List End)). Contains (ends_or (row_ends rows w)) e ↔ Contains (ends_or o) e) (sym (other_ends w other)) (before.named u w (λ t. apart (within u t)) e at)) (one_or_other w v);
+        subst (λ (o : Option (List LinkEnd) × Option (List LinkEnd)). Contains (ends_or o.0) e ↔ Contains (ends_or o.1) e) (λ i. (row_ends rows (sym same i), (sym staged.own ∙ ap (ends_after rows new) (sym same)) i)) (in_both u apart e at))
+        (λ (other : w ≢ v). subst (λ (o : Option (List LinkEnd)). Contains (ends_or (row_ends rows w)) e ↔ Contains (ends_or o) e) (sym (other_ends w other)) (before.named u w (λ t. apart (within u t)) e at)) (one_or_other w v);
   }
 
 -- another list of the same vertices
@@ -196,24 +196,24 @@ touched_none rows touched = record {
   named = λ v w apart e at. (λ h. h, λ h. h);
 }
 
-pub touches_none : (others : List End) (touched : List Vertex) → TouchesOthers [] others touched
+pub touches_none : (others : List LinkEnd) (touched : List Vertex) → TouchesOthers [] others touched
 touches_none others touched e there = absurd (no_element e there)
 
-pub touches_more : (ends others : List End) (i : ℕ) (d : End) (touched touched_new : List Vertex) → i < length ends → TouchesOthers (take i ends) others touched → IsWithin touched touched_new
+pub touches_more : (ends others : List LinkEnd) (i : ℕ) (d : LinkEnd) (touched touched_new : List Vertex) → i < length ends → TouchesOthers (take i ends) others touched → IsWithin touched touched_new
     → Contains others (get_or ends i d) ⊎ Contains touched_new (get_or ends i d).to → TouchesOthers (take (i + 1) ends) others touched_new
 touches_more ends others i d touched touched_new inside before within one e there =
     ⊎_elim (λ (early : Contains (take i ends) e). ⊎_elim (λ (c : Contains others e). inl c) (λ (t : Contains touched e.to). inr (within e.to t)) (before e early))
-    (λ (same : e ≡ get_or ends i d). subst (λ (end : End). Contains others end ⊎ Contains touched_new end.to) (sym same) one) ((more_at ends i d inside e).0 there)
+    (λ (same : e ≡ get_or ends i d). subst (λ (end : LinkEnd). Contains others end ⊎ Contains touched_new end.to) (sym same) one) ((more_at ends i d inside e).0 there)
 
 -- what is touched stays touched
-pub touches_within : (ends others : List End) (touched touched_new : List Vertex) → IsWithin touched touched_new → TouchesOthers ends others touched → TouchesOthers ends others touched_new
+pub touches_within : (ends others : List LinkEnd) (touched touched_new : List Vertex) → IsWithin touched touched_new → TouchesOthers ends others touched → TouchesOthers ends others touched_new
 touches_within ends others touched touched_new within before e there = ⊎_elim (λ (c : Contains others e). inl c) (λ (t : Contains touched e.to). inr (within e.to t)) (before e there)
 
-pub touches_as : (ends ends_new others others_new : List End) (touched : List Vertex) → ends ≡ ends_new → others ≡ others_new → TouchesOthers ends others touched → TouchesOthers ends_new others_new touched
-touches_as ends ends_new others others_new touched first second before = subst (λ (p : List End × List End). TouchesOthers p.0 p.1 touched) (λ i. (first i, second i)) before
+pub touches_as : (ends ends_new others others_new : List LinkEnd) (touched : List Vertex) → ends ≡ ends_new → others ≡ others_new → TouchesOthers ends others touched → TouchesOthers ends_new others_new touched
+touches_as ends ends_new others others_new touched first second before = subst (λ (p : List LinkEnd × List LinkEnd). TouchesOthers p.0 p.1 touched) (λ i. (first i, second i)) before
 
 -- an insert stages
-pub staged_by : (rows : RowList) (old new : StagedList) (v : Vertex) (given : Option (Vec End)) → ((w : Vertex) → lookup (equals w) new ≡ cond (equals v w) (Some given) (lookup (equals w) old)) → IsStaged rows v (option_map (λ (ends : Vec End). ends.items) given) old new
+pub staged_by : (rows : RowList) (old new : StagedList) (v : Vertex) (given : Option (Vec LinkEnd)) → ((w : Vertex) → lookup (equals w) new ≡ cond (equals v w) (Some given) (lookup (equals w) old)) → IsStaged rows v (option_map (λ (ends : Vec LinkEnd). ends.items) given) old new
 staged_by rows old new v given updates =
     let found = found_after old new v (Some given) updates in
     record {
@@ -240,7 +240,7 @@ module _ (rows : RowList) (lsas : List (Vertex × Option (Bor Checked))) (i : �
   pub is_new : find vertex_cmp x.0 old ≡ None
   is_new = h.unstaged x.0 new_one
 
-  pub slice_more : (ends : Option (List End)) (new : StagedList) → IsGivenEnds x.0 (option_map (λ (lsa : Bor Checked). lsa.now.body) x.1) ends → IsStaged rows x.0 ends old new → IsStagedUpTo rows new (take (i + 1) (handed_of lsas))
+  pub slice_more : (ends : Option (List LinkEnd)) (new : StagedList) → IsGivenEnds x.0 (option_map (λ (lsa : Bor Checked). lsa.now.body) x.1) ends → IsStaged rows x.0 ends old new → IsStagedUpTo rows new (take (i + 1) (handed_of lsas))
   slice_more ends new given staged = staged_more rows old new (take i (handed_of lsas)) (take (i + 1) (handed_of lsas)) x.0 (body_at x).1 ends h new_one (more (handed_of lsas) i (body_at x) inside_handed at_handed) given staged
 
 pub slice_none : (rows : RowList) (staged : StagedList) (touched : List Vertex) → staged ≡ [] → IsStagedUpTo rows staged [] × AreTouched (row_ends rows) (ends_after rows staged) touched
@@ -251,16 +251,16 @@ slice_all rows lsas i staged past h =
     staged_all rows staged (handed_of lsas) (subst (IsStagedUpTo rows staged) (take_all i (handed_of lsas) (omega (arith, past, length-map {B = Handed} lsas (λ (p : Vertex × Option (Bor Checked)). (p.0, option_map (λ (lsa : Bor Checked). lsa.now.body) p.1))))) h)
 
 -- where nothing is the other list, all vertices that are named are touched
-pub named_touched : (ends named : List End) (touched : List Vertex) → ends ≡ named → TouchesOthers ends [] touched → (v : Vertex) → Names named v → Contains touched v
+pub named_touched : (ends named : List LinkEnd) (touched : List Vertex) → ends ≡ named → TouchesOthers ends [] touched → (v : Vertex) → Names named v → Contains touched v
 named_touched ends named touched same touches v names =
-    subst (Contains touched) names.2 (⊎_elim (λ (n : Contains [] names.0). absurd (no_element names.0 n)) (λ (t : Contains touched names.0.to). t) (touches names.0 (subst (λ (es : List End). Contains es names.0) (sym same) names.1)))
+    subst (Contains touched) names.2 (⊎_elim (λ (n : Contains [] names.0). absurd (no_element names.0 n)) (λ (t : Contains touched names.0.to). t) (touches names.0 (subst (λ (es : List LinkEnd). Contains es names.0) (sym same) names.1)))
 
 -- ends that `==` finds equal are equal
 both_true : (a b : Bool) → a && b ≡ true → (a ≡ true) × (b ≡ true)
 both_true true b e = (refl, e)
 both_true false b e = absurd (false≢true e)
 
-pub same_ends : (xs ys : List End) → pointwise (end_equality.eq-value).it xs ys ≡ true → xs ≡ ys
+pub same_ends : (xs ys : List LinkEnd) → pointwise (end_equality.eq-value).it xs ys ≡ true → xs ≡ ys
 same_ends [] [] e = refl
 same_ends [] (y ∷ ys) e = absurd (false≢true e)
 same_ends (x ∷ xs) [] e = absurd (false≢true e)

@@ -5,7 +5,7 @@ use Rattle.std.specs.FinMap.{find}
 use Rattle.std.proofs.lemmas.List.Elements.{All-contains}
 use Rattle.ospf_types.specs.declared.entry.Vertex.{Vertex}
 use Rattle.ospf_types.specs.Vertices.{vertex_cmp}
-use Rattle.graph_links.specs.declared.end.End.{End}
+use Rattle.graph_links.specs.declared.link_end.LinkEnd.{LinkEnd}
 use Rattle.graph_links.specs.declared.link.Link.{Link}
 use Rattle.graph_links.specs.declared.link.Up.{Up}
 use Rattle.graph_links.specs.declared.row.Row.{Row}
@@ -15,7 +15,7 @@ use Rattle.vertex_graph.proofs.Changed.{get_graph}
 use Rattle.vertex_graph.proofs.PairLinks.{pair_of_link}
 
 -- the row of a vertex that has ends
-row_of : (o : Option Row) (ends : List End) → option_map (λ (row : Row). row.ends.items) o ≡ Some ends → (row : Row) × (o ≡ Some row)
+row_of : (o : Option Row) (ends : List LinkEnd) → option_map (λ (row : Row). row.ends.items) o ≡ Some ends → (row : Row) × (o ≡ Some row)
 row_of (Some row) ends is = (row, refl)
 row_of None ends is = absurd cc
 

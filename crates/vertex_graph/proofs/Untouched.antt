@@ -5,7 +5,7 @@ use Rattle.ospf_types.specs.declared.entry.Vertex.{Vertex}
 use Rattle.ospf_types.specs.declared.entry.Vertex.TheVariants.{Router}
 use Rattle.ospf_types.specs.declared.label.Label.{Label}
 use Rattle.ospf_types.specs.Distances.{Links}
-use Rattle.graph_links.specs.declared.end.End.{End}
+use Rattle.graph_links.specs.declared.link_end.LinkEnd.{LinkEnd}
 use Rattle.graph_links.specs.declared.link.Up.{Up}
 use Rattle.graph_links.specs.Pairs.{Names, AreAlikeAt}
 use Rattle.graph_links.specs.Sides.{Leading, LinksBy, ends_or}
@@ -21,7 +21,7 @@ pub record IsAlike (Here There : Links) (v : Vertex) : Type 0 where
 -- where both vertices lead to each other as before
 module _ (root : ℕ) (ups : List Up) (before after : Leading) (v : Vertex) (own : after v ≡ before v) (others : (w : Vertex) → AreAlikeAt v (ends_or (before w)) (ends_or (after w))) where
   unchanged : (w : Vertex) → AreAlikeAt w (ends_or (before v)) (ends_or (after v))
-  unchanged w e at = subst (λ (o : Option (List End)). Contains (ends_or (before v)) e ↔ Contains (ends_or o) e) (sym own) (λ h. h, λ h. h)
+  unchanged w e at = subst (λ (o : Option (List LinkEnd)). Contains (ends_or (before v)) e ↔ Contains (ends_or o) e) (sym own) (λ h. h, λ h. h)
 
   pub kept : IsAlike (LinksBy root ups before) (LinksBy root ups after) v
   kept = record {

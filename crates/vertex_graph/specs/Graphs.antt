@@ -16,12 +16,12 @@ use Rattle.ospf_types.specs.Vertices.{vertex_cmp}
 use Rattle.graph_links.specs.declared.link.Link.{Link}
 use Rattle.graph_links.specs.declared.link.LinkChanges.{LinkChanges}
 use Rattle.graph_links.specs.declared.link.Up.{Up}
-use Rattle.graph_links.specs.declared.end.End.{End}
+use Rattle.graph_links.specs.declared.link_end.LinkEnd.{LinkEnd}
 use Rattle.graph_links.specs.EndOrder.{end_cmp, listed_end}
 use Rattle.vertex_graph.specs.Ends.{AreEnds}
 
 abbrev pub EndsByVertex : Type 0
-EndsByVertex = FinMap vertex_cmp (List End)
+EndsByVertex = FinMap vertex_cmp (List LinkEnd)
 
 -- the root, where each vertex leads, and the area's interfaces that are up
 pub record GraphValue : Type 0 where
@@ -30,11 +30,11 @@ pub record GraphValue : Type 0 where
   pub interfaces : List Up
 
 -- the kind of link that leads to the vertex
-abbrev pub link_to : Vertex → End → RouterLink
+abbrev pub link_to : Vertex → LinkEnd → RouterLink
 link_to (Router r) e = record { id = r; detail = e.detail; kind = kind.PointToPoint; metric = e.metric; tos = [] }
 link_to (Network n) e = record { id = n; detail = e.detail; kind = kind.Transit; metric = e.metric; tos = [] }
 
-abbrev pub link_of : End → RouterLink
+abbrev pub link_of : LinkEnd → RouterLink
 link_of e = link_to e.to e
 
 abbrev pub number_of : Vertex → ℕ
@@ -45,8 +45,8 @@ number_of (Network n) = n
 abbrev pub graph_view : GraphValue → View
 graph_view g = record {
   root = g.root;
-  HasRouter = λ r flags links. (ends : List End) × (get g.ends (Router r) ≡ Some ends) × (flags ≡ 0) × (links ≡ map link_of ends);
-  HasNetwork = λ n mask routers. (ends : List End) × (get g.ends (Network n) ≡ Some ends) × (mask ≡ 0) × (routers ≡ map (λ e. number_of e.to) ends);
+  HasRouter = λ r flags links. (ends : List LinkEnd) × (get g.ends (Router r) ≡ Some ends) × (flags ≡ 0) × (links ≡ map link_of ends);
+  HasNetwork = λ n mask routers. (ends : List LinkEnd) × (get g.ends (Network n) ≡ Some ends) × (mask ≡ 0) × (routers ≡ map (λ e. number_of e.to) ends);
   HasInterface = λ id address. Contains g.interfaces (record { id = id; address = address });
 }
 
@@ -71,20 +71,20 @@ abbrev pub HasCheapLinks : GraphValue → Type 0
 HasCheapLinks g = (from to : Vertex) (cost : ℕ) (label : Label) → LinksOf g from to cost label → cost < 65536
 
 -- at most this many routers of an area have an LSA
-abbrev pub most_routers : ℕ
-most_routers = 16384
+abbrev pub max_routers : ℕ
+max_routers = 16384
 
 -- no list of different routers that are there is longer than that
 abbrev pub AreFew : (ℕ → Type 0) → Type 0
-AreFew IsThere = (routers : List ℕ) → AllPairs (λ x y. x ≢ y) routers → ((r : ℕ) → Contains routers r → IsThere r) → length routers ≤ most_routers
+AreFew IsThere = (routers : List ℕ) → AllPairs (λ x y. x ≢ y) routers → ((r : ℕ) → Contains routers r → IsThere r) → length routers ≤ max_routers
 
 abbrev pub HasFewRouters : GraphValue → Type 0
 HasFewRouters g = AreFew (λ r. IsSome (get g.ends (Router r)))
 
 -- each vertex has its ends in order, and a network leads only to routers
 pub record HasEnds (g : GraphValue) : Type 0 where
-  pub in_order : (v : Vertex) (ends : List End) → get g.ends v ≡ Some ends → IsStrictlySortedBy end_cmp ends
-  pub listed : (n : ℕ) (ends : List End) (e : End) → get g.ends (Network n) ≡ Some ends → Contains ends e → (router : ℕ) × (e ≡ listed_end router)
+  pub in_order : (v : Vertex) (ends : List LinkEnd) → get g.ends v ≡ Some ends → IsStrictlySortedBy end_cmp ends
+  pub listed : (n : ℕ) (ends : List LinkEnd) (e : LinkEnd) → get g.ends (Network n) ≡ Some ends → Contains ends e → (router : ℕ) × (e ≡ listed_end router)
 
 -- what is handed in: a vertex with the body of its LSA, or with none if the LSA goes
 abbrev pub Handed : Type 0
@@ -112,7 +112,7 @@ AreFewAfter g handed = AreFew (λ r. IsThereAfter g handed (Router r))
 
 -- the graph once these were handed in
 pub record IsReplaced (old new : GraphValue) (handed : List Handed) : Type 0 where
-  pub there : (v : Vertex) (body : Body) → Contains handed (v, Some body) → (ends : List End) × (get new.ends v ≡ Some ends) × AreEnds v body ends
+  pub there : (v : Vertex) (body : Body) → Contains handed (v, Some body) → (ends : List LinkEnd) × (get new.ends v ≡ Some ends) × AreEnds v body ends
   pub away : (v : Vertex) → Contains handed (v, None) → get new.ends v ≡ None
   pub others : (v : Vertex) → ((given : Option Body) → Contains handed (v, given) → ⊥) → get new.ends v ≡ get old.ends v
   pub root : new.root ≡ old.root

@@ -6,6 +6,6 @@ pub mod Stagings
 pub use Rattle.graph_links.specs.EndOrder
 pub use Rattle.graph_links.specs.Labels
 pub use Rattle.graph_links.specs.Pairs
-pub use Rattle.graph_links.specs.declared.end.End
+pub use Rattle.graph_links.specs.declared.link_end.LinkEnd
 pub use Rattle.graph_links.specs.declared.link.Link
 pub use Rattle.graph_links.specs.declared.link.Up

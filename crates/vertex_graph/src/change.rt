@@ -7,14 +7,14 @@ ghost use Rattle.graph_links.specs.declared.link.Up.{Up as UpValue};
 ghost use Rattle.vertex_graph.specs.Changes.{ChangesRows, NamesCome, NamesGone};
 
 use crate::staging::Staging;
-use graph_links::{LinkChanges, Local, Room, Rows, Side, changed_links, fresh_rows, place};
+use graph_links::{LinkChanges, RootInterfaces, RowPool, Rows, GraphView, changed_links, row_updates, place};
 use ospf_types::memory::Memory;
 use std::alloc::Global;
 
 /// What rows are changed to: the root and its interfaces after the change, and what is staged.
 #[derive(Clone, Copy)]
 pub(crate) struct Change<'a> {
-    pub(crate) local: Local<'a>,
+    pub(crate) local: RootInterfaces<'a>,
     pub(crate) staging: &'a Staging,
 }
 
@@ -25,7 +25,7 @@ impl<'a> Change<'a> {
         &self,
         alloc: Global,
         rows: &mut Rows,
-        room: &mut Room,
+        room: &mut RowPool,
     ) -> Result<LinkChanges, Memory>
         requires once { AllPairs (λ v w. v ≢ w) self.now.staging.now.touched.items }
         requires before { (root : ℕ) × (ups : List UpValue) × AreRowsBy root ups rows.old.entries }
@@ -38,12 +38,12 @@ impl<'a> Change<'a> {
         ensures came_once { IfOk result (λ changes. AreApart changes.came.items) }
         ensures unchanged { OnErr result (rows.new.entries ≡ rows.old.entries) }
     {
-        let after = Side {
+        let after = GraphView {
             local: self.local,
             rows,
             staged: &self.staging.ends,
         };
-        fresh_rows(alloc, after, self.staging.touched.as_slice(), room)?;
+        row_updates(alloc, after, self.staging.touched.as_slice(), room)?;
         let changes = changed_links(alloc, rows, room.fresh.as_slice())?;
         commit(rows, room)?;
         Ok(changes)
@@ -51,7 +51,7 @@ impl<'a> Change<'a> {
 }
 
 // Puts each row in the place of what its vertex had, once there is room for all.
-fn commit(rows: &mut Rows, room: &mut Room) -> Result<(), Memory>
+fn commit(rows: &mut Rows, room: &mut RowPool) -> Result<(), Memory>
     ensures placed { OnOk result (IsPlaced room.old.fresh.items rows.old.entries rows.new.entries) }
     ensures unchanged { OnErr result (rows.new.entries ≡ rows.old.entries) }
 {

@@ -7,9 +7,9 @@ ghost use Rattle.lsa_codec.specs.Readers.{links_of, routers_of};
 ghost use Rattle.graph_links.specs.EndOrder.{end_cmp, listed_end};
 ghost use Rattle.vertex_graph.specs.Ends.{end_of as end_of_listed, end_of_link, AreEnds};
 ghost use Rattle.graph_links.specs.Pairs.{Names};
-ghost use Rattle.graph_links.specs.declared.end.End.{End as EndValue};
+ghost use Rattle.graph_links.specs.declared.link_end.LinkEnd.{LinkEnd as EndValue};
 
-use graph_links::End;
+use graph_links::LinkEnd;
 use lsa_codec::{Checked, Link, LinkKind};
 use ospf_types::entry::Vertex;
 use ospf_types::memory::Memory;
@@ -20,7 +20,7 @@ use std::cmp::Ordering;
 const USUAL: usize = 16;
 
 /// Where the links of the vertex's LSA lead, in order, each once.
-pub(crate) fn ends_of(alloc: Global, vertex: Vertex, lsa: &Checked) -> Result<Vec<End>, Memory>
+pub(crate) fn ends_of(alloc: Global, vertex: Vertex, lsa: &Checked) -> Result<Vec<LinkEnd>, Memory>
     ensures { IfOk result (λ ends. AreEnds vertex lsa.now.body ends.items) }
 {
     let mut ends = match vertex {
@@ -33,7 +33,7 @@ pub(crate) fn ends_of(alloc: Global, vertex: Vertex, lsa: &Checked) -> Result<Ve
 }
 
 /// Where the links of a router-LSA lead, in their order.
-fn router_ends(alloc: Global, lsa: &Checked) -> Result<Vec<End>, Memory>
+fn router_ends(alloc: Global, lsa: &Checked) -> Result<Vec<LinkEnd>, Memory>
     ensures { IfOk result (λ ends. ends.items ≡ filter_map end_of_listed (links_of lsa.now.body)) }
 {
     let mut ends = Vec::with_capacity(alloc, USUAL)?;
@@ -46,7 +46,7 @@ fn router_ends(alloc: Global, lsa: &Checked) -> Result<Vec<End>, Memory>
 }
 
 /// Where a link leads; `None` for a stub link and one of type 4.
-fn end_of(link: Link) -> Option<End>
+fn end_of(link: Link) -> Option<LinkEnd>
     ensures { result ≡ end_of_link link }
 {
     let to = match link.kind {
@@ -55,7 +55,7 @@ fn end_of(link: Link) -> Option<End>
         // 16.1 (2) (a): links to stub networks are left to the second stage.
         LinkKind::Stub | LinkKind::Virtual => return None,
     };
-    Some(End {
+    Some(LinkEnd {
         to,
         detail: link.detail,
         metric: link.metric,
@@ -63,12 +63,12 @@ fn end_of(link: Link) -> Option<End>
 }
 
 /// The routers of a network-LSA, in their order.
-fn network_ends(alloc: Global, lsa: &Checked) -> Result<Vec<End>, Memory>
+fn network_ends(alloc: Global, lsa: &Checked) -> Result<Vec<LinkEnd>, Memory>
     ensures { IfOk result (λ ends. ends.items ≡ list_map listed_end (routers_of lsa.now.body)) }
 {
     let mut ends = Vec::with_capacity(alloc, USUAL)?;
     for router in lsa.routers() {
-        ends.push(End {
+        ends.push(LinkEnd {
             to: Vertex::Router(router),
             detail: 0,
             metric: 0,

@@ -8,7 +8,7 @@ ghost use Rattle.graph_links.specs.Pairs.{AreCheap};
 
 use crate::change::Change;
 use crate::staging::{Staging, stage, stage_root};
-use graph_links::{Link, LinkChanges, Local, Room, Row, Rows, Up};
+use graph_links::{Link, LinkChanges, RootInterfaces, RowPool, Row, Rows, Up};
 use indexmap::IndexMap;
 use lsa_codec::Checked;
 use ospf_types::entry::Vertex;
@@ -16,7 +16,7 @@ use ospf_types::memory::Memory;
 use std::alloc::Global;
 use std::hash::RandomState;
 use std::marker::Model;
-use vertex_map::Placed;
+use vertex_map::HintedVertex;
 use word_hash::WordHash;
 
 /// The graph of an area, as far as LSAs and interfaces were handed in, with memory that one change leaves to the next.
@@ -25,7 +25,7 @@ pub struct Graph {
     rows: Rows,
     interfaces: Vec<Up>,
     staging: Staging,
-    room: Room,
+    room: RowPool,
 }
 
 // proof: one call drops it, in place of a drop of each part wherever one is held.
@@ -69,7 +69,7 @@ impl Graph {
             rows: IndexMap::with_hasher(alloc, hashing),
             interfaces: Vec::new(alloc),
             staging: Staging::new(alloc, hashing),
-            room: Room::new(alloc),
+            room: RowPool::new(alloc),
         }
     }
 
@@ -122,7 +122,7 @@ impl Graph {
     }
 
     /// The links out of a vertex that comes with its place, each once. Mostly nothing is hashed.
-    pub fn links_out_of(&self, vertex: &Placed) -> &[Link]
+    pub fn links_from_at(&self, vertex: &HintedVertex) -> &[Link]
         ensures exact { AreLinksFrom self.now vertex.now result.now }
         ensures each_once { AllPairs (λ k l. k ≢ l) result.now }
         ensures cheap { AreCheap result.now }
@@ -134,7 +134,7 @@ impl Graph {
     }
 
     /// The links into a vertex that comes with its place, each once. Mostly nothing is hashed.
-    pub fn links_into(&self, vertex: &Placed) -> &[Link]
+    pub fn links_to_at(&self, vertex: &HintedVertex) -> &[Link]
         ensures exact { AreLinksTo self.now vertex.now result.now }
         ensures each_once { AllPairs (λ k l. k ≢ l) result.now }
         ensures cheap { AreCheap result.now }
@@ -145,13 +145,13 @@ impl Graph {
         }
     }
 
-    /// The vertex with the place of its row. Then `links_out_of` and `links_into` find it without a hash.
-    pub fn placed(&self, vertex: Vertex) -> Placed
+    /// The vertex with the place of its row. Then `links_from_at` and `links_to_at` find it without a hash.
+    pub fn placed(&self, vertex: Vertex) -> HintedVertex
         ensures { result ≡ vertex }
     {
         match self.rows.get_index_of(&vertex) {
-            Some(place) => Placed::new(vertex, u32::try_from(place).unwrap_or(u32::MAX)),
-            None => Placed::nowhere(vertex),
+            Some(place) => HintedVertex::new(vertex, u32::try_from(place).unwrap_or(u32::MAX)),
+            None => HintedVertex::nowhere(vertex),
         }
     }
 
@@ -171,7 +171,7 @@ impl Graph {
         let alloc = *self.interfaces.allocator();
         stage(alloc, &self.rows, lsas, &mut self.staging)?;
         let change = Change {
-            local: Local {
+            local: RootInterfaces {
                 root: self.root,
                 interfaces: &self.interfaces,
             },
@@ -205,7 +205,7 @@ impl Graph {
         let ups = Vec::from_slice(alloc, interfaces)?;
         stage_root(alloc, &self.rows, self.root, &mut self.staging)?;
         let change = Change {
-            local: Local {
+            local: RootInterfaces {
                 root: self.root,
                 interfaces: &ups,
             },
@@ -218,7 +218,7 @@ impl Graph {
 }
 
 // The vertex's row. If another's is at the vertex's place, it is looked up by its hash.
-fn row_at<'a>(rows: &'a Rows, vertex: &Placed) -> Option<&'a Row>
+fn row_at<'a>(rows: &'a Rows, vertex: &HintedVertex) -> Option<&'a Row>
     ensures { option_copied result ≡ map.find vertex_cmp vertex.now rows.now.entries }
 {
     match rows.get_index(vertex.place()) {

@@ -10,15 +10,15 @@ ghost use Rattle.vertex_graph.specs.Stagings.{HasTouched, IsGivenBy, IsWithin, L
 
 use crate::ends::ends_of;
 use graph_links::{
-    End, Link, Row, Rows, StagedEnds, ends_of_row, find_row, out_links, placed_by, slice_of,
-    slice_or_none,
+    LinkEnd, Link, Row, Rows, StagedEnds, ends_of_row, find_row, out_links, hinted_by, staged_ends,
+    ends_or_empty,
 };
 use indexmap::IndexMap;
 use lsa_codec::Checked;
 use ospf_types::entry::Vertex;
 use ospf_types::memory::Memory;
 use std::alloc::Global;
-use vertex_map::Placed;
+use vertex_map::HintedVertex;
 use word_hash::WordHash;
 
 /// Where the vertices lead that are handed in and lead elsewhere than before, and the vertices whose rows may
@@ -26,7 +26,7 @@ use word_hash::WordHash;
 /// change.
 pub(crate) struct Staging {
     pub(crate) ends: StagedEnds,
-    pub(crate) touched: Vec<Placed>,
+    pub(crate) touched: Vec<HintedVertex>,
 }
 
 // proof: one call drops it, in place of a drop of each part wherever one is held.
@@ -90,7 +90,7 @@ pub(crate) fn stage(
 }
 
 // Keeps each vertex once.
-fn keep_once(touched: &mut Vec<Placed>)
+fn keep_once(touched: &mut Vec<HintedVertex>)
     ensures same { (v : VertexValue) → Contains touched.new.items v ↔ Contains touched.old.items v }
     ensures once { AllPairs (λ v w. v ≢ w) touched.new.items }
 {
@@ -103,7 +103,7 @@ fn given_ends(
     alloc: Global,
     vertex: Vertex,
     lsa: Option<&Checked>,
-) -> Result<Option<Vec<End>>, Memory>
+) -> Result<Option<Vec<LinkEnd>>, Memory>
     ensures { IfOk result (IsGivenBy vertex lsa.entry) }
 {
     match lsa {
@@ -119,7 +119,7 @@ fn given_ends(
 fn stage_one(
     rows: &Rows,
     vertex: Vertex,
-    ends: Option<Vec<End>>,
+    ends: Option<Vec<LinkEnd>>,
     staging: &mut Staging,
 ) -> Result<(), Memory>
     requires new { find vertex_cmp vertex staging.old.ends.entries ≡ None }
@@ -127,19 +127,19 @@ fn stage_one(
     ensures ends { OnOk result (StagesOne rows.now.entries vertex ends staging.old staging.new) }
     ensures touched { OnOk result (HasTouched rows.now.entries staging.new) }
 {
-    let (row, place) = find_row(rows, &Placed::nowhere(vertex));
-    let after = slice_of(&ends);
+    let (row, place) = find_row(rows, &HintedVertex::nowhere(vertex));
+    let after = staged_ends(&ends);
     if is_same(ends_of_row(row), after) {
         return Ok(());
     }
-    let placed = Placed::new(vertex, place);
-    touch_both(&placed, row, slice_or_none(after), &mut staging.touched)?;
+    let placed = HintedVertex::new(vertex, place);
+    touch_both(&placed, row, ends_or_empty(after), &mut staging.touched)?;
     staging.ends.insert(vertex, ends)?;
     Ok(())
 }
 
 // Whether a vertex leads where it did.
-fn is_same(before: Option<&[End]>, after: Option<&[End]>) -> bool
+fn is_same(before: Option<&[LinkEnd]>, after: Option<&[LinkEnd]>) -> bool
     ensures { IsTrue result → LeadsAlike before.entry after.entry }
 {
     match (before, after) {
@@ -152,23 +152,23 @@ fn is_same(before: Option<&[End]>, after: Option<&[End]>) -> bool
 // Ends that a vertex leads to as well, and the links out of it, which know places.
 #[derive(Clone, Copy)]
 struct Others<'a> {
-    ends: &'a [End],
+    ends: &'a [LinkEnd],
     links: &'a [Link],
 }
 
 // Touches a vertex, and what it leads to either before, by its row, or after.
 fn touch_both(
-    vertex: &Placed,
+    vertex: &HintedVertex,
     before: Option<&Row>,
-    after: &[End],
-    touched: &mut Vec<Placed>,
+    after: &[LinkEnd],
+    touched: &mut Vec<HintedVertex>,
 ) -> Result<(), Memory>
     ensures own { OnOk result (Contains touched.new.items vertex.now) }
     ensures kept { OnOk result (IsWithin touched.old.items touched.new.items) }
     ensures gone { OnOk result (TouchesGone before.entry after.now touched.new.items) }
     ensures came { OnOk result (TouchesCome before.entry after.now touched.new.items) }
 {
-    let ends = slice_or_none(ends_of_row(before));
+    let ends = ends_or_empty(ends_of_row(before));
     let links = out_links(before);
     touch_vertex(vertex, touched)?;
     touch(ends, Others { ends: after, links }, touched)?;
@@ -177,7 +177,7 @@ fn touch_both(
 }
 
 // Touches the vertices at those ends that are not among others.
-fn touch(ends: &[End], others: Others<'_>, touched: &mut Vec<Placed>) -> Result<(), Memory>
+fn touch(ends: &[LinkEnd], others: Others<'_>, touched: &mut Vec<HintedVertex>) -> Result<(), Memory>
     ensures kept { OnOk result (IsWithin touched.old.items touched.new.items) }
     ensures others { OnOk result (TouchesOthers ends.now others.entry.ends.now touched.new.items) }
 {
@@ -189,10 +189,10 @@ fn touch(ends: &[End], others: Others<'_>, touched: &mut Vec<Placed>) -> Result<
 
 // Touches the vertex at the end, unless the end is among others, where it mostly has the place that it has here.
 fn touch_end(
-    end: End,
+    end: LinkEnd,
     place: usize,
     others: Others<'_>,
-    touched: &mut Vec<Placed>,
+    touched: &mut Vec<HintedVertex>,
 ) -> Result<(), Memory>
     ensures kept { OnOk result (IsWithin touched.old.items touched.new.items) }
     ensures other { OnOk result (TouchesUnless end others.entry.ends.now touched.new.items) }
@@ -200,11 +200,11 @@ fn touch_end(
     if has_at(others.ends, place, end) || has_end(others.ends, end) {
         return Ok(());
     }
-    touch_vertex(&placed_by(others.links, place, end.to), touched)
+    touch_vertex(&hinted_by(others.links, place, end.to), touched)
 }
 
 // Touches the vertex. Of many some may be touched again, and are left out in the end.
-fn touch_vertex(vertex: &Placed, touched: &mut Vec<Placed>) -> Result<(), Memory>
+fn touch_vertex(vertex: &HintedVertex, touched: &mut Vec<HintedVertex>) -> Result<(), Memory>
     ensures own { OnOk result (Contains touched.new.items vertex.now) }
     ensures kept { OnOk result (IsWithin touched.old.items touched.new.items) }
 {
@@ -216,7 +216,7 @@ fn touch_vertex(vertex: &Placed, touched: &mut Vec<Placed>) -> Result<(), Memory
 }
 
 // Whether the vertex is touched.
-fn is_touched(vertex: &Placed, touched: &[Placed]) -> bool
+fn is_touched(vertex: &HintedVertex, touched: &[HintedVertex]) -> bool
     ensures { IsTrue result → Contains touched.now vertex.now }
 {
     for other in touched {
@@ -228,7 +228,7 @@ fn is_touched(vertex: &Placed, touched: &[Placed]) -> bool
 }
 
 // Whether the end has this place among ends.
-fn has_at(ends: &[End], place: usize, end: End) -> bool
+fn has_at(ends: &[LinkEnd], place: usize, end: LinkEnd) -> bool
     ensures { IsTrue result → Contains ends.now end }
 {
     match ends.get(place) {
@@ -238,14 +238,14 @@ fn has_at(ends: &[End], place: usize, end: End) -> bool
 }
 
 // Whether two ends are the same.
-fn is_same_end(one: End, other: End) -> bool
+fn is_same_end(one: LinkEnd, other: LinkEnd) -> bool
     ensures { IsTrue result ↔ (one ≡ other) }
 {
     one.to == other.to && one.detail == other.detail && one.metric == other.metric
 }
 
 // Whether the end is among ends that are in order.
-fn has_end(ends: &[End], end: End) -> bool
+fn has_end(ends: &[LinkEnd], end: LinkEnd) -> bool
     ensures { IsTrue result → Contains ends.now end }
 {
     ends.binary_search(&end).is_ok()
@@ -265,8 +265,8 @@ pub(crate) fn stage_root(
 {
     staging.clear(alloc);
     let vertex = Vertex::Router(root);
-    let (row, place) = find_row(rows, &Placed::nowhere(vertex));
-    touch_both(&Placed::new(vertex, place), row, &[], &mut staging.touched)?;
+    let (row, place) = find_row(rows, &HintedVertex::nowhere(vertex));
+    touch_both(&HintedVertex::new(vertex, place), row, &[], &mut staging.touched)?;
     keep_once(&mut staging.touched);
     Ok(())
 }

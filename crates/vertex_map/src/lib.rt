@@ -2,8 +2,8 @@
 //! its hash if another stands there.
 #![tactic(auto)]
 
-mod placed;
+mod hinted_vertex;
 mod vertex_map;
 
-pub use placed::Placed;
+pub use hinted_vertex::HintedVertex;
 pub use vertex_map::VertexMap;

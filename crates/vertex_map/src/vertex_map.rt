@@ -3,7 +3,7 @@ ghost use Rattle.std.specs.Prelude.{◌≡◌, ◌↔◌, ◌<◌, ◌+◌, ◌^
 ghost use Rattle.std.specs.FinMap as map;
 ghost use Rattle.vertex_map.specs.Values.{IsAt, TakesOut, WritesAt, inner, is_valued, values_of};
 
-use crate::placed::{NOWHERE, Placed};
+use crate::hinted_vertex::{NOWHERE, HintedVertex};
 use indexmap::IndexMap;
 use ospf_types::entry::Vertex;
 use ospf_types::memory::Memory;
@@ -68,7 +68,7 @@ impl<V> VertexMap<V> {
 
     /// The vertex's value. It takes no memory.
     #[inline]
-    pub fn get(&self, vertex: &Placed) -> Option<&V>
+    pub fn get(&self, vertex: &HintedVertex) -> Option<&V>
         ensures { option_copied result ≡ map.get self.now vertex.now }
     {
         match self.entries.get_index(vertex.place()) {
@@ -109,7 +109,7 @@ impl<V: Drop> VertexMap<V> {
     }
 
     /// Gives the vertex the value, in place of the one that it had. If memory runs out, nothing changes.
-    pub fn insert(&mut self, vertex: &Placed, value: V) -> Result<(), Memory>
+    pub fn insert(&mut self, vertex: &HintedVertex, value: V) -> Result<(), Memory>
         ensures ok { OnOk result (self.new ≡ map.insert self.old vertex.now value) }
         ensures err { OnErr result (self.new ≡ self.old) }
     {
@@ -125,7 +125,7 @@ impl<V: Drop> VertexMap<V> {
     }
 
     /// Takes the vertex's value out.
-    pub fn remove(&mut self, vertex: &Placed)
+    pub fn remove(&mut self, vertex: &HintedVertex)
         ensures { self.new ≡ map.remove self.old vertex.now }
     {
         if take(&mut self.entries, vertex) {
@@ -188,7 +188,7 @@ fn known_number<V>(
 #[inline]
 fn standing<V>(
     entries: &IndexMap<Vertex, (u32, Option<V>), WordHash>,
-    vertex: &Placed,
+    vertex: &HintedVertex,
 ) -> Option<(usize, bool)>
     ensures at { IfSome result (λ p. IsAt entries.now.entries vertex.now p.0) }
     ensures had { IfSome result (λ p. p.1 ≡ is_valued entries.now.entries vertex.now) }
@@ -218,7 +218,7 @@ fn write_at<V: Drop>(
 // Takes the vertex's value out, and says whether it had one. The entry keeps its place.
 fn take<V: Drop>(
     entries: &mut IndexMap<Vertex, (u32, Option<V>), WordHash>,
-    vertex: &Placed,
+    vertex: &HintedVertex,
 ) -> bool
     ensures taken { TakesOut vertex.now entries.old.entries entries.new.entries }
     ensures had { result ≡ is_valued entries.old.entries vertex.now }

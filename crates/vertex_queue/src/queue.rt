@@ -11,7 +11,7 @@ use std::alloc::Global;
 use std::cmp::Reverse;
 use std::collections::BinaryHeap;
 use std::marker::Model;
-use vertex_map::{Placed, VertexMap};
+use vertex_map::{HintedVertex, VertexMap};
 use word_hash::WordHash;
 
 /// The vertices that wait, each at its distance, a sum of metrics.
@@ -75,14 +75,14 @@ impl Queue {
     }
 
     /// At what distance the vertex waits, if it does.
-    pub fn get(&self, vertex: &Placed) -> Option<u32>
+    pub fn get(&self, vertex: &HintedVertex) -> Option<u32>
         ensures { result ≡ map.get self.now vertex.now }
     {
         self.distances.get(vertex).copied()
     }
 
     /// Lets the vertex wait at the distance, unless it waits at that or less already.
-    pub fn put(&mut self, vertex: &Placed, distance: u32) -> Result<(), Memory>
+    pub fn put(&mut self, vertex: &HintedVertex, distance: u32) -> Result<(), Memory>
         ensures put { OnOk result (self.new ≡ lessened self.old vertex.now distance) }
         ensures unchanged { OnErr result (self.new ≡ self.old) }
     {
@@ -96,7 +96,7 @@ impl Queue {
 
     /// Takes out the vertex that is first: the nearest, of equal distances networks before routers,
     /// each kind by number. The answer is the vertex, with its place, and its distance.
-    pub fn take(&mut self) -> Option<(Placed, u32)>
+    pub fn take(&mut self) -> Option<(HintedVertex, u32)>
         ensures none { IfNone result (self.old ≡ map.empty) }
         ensures first { IfSome result (λ p. IsFirst self.old p.0 p.1) }
         ensures rest { IfSome result (λ p. self.new ≡ map.remove self.old p.0) }
@@ -139,7 +139,7 @@ fn is_within(least: Option<&u32>, distance: u32) -> bool
 fn pop_waiting(
     order: &mut BinaryHeap<Reverse<Waiting>>,
     distances: &VertexMap<u32>,
-) -> Option<(Placed, u32)>
+) -> Option<(HintedVertex, u32)>
     requires { AreQueue distances.now (heap_items order.old) }
     ensures none { IfNone result (distances.now ≡ map.empty) }
     ensures first { IfSome result (λ p. IsFirst distances.now p.0 p.1) }
@@ -159,7 +159,7 @@ fn pop_waiting(
 }
 
 // The vertex of the entry and its distance, if it waits at that of the entry.
-fn waits(distances: &VertexMap<u32>, entry: Waiting) -> Option<(Placed, u32)>
+fn waits(distances: &VertexMap<u32>, entry: Waiting) -> Option<(HintedVertex, u32)>
     ensures at { IfSome result (λ p. IsAt entry p.0 p.1) }
     ensures waits { IfSome result (λ p. map.get distances.now p.0 ≡ Some p.1) }
     ensures none { IfNone result (IsStale distances.now entry) }

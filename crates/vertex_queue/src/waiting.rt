@@ -3,7 +3,7 @@ ghost use Rattle.vertex_queue.specs.Heaps.{IsAt, waiting_vertex};
 ghost use Rattle.vertex_queue.specs.Queues.{rank};
 
 use ospf_types::entry::Vertex;
-use vertex_map::Placed;
+use vertex_map::HintedVertex;
 
 // A vertex at a distance, with its place. The derived order is that of the queue.
 #[derive(Clone, Copy, PartialEq, Eq, PartialOrd, Ord)]
@@ -16,7 +16,7 @@ pub(crate) struct Waiting {
 }
 
 impl Waiting {
-    pub(crate) fn new(vertex: &Placed, distance: u32) -> Waiting
+    pub(crate) fn new(vertex: &HintedVertex, distance: u32) -> Waiting
         ensures { IsAt result vertex.now distance }
     {
         let place = vertex.number();
@@ -32,7 +32,7 @@ impl Waiting {
     }
 
     // The vertex, with its place.
-    pub(crate) fn vertex(&self) -> Placed
+    pub(crate) fn vertex(&self) -> HintedVertex
         ensures { result ≡ waiting_vertex self.now }
     {
         let vertex = if self.rank % 2 == 0 {
@@ -40,7 +40,7 @@ impl Waiting {
         } else {
             Vertex::Router(self.number)
         };
-        Placed::new(vertex, self.place)
+        HintedVertex::new(vertex, self.place)
     }
 
     // Whether the distance is that at which the vertex was put there.

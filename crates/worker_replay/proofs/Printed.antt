@@ -16,21 +16,21 @@ use Rattle.worker_replay.specs.Runs.{Answers, Prints, events_of, reply_of, rolle
 use Rattle.worker_replay.specs.Parts.{HasAllReplies, PrintsAll, AppendsAll, AppendsLine, asks_of}
 
 -- some of the lines are printed, and these are left
-pub record Printing (format : Format) (table : TableValue) (serial first : ℕ) (asks : List Ask) (replies : List (Result Reply Refusal)) (roll : Option (Result ℕ Refusal)) (old : List ℕ) (rest : List Ask) (left : List (Result Reply Refusal)) (number : ℕ) (now : List ℕ)
+pub record PrintOptions (format : Format) (table : TableValue) (serial first : ℕ) (asks : List Ask) (replies : List (Result Reply Refusal)) (roll : Option (Result ℕ Refusal)) (old : List ℕ) (rest : List Ask) (left : List (Result Reply Refusal)) (number : ℕ) (now : List ℕ)
     : Type 0 where
   pub has : HasAllReplies rest left
   pub counted : number + length rest ≡ first + length asks
   pub goes : (more : List ℕ) → PrintsAll format table serial number rest left roll more → AppendsAll format table serial first asks replies roll old (now ++ more)
 
 module _ (format : Format) (table : TableValue) (serial first : ℕ) (asks : List Ask) (replies : List (Result Reply Refusal)) (roll : Option (Result ℕ Refusal)) (old : List ℕ) where
-  pub printing_none : (rest : List Ask) → asks ≡ rest → HasAllReplies asks replies → Printing format table serial first asks replies roll old rest replies first old
+  pub printing_none : (rest : List Ask) → asks ≡ rest → HasAllReplies asks replies → PrintOptions format table serial first asks replies roll old rest replies first old
   printing_none rest is has =
-      subst (λ r. Printing format table serial first asks replies roll old r replies first old) is
+      subst (λ r. PrintOptions format table serial first asks replies roll old r replies first old) is
       (record { has = has; counted = refl; goes = λ more prints. record { text = more; prints = prints; appended = refl } })
 
   -- a line more
-  more_line : (a : Ask) (rest : List Ask) (left less : List (Result Reply Refusal)) (number : ℕ) (now put : List ℕ) → Printing format table serial first asks replies roll old (a ∷ rest) left number now
-      → AppendsLine format table serial number a left less roll now put → Printing format table serial first asks replies roll old rest less (number + 1) put
+  more_line : (a : Ask) (rest : List Ask) (left less : List (Result Reply Refusal)) (number : ℕ) (now put : List ℕ) → PrintOptions format table serial first asks replies roll old (a ∷ rest) left number now
+      → AppendsLine format table serial number a left less roll now put → PrintOptions format table serial first asks replies roll old rest less (number + 1) put
   more_line (ask.Lookup address) rest left less number now put h (found, matched, written, same) =
       let line = lookup_line format number address serial found in record {
         has = subst (HasAllReplies rest) (sym same) h.has;
@@ -53,10 +53,10 @@ module _ (format : Format) (table : TableValue) (serial first : ℕ) (asks : Lis
             (h.goes (line ++ more) (subst (λ (l : List (Result Reply Refusal)). PrintsAll format table serial number (ask.Event ∷ rest) l roll (line ++ more)) (sym is) (more, refl, prints)));
       }
 
-  pub printing_more : (a : Ask) (rest more : List Ask) (left less : List (Result Reply Refusal)) (number : ℕ) (now put : List ℕ) → Printing format table serial first asks replies roll old rest left number now
-      → rest ≡ a ∷ more → AppendsLine format table serial number a left less roll now put → Printing format table serial first asks replies roll old more less (number + 1) put
+  pub printing_more : (a : Ask) (rest more : List Ask) (left less : List (Result Reply Refusal)) (number : ℕ) (now put : List ℕ) → PrintOptions format table serial first asks replies roll old rest left number now
+      → rest ≡ a ∷ more → AppendsLine format table serial number a left less roll now put → PrintOptions format table serial first asks replies roll old more less (number + 1) put
   printing_more a rest more left less number now put h next appends =
-      more_line a more left less number now put (subst (λ (r : List Ask). Printing format table serial first asks replies roll old r left number now) next h) appends
+      more_line a more left less number now put (subst (λ (r : List Ask). PrintOptions format table serial first asks replies roll old r left number now) next h) appends
 
   -- the next line has its reply, and its number is not the last of all numbers
   one_of_all : (a : Ask) (rest : List Ask) (left : List (Result Reply Refusal)) → HasAllReplies (a ∷ rest) left → HasAllReplies (a ∷ []) left
@@ -65,15 +65,15 @@ module _ (format : Format) (table : TableValue) (serial first : ℕ) (asks : Lis
   one_of_all ask.Event rest [] has = has
   one_of_all ask.Event rest (reply ∷ left) has = tt
 
-  pub printing_has : (a : Ask) (rest more : List Ask) (left : List (Result Reply Refusal)) (number : ℕ) (now : List ℕ) → Printing format table serial first asks replies roll old rest left number now
+  pub printing_has : (a : Ask) (rest more : List Ask) (left : List (Result Reply Refusal)) (number : ℕ) (now : List ℕ) → PrintOptions format table serial first asks replies roll old rest left number now
       → rest ≡ a ∷ more → HasAllReplies (a ∷ []) left
   printing_has a rest more left number now h next = one_of_all a more left (subst (λ (r : List Ask). HasAllReplies r left) next h.has)
 
-  pub printing_fits : (a : Ask) (rest more : List Ask) (left : List (Result Reply Refusal)) (number : ℕ) (now : List ℕ) → Printing format table serial first asks replies roll old rest left number now
+  pub printing_fits : (a : Ask) (rest more : List Ask) (left : List (Result Reply Refusal)) (number : ℕ) (now : List ℕ) → PrintOptions format table serial first asks replies roll old rest left number now
       → rest ≡ a ∷ more → number + 1 ≤ first + length asks
   printing_fits a rest more left number now h next = omega (arith, h.counted, ap length next)
 
-  pub printing_all : (rest : List Ask) (left : List (Result Reply Refusal)) (number : ℕ) (now : List ℕ) → Printing format table serial first asks replies roll old rest left number now → rest ≡ []
+  pub printing_all : (rest : List Ask) (left : List (Result Reply Refusal)) (number : ℕ) (now : List ℕ) → PrintOptions format table serial first asks replies roll old rest left number now → rest ≡ []
       → AppendsAll format table serial first asks replies roll old now
   printing_all rest left number now h none =
       subst (AppendsAll format table serial first asks replies roll old) (append-nil now) (h.goes [] (subst (λ (r : List Ask). PrintsAll format table serial number r left roll []) (sym none) refl))

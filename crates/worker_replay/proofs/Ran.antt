@@ -10,7 +10,7 @@ use Rattle.event_state.specs.Steps.{standard_limits}
 use Rattle.engine.specs.Reply.{Reply}
 use Rattle.engine.specs.Cores.{CoreValue, IsCore}
 use Rattle.engine.specs.Opens.{IsRolledSerial}
-use Rattle.publication.specs.Forwarders.{Looker, Sighted, Sights}
+use Rattle.publication.specs.Forwarders.{ForwarderValue, SeenValue, IsLookup}
 use Rattle.publication.specs.Names.{Name}
 use Rattle.publication.specs.Published.{IsTableFor}
 use Rattle.engine_state.specs.Answers.{AreAnswered}
@@ -41,7 +41,7 @@ answered_dealt name items answers events xs ys dealt all = record { lists = map 
 
 -- ---- one look
 
-pub looked : (format : Format) (f : Looker) (s : Sighted) (number : ℕ) (asks : List Ask) (given replies : List (Result Reply Refusal)) (roll : Option (Result ℕ Refusal)) (old new : List ℕ) → Sights f 0 s
+pub looked : (format : Format) (f : ForwarderValue) (s : SeenValue) (number : ℕ) (asks : List Ask) (given replies : List (Result Reply Refusal)) (roll : Option (Result ℕ Refusal)) (old new : List ℕ) → IsLookup f 0 s
     → AppendsAll format s.table s.table.serial number asks given roll old new → old ≡ [] → given ≡ replies → Looks format f number asks replies roll new
 looked format f s number asks given replies roll old new sights h none same =
     let whole : new ≡ h.text = h.appended ∙ ap (λ w. w ++ h.text) none in
@@ -56,7 +56,7 @@ looked format f s number asks given replies roll old new sights h none same =
 -- ---- the lines
 
 -- the tokens of the answers may be learned
-pub own : (name : Name) (f : Looker) (events : List Event) (answers : Answers) → f.name ≡ name → AreAnswered name events answers → All (IsOf f.name) answers
+pub own : (name : Name) (f : ForwarderValue) (events : List Event) (answers : Answers) → f.name ≡ name → AreAnswered name events answers → All (IsOf f.name) answers
 own name f events answers named answered = subst (λ (n : Name). All (IsOf n) answers) (sym named) (all_own name events answers answered)
 
 pub enough : (name : Name) (lines : List Line) (events : List Event) (asks : List Ask) (answers : Answers) (replies : List (Result Reply Refusal)) → events ≡ events_of lines → asks ≡ asks_of lines
@@ -78,7 +78,7 @@ pub roll_answered : (name : Name) (lines : List Line) (asked : Bool) (roll : Opt
 roll_answered name lines asked None is some answered = sym is ∙ sym some
 roll_answered name lines asked (Some answer) is some answered = (sym is ∙ sym some, answered)
 
-module _ (format : Format) (name : Name) (lines : List Line) (events : List Event) (asks : List Ask) (answers : Answers) (f g : Looker) (replies : List (Result Reply Refusal)) (roll : Option (Result ℕ Refusal)) (first : ℕ) (text : List ℕ)
+module _ (format : Format) (name : Name) (lines : List Line) (events : List Event) (asks : List Ask) (answers : Answers) (f g : ForwarderValue) (replies : List (Result Reply Refusal)) (roll : Option (Result ℕ Refusal)) (first : ℕ) (text : List ℕ)
     (events_are : events ≡ events_of lines) (asks_are : asks ≡ asks_of lines) (answered : AreAnswered name events answers) (named : f.name ≡ name) (same : g.name ≡ f.name) (after : All (IsAfter g.known) answers)
     (replies_are : replies ≡ map reply_of answers) (rolled : IsRollAnswer name lines roll) where
   of_lines : AreAnswered name (events_of lines) answers

@@ -5,8 +5,8 @@ use Rattle.engine.specs.Cores.{CoreValue}
 use Rattle.output_format.specs.declared.Show.{Show}
 use Rattle.output_format.specs.declared.Format.{Format}
 use Rattle.recording.specs.declared.version.Version.{Version}
-use Rattle.replay.specs.declared.page.Stop.{Stop}
-use Rattle.replay.specs.declared.page.Stop.TheVariants as stop
+use Rattle.replay.specs.declared.buffer.PrintError.{PrintError}
+use Rattle.replay.specs.declared.buffer.PrintError.TheVariants as stop
 use Rattle.replay.specs.Stops.{AreWhole}
 use Rattle.replay.specs.Outputs.{IsShown}
 use Rattle.replay.specs.Pages.{Adds, AddsPart}
@@ -16,18 +16,18 @@ use Rattle.worker_replay.specs.Parts.{Writes, WritesPart}
 
 module _ (v : Version) (s : Show) (format : Format) (printed : List ℕ) (c : CoreValue) (a b : Option (List ℕ)) (front put tail : List ℕ) (same : put ≡ front) (shown : IsShown v s format printed c (front ++ tail)) where
   -- only a beginning of it
-  pub shown_cut : (why : Stop) → AreWhole front → (AreWhole put → AddsPart why a b (put ++ tail)) → WritesPart why v s format printed c a b
+  pub shown_cut : (why : PrintError) → AreWhole front → (AreWhole put → AddsPart why a b (put ++ tail)) → WritesPart why v s format printed c a b
   shown_cut why whole stopped = record { whole = front ++ tail; shown = shown; part = subst (λ w. AddsPart why a b (w ++ tail)) same (stopped (subst AreWhole (sym same) whole)) }
 
-  -- the end of it stood on the page, which was written in part
-  pub end_cut : (why : Stop) → AreWhole front → (d : Option (List ℕ)) (moved : List ℕ) → Adds a b put moved tail → AddsPart why b d moved → WritesPart why v s format printed c a d
+  -- the end of it stood on the buffer, which was written in part
+  pub end_cut : (why : PrintError) → AreWhole front → (d : Option (List ℕ)) (moved : List ℕ) → Adds a b put moved tail → AddsPart why b d moved → WritesPart why v s format printed c a d
   end_cut why whole d moved added stopped = record {
     whole = front ++ tail;
     shown = shown;
     part = subst (λ w. AddsPart why a d (w ++ tail)) same (part_moved why a b d put moved tail (subst AreWhole (sym same) whole) added stopped);
   }
 
-  -- the page was written
+  -- the buffer was written
   pub shown_whole : (d : Option (List ℕ)) (moved last : List ℕ) → Adds a b put moved tail → Adds b d moved last [] → last ≡ [] → Writes v s format printed c a d
   shown_whole d moved last added written none =
       let all = adds_moved a b d put moved last tail added written in

@@ -4,13 +4,13 @@ use Rattle.std.specs.Prelude.{Result}
 use Rattle.event_state.specs.declared.refusal.Refusal.{Refusal}
 use Rattle.engine.specs.Cores.{CoreValue}
 use Rattle.recording.specs.Recordings.{RecordingValue}
-use Rattle.replay.specs.declared.printing.Printing.{Printing}
+use Rattle.replay.specs.declared.printing.PrintOptions.{PrintOptions}
 use Rattle.output_format.specs.declared.Format.{Format}
 use Rattle.recording.specs.declared.version.Version.{Version}
 use Rattle.recording.specs.declared.line.Line.{Line}
 use Rattle.recording.specs.declared.line.Line.TheVariants as line
 use Rattle.route_table.specs.Tables.{TableValue}
-use Rattle.replay.specs.declared.page.Stop.{Stop}
+use Rattle.replay.specs.declared.buffer.PrintError.{PrintError}
 use Rattle.replay.specs.Lines.{first_number, lookup_line, answer_line}
 use Rattle.replay.specs.Stops.{AreWhole}
 use Rattle.replay.specs.Outputs.{IsShown}
@@ -20,7 +20,7 @@ use Rattle.worker_replay.specs.Runs.{Answers, Prints, has_roll, reply_of, rolled
 use Rattle.worker_replay.specs.Outputs.{Replays, ReplaysPart}
 use Rattle.worker_replay.specs.Parts.{HasRun, Writes, WritesPart}
 
-module _ (p : Printing) (before after old new : Option (List ℕ)) (r : RecordingValue) (v : Version) (same : v ≡ r.version) (printed : List ℕ) (c : CoreValue) (read : IsRead before after r) (run : HasRun p.format r printed c) where
+module _ (p : PrintOptions) (before after old new : Option (List ℕ)) (r : RecordingValue) (v : Version) (same : v ≡ r.version) (printed : List ℕ) (c : CoreValue) (read : IsRead before after r) (run : HasRun p.format r printed c) where
   pub replays : Writes v p.show p.format printed c old new → Replays p before after old new
   replays h = record {
     bytes = read.bytes;
@@ -33,7 +33,7 @@ module _ (p : Printing) (before after old new : Option (List ℕ)) (r : Recordin
     written = h.written;
   }
 
-  pub replays_part : (why : Stop) → WritesPart why v p.show p.format printed c old new → ReplaysPart why p before after old new
+  pub replays_part : (why : PrintError) → WritesPart why v p.show p.format printed c old new → ReplaysPart why p before after old new
   replays_part why h = record {
     bytes = read.bytes;
     read = read.read;

@@ -3,8 +3,8 @@ use Rattle.std.specs.Prelude.{ℕ, List, Option}
 use Rattle.std.specs.Io.KnownBytes.{Appends}
 use Rattle.engine.specs.Cores.{CoreValue}
 use Rattle.recording.specs.Recordings.{RecordingValue, IsText}
-use Rattle.replay.specs.declared.printing.Printing.{Printing}
-use Rattle.replay.specs.declared.page.Stop.{Stop}
+use Rattle.replay.specs.declared.printing.PrintOptions.{PrintOptions}
+use Rattle.replay.specs.declared.buffer.PrintError.{PrintError}
 use Rattle.replay.specs.Inputs.{ReadsAll}
 use Rattle.replay.specs.Stops.{IsBeginning}
 use Rattle.replay.specs.Outputs.{IsShown}
@@ -12,21 +12,21 @@ use Rattle.worker_replay.specs.Runs.{Answers, IsRun}
 
 -- The output of a recording for a show, where its events had these answers: they may have been taken in any order that keeps that of each worker's, some may have
 -- been refused for want of memory, and some answered Behind; each of these is one of the answers. All `roll` lines together are one roll behind the last event.
-pub record IsOutput (r : RecordingValue) (p : Printing) (answers : Answers) (text : List ℕ) : Type 0 where
+pub record IsOutput (r : RecordingValue) (p : PrintOptions) (answers : Answers) (text : List ℕ) : Type 0 where
   pub printed : List ℕ
   pub closed : CoreValue
   pub run : IsRun p.format r answers printed closed
   pub shown : IsShown r.version p.show p.format printed closed text
 
 -- the text is the beginning of an output that such a stop leaves
-pub record IsCutOutput (why : Stop) (r : RecordingValue) (p : Printing) (text : List ℕ) : Type 0 where
+pub record IsCutOutput (why : PrintError) (r : RecordingValue) (p : PrintOptions) (text : List ℕ) : Type 0 where
   pub answers : Answers
   pub whole : List ℕ
   pub output : IsOutput r p answers whole
   pub part : IsBeginning why text whole
 
 -- all the bytes that a reader had were a recording, and a writer's known bytes grew by its output
-pub record Replays (p : Printing) (before after : Option (List ℕ)) (old new : Option (List ℕ)) : Type 0 where
+pub record Replays (p : PrintOptions) (before after : Option (List ℕ)) (old new : Option (List ℕ)) : Type 0 where
   pub bytes : List ℕ
   pub read : ReadsAll before after bytes
   pub recording : RecordingValue
@@ -37,7 +37,7 @@ pub record Replays (p : Printing) (before after : Option (List ℕ)) (old new : 
   pub written : Appends old new output
 
 -- all the bytes that a reader had were a recording, and a writer's known bytes grew by the beginning of its output that such a stop leaves
-pub record ReplaysPart (why : Stop) (p : Printing) (before after : Option (List ℕ)) (old new : Option (List ℕ)) : Type 0 where
+pub record ReplaysPart (why : PrintError) (p : PrintOptions) (before after : Option (List ℕ)) (old new : Option (List ℕ)) : Type 0 where
   pub bytes : List ℕ
   pub read : ReadsAll before after bytes
   pub recording : RecordingValue

@@ -8,7 +8,7 @@ use Rattle.route_table.specs.declared.table.Match.{Match}
 use Rattle.route_table.specs.Tables.{TableValue, IsMatch}
 use Rattle.engine.specs.Reply.{Reply}
 use Rattle.engine.specs.Cores.{CoreValue}
-use Rattle.publication.specs.Forwarders.{Looker}
+use Rattle.publication.specs.Forwarders.{ForwarderValue}
 use Rattle.publication.specs.Names.{Name}
 use Rattle.publication.specs.Published.{IsTableFor}
 use Rattle.engine_state.specs.declared.answer.Answer.{Answer}
@@ -23,9 +23,9 @@ use Rattle.recording.specs.declared.version.Version.{Version}
 use Rattle.replay.specs.Lines.{lookup_line, answer_line}
 use Rattle.replay.specs.Outputs.{IsShown}
 use Rattle.replay.specs.Pages.{AddsPart}
-use Rattle.replay.specs.declared.page.Stop.{Stop}
-use Rattle.worker_replay.specs.declared.fault.ManyFault.{ManyFault}
-use Rattle.worker_replay.specs.declared.fault.ManyFault.TheVariants as fault
+use Rattle.replay.specs.declared.buffer.PrintError.{PrintError}
+use Rattle.worker_replay.specs.declared.fault.WorkerReplayFault.{WorkerReplayFault}
+use Rattle.worker_replay.specs.declared.fault.WorkerReplayFault.TheVariants as fault
 use Rattle.worker_replay.specs.declared.asking.Ask.{Ask}
 use Rattle.worker_replay.specs.declared.asking.Ask.TheVariants as ask
 use Rattle.worker_replay.specs.Runs.{Answers, IsPrinted, IsRun, has_roll, rolled_line, told_of}
@@ -35,7 +35,7 @@ abbrev pub AreWorkers : ℕ → Type 0
 AreWorkers n = (1 ≤ n) × (n ≤ 16)
 
 -- why a recording is not run
-abbrev pub IsRunFault : ManyFault → Type 0
+abbrev pub IsRunFault : WorkerReplayFault → Type 0
 IsRunFault (fault.Replay f) = f ≡ replay_fault.Memory
 IsRunFault fault.Spawn = Unit {0}
 IsRunFault fault.Place = Unit {0}
@@ -96,7 +96,7 @@ AppendsLine format table serial number ask.Event replies left roll old new =
     (reply : Result Reply Refusal) × (replies ≡ reply ∷ left) × (new ≡ old ++ answer_line format number reply)
 
 -- the forwarder looked once, and they printed this
-pub record Looks (format : Format) (f : Looker) (number : ℕ) (asks : List Ask) (replies : List (Result Reply Refusal)) (roll : Option (Result ℕ Refusal)) (text : List ℕ) : Type 0 where
+pub record Looks (format : Format) (f : ForwarderValue) (number : ℕ) (asks : List Ask) (replies : List (Result Reply Refusal)) (roll : Option (Result ℕ Refusal)) (text : List ℕ) : Type 0 where
   pub seen : List Event
   pub table : TableValue
   pub after : IsPrefix f.known seen
@@ -122,7 +122,7 @@ pub record Writes (v : Version) (s : Show) (format : Format) (printed : List ℕ
   pub written : Appends old new text
 
 -- a writer's known bytes grew by the beginning of what is shown that such a stop leaves
-pub record WritesPart (why : Stop) (v : Version) (s : Show) (format : Format) (printed : List ℕ) (c : CoreValue) (old new : Option (List ℕ)) : Type 0 where
+pub record WritesPart (why : PrintError) (v : Version) (s : Show) (format : Format) (printed : List ℕ) (c : CoreValue) (old new : Option (List ℕ)) : Type 0 where
   pub whole : List ℕ
   pub shown : IsShown v s format printed c whole
   pub part : AddsPart why old new whole

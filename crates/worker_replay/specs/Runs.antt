@@ -15,7 +15,7 @@ use Rattle.engine.specs.Cores.{CoreValue, IsCore}
 use Rattle.engine.specs.Opens.{IsRolledSerial}
 use Rattle.publication.specs.Names.{Name}
 use Rattle.publication.specs.Published.{IsTableFor}
-use Rattle.publication.specs.Told.{Heard}
+use Rattle.publication.specs.Told.{TokenValue}
 use Rattle.engine_state.specs.Answers.{AreAnswered}
 use Rattle.engine_state.specs.declared.answer.Answer.{Answer}
 use Rattle.engine_state.specs.declared.answer.Refused.{Refused}
@@ -52,7 +52,7 @@ reply_of (Ok answer) = Ok answer.reply
 reply_of (Err refused) = Err refused.refusal
 
 -- the token that came with an answer
-abbrev pub told_of : Result Answer Refused → Option Heard
+abbrev pub told_of : Result Answer Refused → Option TokenValue
 told_of (Ok answer) = answer.told
 told_of (Err refused) = refused.told
 

@@ -8,7 +8,7 @@ use thiserror::Error;
 
 /// Why a replay over several workers ended early.
 #[derive(Clone, Copy, Debug, PartialEq, Eq, Error)]
-pub enum ManyFault {
+pub enum WorkerReplayFault {
     /// What ends a replay on one thread too.
     Replay(ReplayFault),
     /// A worker's thread could not be started.
@@ -19,27 +19,27 @@ pub enum ManyFault {
     NoEntry,
 }
 
-impl fmt::Display for ManyFault {
+impl fmt::Display for WorkerReplayFault {
     ghost output = { λ fault. Some (many_fault_text fault) };
 
     fn fmt<W: fmt::Write>(&self, f: &mut fmt::Formatter<W>) -> fmt::Result {
         match self {
-            ManyFault::Replay(fault) => fault.fmt(f),
-            ManyFault::Spawn => f.write_str("31 Spawn"),
-            ManyFault::Place => f.write_str("46 Place"),
-            ManyFault::NoEntry => f.write_str("no entry"),
+            WorkerReplayFault::Replay(fault) => fault.fmt(f),
+            WorkerReplayFault::Spawn => f.write_str("31 Spawn"),
+            WorkerReplayFault::Place => f.write_str("46 Place"),
+            WorkerReplayFault::NoEntry => f.write_str("no entry"),
         }
     }
 }
 
-impl From<Memory> for ManyFault {
+impl From<Memory> for WorkerReplayFault {
     ghost use Rattle.std.specs.Prelude.{◌≡◌};
     ghost use Rattle.replay.specs.declared.fault.ReplayFault.TheVariants as replay_fault;
-    ghost use Rattle.worker_replay.specs.declared.fault.ManyFault.TheVariants.{Replay};
+    ghost use Rattle.worker_replay.specs.declared.fault.WorkerReplayFault.TheVariants.{Replay};
 
     ghost from_gives = { λ _ given. given ≡ Replay replay_fault.Memory };
 
-    fn from(_e: Memory) -> ManyFault {
-        ManyFault::Replay(ReplayFault::Memory)
+    fn from(_e: Memory) -> WorkerReplayFault {
+        WorkerReplayFault::Replay(ReplayFault::Memory)
     }
 }

@@ -11,5 +11,5 @@ mod printing;
 mod replaying;
 mod running;
 
-pub use fault::ManyFault;
+pub use fault::WorkerReplayFault;
 pub use replaying::{ReplayOptions, replay_many};

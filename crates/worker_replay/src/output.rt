@@ -2,7 +2,7 @@
 ghost use Rattle.std.specs.Prelude.{◌≡◌, ◌⊎◌, [], OnOk, IfErr, string_bytes};
 ghost use Rattle.engine.specs.Cores.{state_of};
 ghost use Rattle.engine.specs.Listings.{AreLsas};
-ghost use Rattle.replay.specs.declared.page.Stop.TheVariants as stop;
+ghost use Rattle.replay.specs.declared.buffer.PrintError.TheVariants as stop;
 ghost use Rattle.output_format.specs.declared.Show.TheVariants as show_value;
 ghost use Rattle.recording.specs.declared.version.Version.{Version as VersionValue};
 ghost use Rattle.replay.specs.Stops.{AreWhole};
@@ -15,7 +15,7 @@ use ospf_types::memory::Memory;
 use output_format::Format;
 use recording::Version;
 use replay::{
-    Journal, Printing, Show, Stop, put_serial, show_items, show_lsas, show_summaries, write_page,
+    Journal, PrintOptions, Show, PrintError, put_serial, show_items, show_lsas, show_summaries, flush_buffer,
 };
 use std::io;
 
@@ -32,8 +32,8 @@ impl RunEnd<'_> {
         self,
         printed: String,
         out: &mut W,
-        printing: Printing,
-    ) -> Result<(), Stop>
+        printing: PrintOptions,
+    ) -> Result<(), PrintError>
         ensures ok { OnOk result (Writes self.entry.version printing.show printing.format (string_bytes printed)
             self.entry.core.now (W.contents out.old) (W.contents out.new)) }
         ensures write { AreWhole (string_bytes printed) → result ≡ Err stop.Write
@@ -47,18 +47,18 @@ impl RunEnd<'_> {
             printing.show printing.format (string_bytes printed) self.entry.core.now (W.contents out.old) (W.contents out.new) }
     {
         let RunEnd { version, core } = self;
-        let Printing { show, format, .. } = printing;
-        let mut page = printed;
+        let PrintOptions { show, format, .. } = printing;
+        let mut buffer = printed;
         match show {
-            Show::Routes => write_routes(format, core, &mut page, out),
-            Show::Due => write_due(format, core, &mut page, out),
+            Show::Routes => write_routes(format, core, &mut buffer, out),
+            Show::Due => write_due(format, core, &mut buffer, out),
             Show::Lsdb => match core.lsas() {
-                Ok(lsas) => write_lsdb(format, core, lsas, &mut page, out),
-                Err(Memory) => Err(Stop::Memory),
+                Ok(lsas) => write_lsdb(format, core, lsas, &mut buffer, out),
+                Err(Memory) => Err(PrintError::Memory),
             },
             Show::Journal => {
-                page.clear();
-                write_journal(format, version, core, &mut page, out)
+                buffer.clear();
+                write_journal(format, version, core, &mut buffer, out)
             }
         }
     }
@@ -67,40 +67,40 @@ impl RunEnd<'_> {
 fn write_routes<W: io::Write>(
     format: Format,
     core: &Core,
-    page: &mut String,
+    buffer: &mut String,
     out: &mut W,
-) -> Result<(), Stop>
+) -> Result<(), PrintError>
     ensures ok { OnOk result ((v : VersionValue)
-        → Writes v show_value.Routes format (string_bytes page.old) core.now (W.contents out.old)
+        → Writes v show_value.Routes format (string_bytes buffer.old) core.now (W.contents out.old)
         (W.contents out.new)) }
-    ensures err { AreWhole (string_bytes page.old)
+    ensures err { AreWhole (string_bytes buffer.old)
         → IfErr result (λ why. (v : VersionValue)
-        → WritesPart why v show_value.Routes format (string_bytes page.old) core.now (W.contents out.old)
+        → WritesPart why v show_value.Routes format (string_bytes buffer.old) core.now (W.contents out.old)
         (W.contents out.new)) }
 {
-    put_serial(format, core, page)?;
-    show_items(format, core.table(), out, page)?;
-    write_page(out, page)?;
+    put_serial(format, core, buffer)?;
+    show_items(format, core.table(), out, buffer)?;
+    flush_buffer(out, buffer)?;
     Ok(())
 }
 
 fn write_due<W: io::Write>(
     format: Format,
     core: &Core,
-    page: &mut String,
+    buffer: &mut String,
     out: &mut W,
-) -> Result<(), Stop>
+) -> Result<(), PrintError>
     ensures ok { OnOk result ((v : VersionValue)
-        → Writes v show_value.Due format (string_bytes page.old) core.now (W.contents out.old)
+        → Writes v show_value.Due format (string_bytes buffer.old) core.now (W.contents out.old)
         (W.contents out.new)) }
-    ensures err { AreWhole (string_bytes page.old)
+    ensures err { AreWhole (string_bytes buffer.old)
         → IfErr result (λ why. (v : VersionValue)
-        → WritesPart why v show_value.Due format (string_bytes page.old) core.now (W.contents out.old)
+        → WritesPart why v show_value.Due format (string_bytes buffer.old) core.now (W.contents out.old)
         (W.contents out.new)) }
 {
-    put_serial(format, core, page)?;
-    show_summaries(format, core.summaries(), out, page)?;
-    write_page(out, page)?;
+    put_serial(format, core, buffer)?;
+    show_summaries(format, core.summaries(), out, buffer)?;
+    flush_buffer(out, buffer)?;
     Ok(())
 }
 
@@ -108,38 +108,38 @@ fn write_lsdb<W: io::Write>(
     format: Format,
     core: &Core,
     lsas: Vec<(Scope, Checked)>,
-    page: &mut String,
+    buffer: &mut String,
     out: &mut W,
-) -> Result<(), Stop>
+) -> Result<(), PrintError>
     requires { AreLsas (state_of core.now) lsas.items }
-    ensures ok { OnOk result ((v : VersionValue) → Writes v show_value.Lsdb format (string_bytes page.old)
+    ensures ok { OnOk result ((v : VersionValue) → Writes v show_value.Lsdb format (string_bytes buffer.old)
         core.now (W.contents out.old) (W.contents out.new)) }
-    ensures err { AreWhole (string_bytes page.old)
+    ensures err { AreWhole (string_bytes buffer.old)
         → IfErr result (λ why. (v : VersionValue)
-        → WritesPart why v show_value.Lsdb format (string_bytes page.old) core.now (W.contents out.old)
+        → WritesPart why v show_value.Lsdb format (string_bytes buffer.old) core.now (W.contents out.old)
         (W.contents out.new)) }
 {
-    put_serial(format, core, page)?;
-    show_lsas(format, lsas, out, page)?;
-    write_page(out, page)?;
+    put_serial(format, core, buffer)?;
+    show_lsas(format, lsas, out, buffer)?;
+    flush_buffer(out, buffer)?;
     Ok(())
 }
 
-// On an empty page.
+// On an empty buffer.
 fn write_journal<W: io::Write>(
     format: Format,
     version: Version,
     core: &Core,
-    page: &mut String,
+    buffer: &mut String,
     out: &mut W,
-) -> Result<(), Stop>
-    requires { string_bytes page.old ≡ [] }
+) -> Result<(), PrintError>
+    requires { string_bytes buffer.old ≡ [] }
     ensures ok { OnOk result (Writes version show_value.Journal format [] core.now (W.contents out.old)
         (W.contents out.new)) }
     ensures err { IfErr result (λ why. WritesPart why version show_value.Journal format [] core.now
         (W.contents out.old) (W.contents out.new)) }
 {
-    Journal { version, core }.show(format, out, page)?;
-    write_page(out, page)?;
+    Journal { version, core }.show(format, out, buffer)?;
+    flush_buffer(out, buffer)?;
     Ok(())
 }

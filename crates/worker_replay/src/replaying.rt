@@ -1,18 +1,18 @@
 //! A replay over several workers.
 ghost use Rattle.std.specs.Prelude.{◌≡◌, ◌≤◌, ◌⊎◌, ℕ, List, OnOk};
 ghost use Rattle.replay.specs.Inputs.{ReadsAll};
-ghost use Rattle.replay.specs.declared.page.Stop.TheVariants as stop;
+ghost use Rattle.replay.specs.declared.buffer.PrintError.TheVariants as stop;
 ghost use Rattle.recording.specs.declared.fault.LineFault.{LineFault};
 ghost use Rattle.recording.specs.Faults.{IsFaultOf};
 ghost use Rattle.replay.specs.declared.fault.ReplayFault.TheVariants as replay_fault;
-ghost use Rattle.worker_replay.specs.declared.fault.ManyFault.TheVariants as many_fault;
+ghost use Rattle.worker_replay.specs.declared.fault.WorkerReplayFault.TheVariants as many_fault;
 ghost use Rattle.worker_replay.specs.Outputs.{Replays, ReplaysPart};
 ghost use Rattle.worker_replay.specs.Parts.{AreWorkers};
 
-use crate::fault::ManyFault;
+use crate::fault::WorkerReplayFault;
 use crate::output::RunEnd;
 use crate::running::run_recording;
-use replay::{Printing, fault_of, read_recording};
+use replay::{PrintOptions, fault_of, read_recording};
 use std::alloc::Global;
 use std::hash::RandomState;
 use std::io;
@@ -25,7 +25,7 @@ pub struct ReplayOptions {
     /// How many workers there are, 1 to 16.
     pub workers: usize,
     /// What is written. It is not shown how much is done, since several workers take lines at the same time.
-    pub printing: Printing,
+    pub printing: PrintOptions,
 }
 
 /// Reads its input to the end as a recording, submits its events to an engine from `options.workers` threads, and writes what
@@ -40,7 +40,7 @@ pub fn replay_many<S: Threads + Wait + Sync, R: io::Read, W: io::Write>(
     options: ReplayOptions,
     input: &mut R,
     out: &mut W,
-) -> Result<(), ManyFault>
+) -> Result<(), WorkerReplayFault>
     requires { AreWorkers options.workers }
     ensures ok { OnOk result (Replays options.printing (R.remaining input.old) (R.remaining input.new)
         (W.contents out.old) (W.contents out.new)) }
@@ -62,7 +62,7 @@ pub fn replay_many<S: Threads + Wait + Sync, R: io::Read, W: io::Write>(
 {
     let recording = match read_recording(alloc, input) {
         Ok(recording) => recording,
-        Err(fault) => return Err(ManyFault::Replay(fault)),
+        Err(fault) => return Err(WorkerReplayFault::Replay(fault)),
     };
     let version = recording.version();
     let (printed, core) = run_recording(
@@ -79,6 +79,6 @@ pub fn replay_many<S: Threads + Wait + Sync, R: io::Read, W: io::Write>(
     };
     match end.write(printed, out, options.printing) {
         Ok(()) => Ok(()),
-        Err(stop) => Err(ManyFault::Replay(fault_of(stop))),
+        Err(stop) => Err(WorkerReplayFault::Replay(fault_of(stop))),
     }
 }

@@ -10,14 +10,14 @@ ghost use Rattle.worker_replay.specs.Parts.{AreWorkers, HasRun, HasPrinted, HasA
 
 use crate::asking::{Apart, Ask, set_all_apart};
 use crate::dealing::{Answers, collect, deal};
-use crate::fault::ManyFault;
+use crate::fault::WorkerReplayFault;
 use crate::learning::{Replies, learn_all};
 use crate::printing::{Outcome, Rolled};
 use engine::{Base, ConfigFault, Core, Engine, Event, Forwarder, Open, OpenFault, Refusal};
 use ospf_types::memory::Memory;
 use output_format::Format;
 use recording::{Line, Recording};
-use replay::number_of_first;
+use replay::first_event_line;
 use std::alloc::Global;
 use std::hash::RandomState;
 use std::sync::Wait;
@@ -31,14 +31,14 @@ pub(crate) fn run_recording<S: Threads + Wait + Sync>(
     recording: Recording,
     workers: usize,
     format: Format,
-) -> Result<(String, Core), ManyFault>
+) -> Result<(String, Core), WorkerReplayFault>
     requires workers { AreWorkers workers }
     requires few { first_number recording.version recording.base + length recording.lines < 2 ^ 64 }
     ensures run { IfOk result (λ r. HasRun format recording (string_bytes r.0) r.1) }
     ensures fault { IfErr result IsRunFault }
 {
     let (version, base, lines) = recording.into_parts();
-    let first = number_of_first(version, &base);
+    let first = first_event_line(version, &base);
     let numbered = NumberedLines { first, lines };
     let (engine, forwarder) = open_engine(rt, alloc, base, hashing)?;
     let printed = numbered.run(rt, alloc, &engine, forwarder, workers, format);
@@ -52,7 +52,7 @@ fn open_engine<S: Wait>(
     alloc: Global,
     base: Base,
     hashing: RandomState,
-) -> Result<(Engine, Forwarder), ManyFault>
+) -> Result<(Engine, Forwarder), WorkerReplayFault>
     requires { base_fault_of standard_limits base ≡ None }
     ensures base { IfOk result (λ r. r.0.base ≡ base) }
     ensures forwarder { IfOk result (λ r. r.1.name ≡ r.0) }
@@ -66,7 +66,7 @@ fn open_engine<S: Wait>(
             Ok((engine, forwarder))
         }
         Err(OpenFault::Config(ConfigFault::Memory)) => Err(Memory.into()),
-        Err(OpenFault::Place) => Err(ManyFault::Place),
+        Err(OpenFault::Place) => Err(WorkerReplayFault::Place),
         Err(_) => unreachable!(),
     }
 }
@@ -89,7 +89,7 @@ impl NumberedLines {
         forwarder: Forwarder,
         workers: usize,
         format: Format,
-    ) -> Result<String, ManyFault>
+    ) -> Result<String, WorkerReplayFault>
         requires workers { AreWorkers workers }
         requires named { forwarder.name ≡ engine.now }
         requires few { self.first + length self.lines.items < 2 ^ 64 }
@@ -137,7 +137,7 @@ fn submit<S: Threads + Wait + Sync>(
     engine: &Engine,
     events: Vec<Event>,
     workers: usize,
-) -> Result<Answers, ManyFault>
+) -> Result<Answers, WorkerReplayFault>
     requires { AreWorkers workers }
     ensures answered { IfOk result (λ answers. AreAnswered engine.now events.items answers.items) }
     ensures fault { IfErr result IsRunFault }
@@ -147,7 +147,7 @@ fn submit<S: Threads + Wait + Sync>(
     match engine.submit_all(rt, alloc, lists, &Open) {
         Ok(answers) => Ok(collect(alloc, answers, count)?),
         Err(Refusal::Memory) => Err(Memory.into()),
-        Err(Refusal::Spawn) => Err(ManyFault::Spawn),
+        Err(Refusal::Spawn) => Err(WorkerReplayFault::Spawn),
         Err(_) => unreachable!(),
     }
 }
@@ -176,7 +176,7 @@ impl Drop for AnsweredLines {
 
 impl AnsweredLines {
     // Looks once at the published table, and prints the lines.
-    fn look(self, alloc: Global, forwarder: Forwarder) -> Result<String, ManyFault>
+    fn look(self, alloc: Global, forwarder: Forwarder) -> Result<String, WorkerReplayFault>
         requires replies { HasAllReplies self.asks.items self.replies.items }
         requires few { self.first + length self.asks.items < 2 ^ 64 }
         ensures looks { IfOk result (λ text. Looks self.format forwarder self.first self.asks.items
@@ -192,7 +192,7 @@ impl AnsweredLines {
         } = self;
         let mut text = String::new(alloc);
         let Ok(seen) = forwarder.lookup(0) else {
-            return Err(ManyFault::NoEntry);
+            return Err(WorkerReplayFault::NoEntry);
         };
         let outcome = Outcome {
             rolled,

@@ -46,14 +46,14 @@ impl Trial {
 
     /// The beginning of the recording, and what the capture does not tell.
     pub fn put(&mut self, alloc: Global) -> Result<()> {
-        self.config.put_front(alloc, &self.areas, &mut self.text)?;
+        self.config.put_preamble(alloc, &self.areas, &mut self.text)?;
         self.config.put_unknown(&self.areas, &mut self.text)?;
         Ok(())
     }
 
     /// Why there is no beginning of the recording.
     pub fn put_fault(&mut self, alloc: Global) -> Result<()> {
-        if let Err(fault) = self.config.put_front(alloc, &self.areas, &mut self.text) {
+        if let Err(fault) = self.config.put_preamble(alloc, &self.areas, &mut self.text) {
             write!(self.text, "{} areas: {fault}", self.areas.count())?;
         }
         Ok(())

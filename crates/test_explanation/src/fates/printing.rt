@@ -1,6 +1,6 @@
 //! What is printed of a candidate: a line, and one for each of its traces.
 use anyhow::Result;
-use explanation::{Candidate, OfferKind, Place, Source, Trace};
+use explanation::{Candidate, OfferKind, TraceNode, LsaInstance, Trace};
 use ospf_types::address::Address;
 use ospf_types::entry::Vertex;
 use ospf_types::key::Scope;
@@ -15,7 +15,7 @@ pub(crate) fn print_candidate(rt: &HostRuntime, candidate: &Candidate) -> Result
         Some(cost) => print!(rt; " cost {cost}")?,
         None => {}
     }
-    println!(rt; ": {:?}", candidate.fate)?;
+    println!(rt; ": {:?}", candidate.verdict)?;
     for trace in &candidate.traces {
         print_trace(rt, trace)?;
     }
@@ -36,7 +36,7 @@ fn print_kind(rt: &HostRuntime, kind: OfferKind) -> Result<()> {
     Ok(())
 }
 
-fn print_source(rt: &HostRuntime, source: Source) -> Result<()> {
+fn print_source(rt: &HostRuntime, source: LsaInstance) -> Result<()> {
     let (id, router) = (Address(source.key.id), Address(source.key.router));
     match source.scope {
         Scope::Area(area) => print!(rt;
@@ -67,10 +67,10 @@ fn print_trace(rt: &HostRuntime, trace: &Trace) -> Result<()> {
     Ok(())
 }
 
-fn print_place(rt: &HostRuntime, place: Place) -> Result<()> {
+fn print_place(rt: &HostRuntime, place: TraceNode) -> Result<()> {
     match place {
-        Place::Vertex(vertex) => print_vertex(rt, vertex),
-        Place::Network(network) => print_network(rt, network),
+        TraceNode::Vertex(vertex) => print_vertex(rt, vertex),
+        TraceNode::Network(network) => print_network(rt, network),
     }
 }
 

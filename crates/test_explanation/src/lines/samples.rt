@@ -1,6 +1,6 @@
 //! A table, and what is offered of its networks.
 
-use explanation::{Candidate, Fate, Offer, OfferKind, Place, Source, Step, Trace};
+use explanation::{Candidate, Verdict, Offer, OfferKind, TraceNode, LsaInstance, Step, Trace};
 use ospf_types::entry::{Entry, PathType, Paths, Vertex};
 use ospf_types::hop::{NextHop, Path};
 use ospf_types::key::{Key, Scope};
@@ -34,7 +34,7 @@ const PATH: Path = Path {
 
 // 203.0.113.0/25.
 fn transit() -> Prefix {
-    Prefix::of_mask(0xcb00_7100, 0xffff_ff80)
+    Prefix::from_mask(0xcb00_7100, 0xffff_ff80)
 }
 
 /// A route and a discard.
@@ -47,24 +47,24 @@ pub(crate) fn fill(alloc: Global, table: &mut Table) -> Result<(), Memory> {
         paths: Paths::new(SmallVec::from_slice(alloc, &[PATH])?),
     };
     table.set(transit(), Item::Route(entry))?;
-    table.set(Prefix::of_mask(WIDE.0, WIDE.1), Item::Discard)
+    table.set(Prefix::from_mask(WIDE.0, WIDE.1), Item::Discard)
 }
 
 /// What is offered of networks that contain 203.0.113.9.
 pub(crate) fn all_candidates(alloc: Global) -> Result<Vec<Candidate>, Memory> {
     let mut candidates = Vec::new(alloc);
-    candidates.push(lost(alloc, external(), None, Fate::NoBoundaryRouter))?;
-    candidates.push(lost(alloc, summary(), None, Fate::ActiveRange))?;
+    candidates.push(lost(alloc, external(), None, Verdict::NoBoundaryRouter))?;
+    candidates.push(lost(alloc, summary(), None, Verdict::ActiveRange))?;
     candidates.push(taken(alloc)?)?;
-    candidates.push(lost(alloc, stub(), Some(128), Fate::Costlier))?;
+    candidates.push(lost(alloc, stub(), Some(128), Verdict::Costlier))?;
     Ok(candidates)
 }
 
-fn lost(alloc: Global, offer: Offer, cost: Option<u32>, fate: Fate) -> Candidate {
+fn lost(alloc: Global, offer: Offer, cost: Option<u32>, verdict: Verdict) -> Candidate {
     Candidate {
         offer,
         cost,
-        fate,
+        verdict,
         traces: Vec::new(alloc),
     }
 }
@@ -76,7 +76,7 @@ fn taken(alloc: Global) -> Result<Candidate, Memory> {
     Ok(Candidate {
         offer,
         cost: Some(11),
-        fate: Fate::Taken,
+        verdict: Verdict::Taken,
         traces,
     })
 }
@@ -97,22 +97,22 @@ fn trace(alloc: Global) -> Result<Trace, Memory> {
     })?;
     steps.push(Step {
         from: network(),
-        to: Place::Network(transit()),
+        to: TraceNode::Network(transit()),
         cost: 0,
         source: network_lsa(),
     })?;
     Ok(Trace { path: PATH, steps })
 }
 
-fn router(id: u32) -> Place {
-    Place::Vertex(Vertex::Router(id))
+fn router(id: u32) -> TraceNode {
+    TraceNode::Vertex(Vertex::Router(id))
 }
 
-fn network() -> Place {
-    Place::Vertex(Vertex::Network(DESIGNATED))
+fn network() -> TraceNode {
+    TraceNode::Vertex(Vertex::Network(DESIGNATED))
 }
 
-fn offer(network: Prefix, source: Source, kind: OfferKind) -> Offer {
+fn offer(network: Prefix, source: LsaInstance, kind: OfferKind) -> Offer {
     Offer {
         network,
         source,
@@ -128,7 +128,7 @@ fn stub() -> Offer {
 }
 
 fn summary() -> Offer {
-    let network = Prefix::of_mask(WIDE.0, WIDE.1);
+    let network = Prefix::from_mask(WIDE.0, WIDE.1);
     let source = source_of(BACKBONE, 3, WIDE.0, 0x0a00_0004, 7);
     offer(network, source, OfferKind::Summary(5))
 }
@@ -142,20 +142,20 @@ fn external() -> Offer {
             forwarding: 0,
         },
     );
-    offer(Prefix::of_mask(0, 0), source, kind)
+    offer(Prefix::from_mask(0, 0), source, kind)
 }
 
-fn network_lsa() -> Source {
+fn network_lsa() -> LsaInstance {
     source_of(BACKBONE, 2, DESIGNATED, ROUTER, 1)
 }
 
-fn router_lsa(router: u32, number: u32) -> Source {
+fn router_lsa(router: u32, number: u32) -> LsaInstance {
     source_of(BACKBONE, 1, router, router, number)
 }
 
 // The instance of this number, counted from InitialSequenceNumber.
-fn source_of(scope: Scope, kind: u8, id: u32, router: u32, number: u32) -> Source {
-    Source {
+fn source_of(scope: Scope, kind: u8, id: u32, router: u32, number: u32) -> LsaInstance {
+    LsaInstance {
         scope,
         key: Key { kind, id, router },
         seq: 0x8000_0000 | number,

@@ -1,6 +1,6 @@
 //! What is printed of a summary: its metric and the reason, and a line for each source.
 use anyhow::Result;
-use due_explanation::{DueExplained, DueFate, DueReason, DueSource};
+use due_explanation::{DueExplained, DueVerdict, DueReason, DueSource};
 use ospf_types::address::Address;
 
 pub(crate) fn print_explained(rt: &HostRuntime, explained: &DueExplained) -> Result<()> {
@@ -26,9 +26,9 @@ fn print_source(rt: &HostRuntime, source: &DueSource) -> Result<()> {
         Some(cost) => print!(rt; " cost {cost}")?,
         None => {}
     }
-    match &source.fate {
-        DueFate::InRange(range) => println!(rt; ": InRange {range}")?,
-        fate => println!(rt; ": {fate:?}")?,
+    match &source.verdict {
+        DueVerdict::InRange(range) => println!(rt; ": InRange {range}")?,
+        verdict => println!(rt; ": {verdict:?}")?,
     }
     Ok(())
 }

@@ -28,12 +28,12 @@ pub(crate) const HEADER: Header = Header {
 
 /// 203.0.112.0/20.
 pub(crate) fn wide() -> Prefix {
-    Prefix::of_mask(0xcb00_7000, 0xffff_f000)
+    Prefix::from_mask(0xcb00_7000, 0xffff_f000)
 }
 
 /// The default route's network, 0.0.0.0/0.
 pub(crate) fn everything() -> Prefix {
-    Prefix::of_mask(0, 0)
+    Prefix::from_mask(0, 0)
 }
 
 /// A route at cost 11, with a next hop of each kind.

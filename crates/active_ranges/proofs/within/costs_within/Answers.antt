@@ -7,7 +7,7 @@ use Rattle.std.proofs.lemmas.List.Sorted.{Contains-permutation, IsPermutation-sy
 use Rattle.std.proofs.lemmas.Option.{get_or_from_slice_get, slice_get_within}
 use Rattle.ospf_types.specs.declared.entry.Entry.{Entry}
 use Rattle.ospf_types.specs.declared.prefix.Prefix.{Prefix}
-use Rattle.active_ranges.specs.declared.member.Member.{Member}
+use Rattle.active_ranges.specs.declared.member.RangeMember.{RangeMember}
 use Rattle.active_ranges.proofs.Inside.{IsOfNetwork, all_within}
 use Rattle.result_map.proofs.Adding.{more_next, more_all}
 use Rattle.active_ranges.proofs.within.costs_within.Goals as goal
@@ -31,11 +31,11 @@ pub returns : goal.returns
 returns c x =
     let entries = c.args.intra.now.entries in
     let es : List (Prefix × Entry) = c.entries-entries.result in
-    let costs : List (Member × ℕ) = c.loop-place.costs.items in
+    let costs : List (RangeMember × ℕ) = c.loop-place.costs.items in
     let place = c.loop-place.place in
     let long : length es ≤ place = subst (λ (n : ℕ). n ≤ place) c.len-place-end.ensures c.loop-place-test.false in
     let past : length (keys_of es) ≤ place = subst (λ (n : ℕ). n ≤ place) (sym (length-map es (λ (y : Prefix × Entry). y.0))) long in
     let is = all_within entries c.args.area c.args.range (keys_of es) c.entries-entries.ensures.keys costs (more_all (IsOfNetwork entries c.args.area c.args.range) (keys_of es) place [] costs past c.loop-place.invariant) x in
-    let sorted : List (Member × ℕ) = c.sort_unstable_by_key.new.self.items in
+    let sorted : List (RangeMember × ℕ) = c.sort_unstable_by_key.new.self.items in
     let moved = c.sort_unstable_by_key.ensures.permutation in
     (λ there. is.0 (Contains-permutation sorted costs x (IsPermutation-sym costs sorted moved) there), λ within. Contains-permutation costs sorted x moved (is.1 within))

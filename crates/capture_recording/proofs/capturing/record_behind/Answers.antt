@@ -1,5 +1,5 @@
 use Rattle.std.proofs.Common.{refl}
-use Rattle.capture_recording.specs.declared.capturing.Beginning.TheVariants.{Given}
+use Rattle.capture_recording.specs.declared.capturing.Preamble.TheVariants.{Given}
 use Rattle.capture_recording.proofs.Ends.{given_begun, given_unwritten}
 use Rattle.capture_recording.proofs.Outcomes.{outcome_streamed}
 use Rattle.capture_recording.proofs.capturing.record_behind.Goals as goal

@@ -1,7 +1,7 @@
 use Rattle.std.proofs.Common.{◌∙◌, ℕ, List, Some, inl, ap, subst}
 use Rattle.recording.specs.Recordings.{RecordingValue}
 use Rattle.capture_recording.specs.Rules.{Rules}
-use Rattle.capture_recording.specs.declared.capturing.Beginning.TheVariants.{Given}
+use Rattle.capture_recording.specs.declared.capturing.Preamble.TheVariants.{Given}
 use Rattle.capture_recording.specs.Outputs.{areas_in, RuledOutcome}
 use Rattle.capture_recording.proofs.Ends.{none_recorded}
 use Rattle.capture_recording.proofs.capturing.record_known.Goals as goal

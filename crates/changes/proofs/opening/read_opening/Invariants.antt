@@ -1,6 +1,6 @@
 use Rattle.std.proofs.Common.{◌≡◌}
 use Rattle.line_reader.specs.Taking.{Takes}
-use Rattle.changes.specs.declared.opening.FrontEnd.TheVariants as front_end
+use Rattle.changes.specs.declared.opening.PreambleEnd.TheVariants as front_end
 use Rattle.changes.proofs.opening.read_opening.Given as goal
 
 abbrev pub invariant-loop : goal.invariant-loop

@@ -7,5 +7,5 @@ use Rattle.changes.proofs.showing.show_area.Given as goal
 
 abbrev pub invariant-loop-due : goal.invariant-loop-due
 invariant-loop-due g l =
-    Adding (g.W.Write.contents l.initial.out) (g.W.Write.contents l.out) (string_bytes l.initial.page) (string_bytes l.page)
+    Adding (g.W.Write.contents l.initial.out) (g.W.Write.contents l.out) (string_bytes l.initial.buffer) (string_bytes l.buffer)
     (lines_of l.at.number l.at.wanted (area_due (l.area, l.list))) (flat_map (λ due. line_of l.at.number l.at.wanted (summary_due l.area due)) (drop l.due-index l.list))

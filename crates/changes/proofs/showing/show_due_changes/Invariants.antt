@@ -8,5 +8,5 @@ use Rattle.changes.proofs.showing.show_due_changes.Given as goal
 
 abbrev pub invariant-loop-place : goal.invariant-loop-place
 invariant-loop-place g l =
-    Adding (g.W.Write.contents l.initial.out) (g.W.Write.contents l.out) (string_bytes l.initial.page) (string_bytes l.page) (lines_of l.at.number l.at.wanted (flat_map area_changes l.changes))
+    Adding (g.W.Write.contents l.initial.out) (g.W.Write.contents l.out) (string_bytes l.initial.buffer) (string_bytes l.buffer) (lines_of l.at.number l.at.wanted (flat_map area_changes l.changes))
     (flat_map (changed_in l.at.number l.at.wanted) (drop l.place l.changes))

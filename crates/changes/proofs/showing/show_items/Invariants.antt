@@ -8,5 +8,5 @@ use Rattle.changes.proofs.showing.show_items.Given as goal
 
 abbrev pub invariant-loop-prefix : goal.invariant-loop-prefix
 invariant-loop-prefix g l =
-    Adding (g.W.Write.contents l.initial.out) (g.W.Write.contents l.out) (string_bytes l.initial.page) (string_bytes l.page)
+    Adding (g.W.Write.contents l.initial.out) (g.W.Write.contents l.out) (string_bytes l.initial.buffer) (string_bytes l.buffer)
     (lines_of l.at.number l.at.wanted (map item_set (entries l.fn.table.items))) (flat_map (λ e. line_of l.at.number l.at.wanted (item_set e)) l.prefix-iterator)

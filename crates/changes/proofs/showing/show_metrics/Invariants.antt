@@ -7,5 +7,5 @@ use Rattle.changes.proofs.showing.show_metrics.Given as goal
 
 abbrev pub invariant-loop-change : goal.invariant-loop-change
 invariant-loop-change g l =
-    Adding (g.W.Write.contents l.initial.out) (g.W.Write.contents l.out) (string_bytes l.initial.page) (string_bytes l.page)
+    Adding (g.W.Write.contents l.initial.out) (g.W.Write.contents l.out) (string_bytes l.initial.buffer) (string_bytes l.buffer)
     (lines_of l.at.number l.at.wanted (area_changes (l.area, l.metrics))) (flat_map (λ change. line_of l.at.number l.at.wanted (due_change l.area change)) (drop l.change-index l.metrics))

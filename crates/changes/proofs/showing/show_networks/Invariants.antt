@@ -7,5 +7,5 @@ use Rattle.changes.proofs.showing.show_networks.Given as goal
 
 abbrev pub invariant-loop-prefix : goal.invariant-loop-prefix
 invariant-loop-prefix g l =
-    Adding (g.W.Write.contents l.initial.out) (g.W.Write.contents l.out) (string_bytes l.initial.page) (string_bytes l.page)
+    Adding (g.W.Write.contents l.initial.out) (g.W.Write.contents l.out) (string_bytes l.initial.buffer) (string_bytes l.buffer)
     (lines_of l.at.number l.at.wanted (map (network_change l.fn.table.items) l.networks)) (flat_map (λ p. line_of l.at.number l.at.wanted (network_change l.fn.table.items p)) (drop l.prefix-index l.networks))

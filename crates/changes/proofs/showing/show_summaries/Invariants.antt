@@ -6,5 +6,5 @@ use Rattle.changes.proofs.showing.show_summaries.Given as goal
 
 abbrev pub invariant-loop-area : goal.invariant-loop-area
 invariant-loop-area g l =
-    Adding (g.W.Write.contents l.initial.out) (g.W.Write.contents l.out) (string_bytes l.initial.page) (string_bytes l.page) (all_listed l.at.number l.at.wanted l.area-items)
+    Adding (g.W.Write.contents l.initial.out) (g.W.Write.contents l.out) (string_bytes l.initial.buffer) (string_bytes l.buffer) (all_listed l.at.number l.at.wanted l.area-items)
     (flat_map (listed_in l.at.number l.at.wanted) (drop l.area-index l.area-items))

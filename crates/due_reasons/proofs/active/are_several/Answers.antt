@@ -23,4 +23,4 @@ pub returns-in-Some : goal.returns-in-Some
 returns-in-Some c =
     let active = c.args.active.now in
     let by = several active c.in-Some.first.now (first_of active c.in-Some.first.now (sym c.in-Some.ensures.value)) in
-    (λ t. by.0 (c.has_other.ensures.0 t), λ two. c.has_other.ensures.1 (by.1 two))
+    (λ t. by.0 (c.has_other_active_area.ensures.0 t), λ two. c.has_other_active_area.ensures.1 (by.1 two))

@@ -7,4 +7,4 @@ use Rattle.event_state.proofs.base_checks.fault_in_ordered.Goals as goal
 pub returns : goal.returns
 returns c =
     let b = c.args.base.now in
-    c.as_fault.ensures ∙ ap unfit_fault c.unfit_in.ensures ∙ only_unfit c.args.limits b (sym c.fault_in.ensures ∙ c.in_default.is) (ordered_once b c.requires)
+    c.as_fault.ensures ∙ ap unfit_fault c.entry_fault_in.ensures ∙ only_unfit c.args.limits b (sym c.fault_in.ensures ∙ c.in_default.is) (ordered_once b c.requires)

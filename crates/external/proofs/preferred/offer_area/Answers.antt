@@ -1,7 +1,7 @@
 use Rattle.std.proofs.Common.{◌≡◌, Bool, Option, Some, None, ap, subst, ◌∙◌}
 use Rattle.std.proofs.lemmas.Result.{on_ok_weaker}
 use Rattle.intra.specs.Intras.{reached_at}
-use Rattle.intra.specs.Reached.{ReachedValue}
+use Rattle.intra.specs.ReachedRouter.{ReachedValue}
 use Rattle.external.specs.Choosing.{TakesHops, AreaOffers}
 use Rattle.external.specs.Inputs.{ExternalInputsValue}
 use Rattle.external.proofs.PreferredOffers.{takes_unreached}

@@ -3,7 +3,7 @@ use Rattle.path_choice.specs.Takes.{OfferedBySome}
 use Rattle.path_choice.proofs.Taking.{takes_at, takes_past}
 use Rattle.external.specs.Choosing.{TakesHops}
 use Rattle.external.specs.Inputs.{ExternalInputsValue}
-use Rattle.external.specs.Preferred.{ReachedOffers}
+use Rattle.external.specs.AsbrRoute.{ReachedOffers}
 use Rattle.external.proofs.preferred.offer_areas.Goals as goal
 
 pub loop-area-preserved : goal.loop-area-preserved

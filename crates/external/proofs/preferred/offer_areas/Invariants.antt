@@ -4,7 +4,7 @@ use Rattle.ospf_types.specs.Boundary.{Preference}
 use Rattle.path_choice.specs.Choices.{Chosen}
 use Rattle.path_choice.specs.Takes.{OfferedBySome}
 use Rattle.external.specs.Choosing.{TakesHops}
-use Rattle.external.specs.Preferred.{ReachedOffers}
+use Rattle.external.specs.AsbrRoute.{ReachedOffers}
 use Rattle.external.proofs.preferred.offer_areas.Given as goal
 
 -- who takes the offers of the areas that are left has taken them all

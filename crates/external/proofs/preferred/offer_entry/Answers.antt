@@ -5,7 +5,7 @@ use Rattle.ospf_types.specs.declared.entry.Entry.{Entry}
 use Rattle.ospf_types.specs.declared.key.Dest.TheVariants.{Router}
 use Rattle.external.specs.Choosing.{TakesHops}
 use Rattle.external.specs.Inputs.{ExternalInputsValue}
-use Rattle.external.specs.Preferred.{EntryOffers}
+use Rattle.external.specs.AsbrRoute.{EntryOffers}
 use Rattle.external.proofs.PreferredOffers.{takes_no_entry}
 use Rattle.external.proofs.preferred.offer_entry.Goals as goal
 

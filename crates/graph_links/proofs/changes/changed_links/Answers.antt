@@ -2,7 +2,7 @@ use Rattle.std.proofs.Common.{◌≡◌, ◌<◌, ◌++◌, ◌⊎◌, List, ap,
 use Rattle.std.specs.Prelude.{◌↔◌, Contains}
 use Rattle.std.specs.FinMap.{find}
 use Rattle.ospf_types.specs.Vertices.{vertex_cmp}
-use Rattle.graph_links.specs.declared.fresh.Fresh.{Fresh}
+use Rattle.graph_links.specs.declared.row_update.RowUpdate.{RowUpdate}
 use Rattle.graph_links.specs.declared.link.Link.{Link}
 use Rattle.graph_links.specs.Pairs.{AreApart}
 use Rattle.graph_links.specs.Sides.{AreLinksOut, IsBrought, IsTaken, out_of}
@@ -20,23 +20,23 @@ loop-one-init c = record {
 
 pub list_changes-requires-clause-before : goal.list_changes-requires-clause-before
 list_changes-requires-clause-before c =
-    let f : Fresh = c.one-item.result in
+    let f : RowUpdate = c.one-item.result in
     let is : c.out_links-before.result.now ≡ out_of (find vertex_cmp f.vertex c.args.rows.now.entries) = c.out_links-before.ensures ∙ ap out_of c.find_row.ensures in
     subst AreApart (sym is) (c.requires f (c.loop-one.one-index, c.loop-one-test.true, sym c.one-item.is)).0.0
 
 pub list_changes-requires-clause-after : goal.list_changes-requires-clause-after
 list_changes-requires-clause-after c =
-    let f : Fresh = c.one-item.result in
+    let f : RowUpdate = c.one-item.result in
     let is : c.out_links-after.result.now ≡ out_of f.row = c.out_links-after.ensures ∙ ap out_of c.as_ref.ensures.value in
     subst AreApart (sym is) (c.requires f (c.loop-one.one-index, c.loop-one-test.true, sym c.one-item.is)).1.0
 
 pub loop-one-preserved : goal.loop-one-preserved
 loop-one-preserved c =
     let rows = c.args.rows.now.entries in
-    let fresh : List Fresh = c.args.fresh.now in
+    let fresh : List RowUpdate = c.args.fresh.now in
     let i = c.loop-one.one-index in
     let lt : i < length fresh = c.loop-one-test.true in
-    let f : Fresh = c.one-item.result in
+    let f : RowUpdate = c.one-item.result in
     let own = c.requires f (i, lt, sym c.one-item.is) in
     let before : c.out_links-before.result.now ≡ out_of (find vertex_cmp f.vertex rows) = c.out_links-before.ensures ∙ ap out_of c.find_row.ensures in
     let after : c.out_links-after.result.now ≡ out_of f.row = c.out_links-after.ensures ∙ ap out_of c.as_ref.ensures.value in
@@ -49,14 +49,14 @@ loop-one-preserved c =
     let brought : (l : Link) → Contains came_new l ↔ (Contains came l ⊎ IsBrought rows l f) =
     subst (λ (p : List Link × List Link). (l : Link) → Contains came_new l ↔ (Contains came l ⊎ (Contains p.1 l × (Contains p.0 l → ⊥)))) (λ k. (before k, after k)) c.in_ok-list_changes.ensures.came in
     record {
-      gone = of_more (IsTaken rows) fresh i f lt gone gone_new c.loop-one.invariant.gone (subst (λ (g : Fresh). (l : Link) → Contains gone_new l ↔ (Contains gone l ⊎ IsTaken rows l g)) c.one-item.is taken);
-      came = of_more (IsBrought rows) fresh i f lt came came_new c.loop-one.invariant.came (subst (λ (g : Fresh). (l : Link) → Contains came_new l ↔ (Contains came l ⊎ IsBrought rows l g)) c.one-item.is brought);
+      gone = of_more (IsTaken rows) fresh i f lt gone gone_new c.loop-one.invariant.gone (subst (λ (g : RowUpdate). (l : Link) → Contains gone_new l ↔ (Contains gone l ⊎ IsTaken rows l g)) c.one-item.is taken);
+      came = of_more (IsBrought rows) fresh i f lt came came_new c.loop-one.invariant.came (subst (λ (g : RowUpdate). (l : Link) → Contains came_new l ↔ (Contains came l ⊎ IsBrought rows l g)) c.one-item.is brought);
       gone_once = λ once. c.in_ok-list_changes.ensures.gone_once
           (subst (λ (ls : List Link). AreApart (gone ++ ls)) (sym before)
-          (kept_apart (IsTaken rows) fresh (λ l g there is. (c.requires g there).0.1 l is.0) i f lt once gone (out_of (find vertex_cmp f.vertex rows)) c.loop-one.invariant.gone (subst (λ (g : Fresh). AreLinksOut g.vertex (out_of (find vertex_cmp f.vertex rows))) c.one-item.is own.0) (c.loop-one.invariant.gone_once once)));
+          (kept_apart (IsTaken rows) fresh (λ l g there is. (c.requires g there).0.1 l is.0) i f lt once gone (out_of (find vertex_cmp f.vertex rows)) c.loop-one.invariant.gone (subst (λ (g : RowUpdate). AreLinksOut g.vertex (out_of (find vertex_cmp f.vertex rows))) c.one-item.is own.0) (c.loop-one.invariant.gone_once once)));
       came_once = λ once. c.in_ok-list_changes.ensures.came_once
           (subst (λ (ls : List Link). AreApart (came ++ ls)) (sym after)
-          (kept_apart (IsBrought rows) fresh (λ l g there is. (c.requires g there).1.1 l is.0) i f lt once came (out_of f.row) c.loop-one.invariant.came (subst (λ (g : Fresh). AreLinksOut g.vertex (out_of f.row)) c.one-item.is own.1) (c.loop-one.invariant.came_once once)));
+          (kept_apart (IsBrought rows) fresh (λ l g there is. (c.requires g there).1.1 l is.0) i f lt once came (out_of f.row) c.loop-one.invariant.came (subst (λ (g : RowUpdate). AreLinksOut g.vertex (out_of f.row)) c.one-item.is own.1) (c.loop-one.invariant.came_once once)));
     }
 
 pub returns-clause-gone : goal.returns-clause-gone

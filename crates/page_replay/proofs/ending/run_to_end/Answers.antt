@@ -12,8 +12,8 @@ pub tell_last-requires : goal.tell_last-requires
 tell_last-requires g c =
     let opened = c.args.opened in
     let split = c.in_ok-earlier.ensures in
-    let number : c.number_of_first-first.result + c.len.result ≡ first_number opened.version opened.core.base + length c.in_ok-earlier.earlier.lines.items =
-    let counted = c.number_of_first-first.ensures ∙ ap (first_number opened.version) c.base.ensures.value in
+    let number : c.first_event_line-first.result + c.len.result ≡ first_number opened.version opened.core.base + length c.in_ok-earlier.earlier.lines.items =
+    let counted = c.first_event_line-first.ensures ∙ ap (first_number opened.version) c.base.ensures.value in
     omega (arith, counted, c.len.ensures, c.in_ok-earlier.earlier.lines.ok.0) in
     few_enough opened.lines.items c.in_ok-earlier.earlier.lines.items c.in_ok-earlier.last.items (first_number opened.version opened.core.base) _ split.earlier split.last number opened.few
 
@@ -21,8 +21,8 @@ pub returns-clause-ended : goal.returns-clause-ended
 returns-clause-ended g c =
     let opened = c.args.opened in
     let split = c.in_ok-earlier.ensures in
-    let number : c.number_of_first-first.result + c.len.result ≡ first_number opened.version opened.core.base + length c.in_ok-earlier.earlier.lines.items =
-    let counted = c.number_of_first-first.ensures ∙ ap (first_number opened.version) c.base.ensures.value in
+    let number : c.first_event_line-first.result + c.len.result ≡ first_number opened.version opened.core.base + length c.in_ok-earlier.earlier.lines.items =
+    let counted = c.first_event_line-first.ensures ∙ ap (first_number opened.version) c.base.ensures.value in
     omega (arith, counted, c.len.ensures, c.in_ok-earlier.earlier.lines.ok.0) in
     IfOk-weaker c.tell_last.result _ _ (λ end told. ended opened.version opened.core c.in_ok-earlier.earlier.core c.in_ok-core.core end.core opened.lines.items c.in_ok-earlier.earlier.lines.items c.in_ok-earlier.last.items _ end.told.items
     split.core split.earlier split.last number c.in_ok-core.ensures.run told)

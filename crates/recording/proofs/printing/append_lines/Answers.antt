@@ -16,7 +16,7 @@ loop-line-preserved c =
 
 pub returns : goal.returns
 returns c =
-    let front = c.in_ok-append_front.ensures in
+    let front = c.in_ok-append_preamble.ensures in
     let written = piece_appended _ _ _ _ _ c.in_ok-extend_from_slice.ensures.items (c.as_bytes.ensures.value ∙ front.text) c.new-text.ensures.bytes in
     let all = recording_appended _ _ _ c.args.recording.now _ _ _ _ c.version.ensures.value c.base.ensures.value c.lines-line-items.ensures.value c.loop-line-test.false written front.forms c.loop-line.invariant in
     record {

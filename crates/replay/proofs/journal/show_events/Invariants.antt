@@ -6,5 +6,5 @@ use Rattle.replay.proofs.journal.show_events.Given as goal
 
 abbrev pub invariant-loop-event : goal.invariant-loop-event
 invariant-loop-event g l =
-    Adding (g.W.Write.contents l.initial.out) (g.W.Write.contents l.out) (string_bytes l.initial.page) (string_bytes l.page) (flat_map (event_line l.fn.format) l.fn.events)
+    Adding (g.W.Write.contents l.initial.out) (g.W.Write.contents l.out) (string_bytes l.initial.buffer) (string_bytes l.buffer) (flat_map (event_line l.fn.format) l.fn.events)
     (flat_map (event_line l.fn.format) (drop l.event-index l.events))

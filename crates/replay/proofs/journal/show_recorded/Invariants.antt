@@ -10,7 +10,7 @@ use Rattle.replay.proofs.journal.show_recorded.Given as goal
 abbrev pub invariant-loop-line : goal.invariant-loop-line
 invariant-loop-line g l =
     shadow (Utf8 l.left) × ((forms : List Form) → IsTextOf l.fn.text forms
-    → Showing (g.W.Write.contents l.initial.out) (g.W.Write.contents l.out) (string_bytes l.initial.page) (string_bytes l.page) forms l.left)
+    → Showing (g.W.Write.contents l.initial.out) (g.W.Write.contents l.out) (string_bytes l.initial.buffer) (string_bytes l.buffer) forms l.left)
 
 abbrev pub decreases-loop-line : goal.decreases-loop-line
 decreases-loop-line g l = length l.left

@@ -1,5 +1,5 @@
 use Rattle.std.proofs.Common.{inr}
-use Rattle.replay.specs.declared.page.Stop.TheVariants as stop
+use Rattle.replay.specs.declared.buffer.PrintError.TheVariants as stop
 use Rattle.replay.proofs.Advance.{shows_none}
 use Rattle.replay.proofs.Ends.{output_of, part_of, replays, replays_part, no_line, stop_of_write, stop_of_closed, stop_of_memory, stopped_by}
 use Rattle.replay.proofs.replaying.replay_one.Goals as goal

@@ -1,7 +1,7 @@
 use Rattle.std.proofs.Common.{ap, sym, ◌∙◌}
 use Rattle.std.specs.List.{flat_map}
 use Rattle.replay.specs.Lines.{item_line}
-use Rattle.replay.specs.declared.page.Stop.TheVariants as stop
+use Rattle.replay.specs.declared.buffer.PrintError.TheVariants as stop
 use Rattle.replay.specs.Stops.{stop_of}
 use Rattle.replay.proofs.Written.{err_as}
 use Rattle.replay.proofs.Wholes.{item_whole}
@@ -12,12 +12,12 @@ pub loop-prefix-init : goal.loop-prefix-init
 loop-prefix-init g c = adding_none _ _ _ _ (ap (flat_map (item_line c.args.format)) (sym (c.into_iter-prefix-iterator.ensures.into_iter_gives ∙ c.items-prefix-items.ensures.all)))
 
 pub loop-prefix-preserved : goal.loop-prefix-preserved
-loop-prefix-preserved g c = adding_more _ _ _ _ _ _ _ _ _ _ _ c.loop-prefix.invariant (ap (flat_map (item_line c.args.format)) c.in-Some.ensures.steps) c.in_ok-put_item.ensures (item_whole c.args.format (c.in-Some.prefix, c.in-Some.item.now)) c.in_ok-spill.ensures.ok
+loop-prefix-preserved g c = adding_more _ _ _ _ _ _ _ _ _ _ _ c.loop-prefix.invariant (ap (flat_map (item_line c.args.format)) c.in-Some.ensures.steps) c.in_ok-put_item.ensures (item_whole c.args.format (c.in-Some.prefix, c.in-Some.item.now)) c.in_ok-flush_if_full.ensures.ok
 
 pub returns-in_err-put_item-clause-err : goal.returns-in_err-put_item-clause-err
 returns-in_err-put_item-clause-err g c = λ whole. err_as _ c.from_residual.result stop.Memory c.from_residual.ensures.1 (adding_part _ _ _ _ _ _ whole c.loop-prefix.invariant)
 
-pub returns-in_err-spill-clause-err : goal.returns-in_err-spill-clause-err
-returns-in_err-spill-clause-err g c =
-    λ whole. err_as _ c.from_residual-in_err-spill.result (stop_of c.in_err-spill.field-0.0) c.from_residual-in_err-spill.ensures.1
-    (adding_stopped (stop_of c.in_err-spill.field-0.0) _ _ _ _ _ _ _ _ _ _ whole c.loop-prefix.invariant (ap (flat_map (item_line c.args.format)) c.in-Some.ensures.steps) c.in_ok-put_item.ensures (item_whole c.args.format (c.in-Some.prefix, c.in-Some.item.now)) c.in_err-spill.ensures.err)
+pub returns-in_err-flush_if_full-clause-err : goal.returns-in_err-flush_if_full-clause-err
+returns-in_err-flush_if_full-clause-err g c =
+    λ whole. err_as _ c.from_residual-in_err-flush_if_full.result (stop_of c.in_err-flush_if_full.field-0.0) c.from_residual-in_err-flush_if_full.ensures.1
+    (adding_stopped (stop_of c.in_err-flush_if_full.field-0.0) _ _ _ _ _ _ _ _ _ _ whole c.loop-prefix.invariant (ap (flat_map (item_line c.args.format)) c.in-Some.ensures.steps) c.in_ok-put_item.ensures (item_whole c.args.format (c.in-Some.prefix, c.in-Some.item.now)) c.in_err-flush_if_full.ensures.err)

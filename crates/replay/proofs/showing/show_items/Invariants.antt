@@ -7,4 +7,4 @@ use Rattle.replay.proofs.showing.show_items.Given as goal
 
 abbrev pub invariant-loop-prefix : goal.invariant-loop-prefix
 invariant-loop-prefix g l =
-    Adding (g.W.Write.contents l.initial.out) (g.W.Write.contents l.out) (string_bytes l.initial.page) (string_bytes l.page) (flat_map (item_line l.fn.format) (entries l.fn.table.items)) (flat_map (item_line l.fn.format) l.prefix-iterator)
+    Adding (g.W.Write.contents l.initial.out) (g.W.Write.contents l.out) (string_bytes l.initial.buffer) (string_bytes l.buffer) (flat_map (item_line l.fn.format) (entries l.fn.table.items)) (flat_map (item_line l.fn.format) l.prefix-iterator)

@@ -1,6 +1,6 @@
 use Rattle.std.proofs.Common.{List, subst}
 use Rattle.std.proofs.lemmas.List.{take_all}
-use Rattle.graph_links.specs.declared.end.End.{End}
+use Rattle.graph_links.specs.declared.link_end.LinkEnd.{LinkEnd}
 use Rattle.vertex_graph.specs.Stagings.{TouchesOthers}
 use Rattle.vertex_graph.proofs.HandedIn.{touches_none, touches_more}
 use Rattle.vertex_graph.proofs.staging.touch.Goals as goal
@@ -18,4 +18,4 @@ pub returns-clause-kept : goal.returns-clause-kept
 returns-clause-kept c = c.loop-place.invariant.kept
 
 pub returns-clause-others : goal.returns-clause-others
-returns-clause-others c = subst (λ (es : List End). TouchesOthers es c.args.others.ends.now c.loop-place.touched.items) (take_all c.loop-place.place c.args.ends.now c.loop-place-test.false) c.loop-place.invariant.others
+returns-clause-others c = subst (λ (es : List LinkEnd). TouchesOthers es c.args.others.ends.now c.loop-place.touched.items) (take_all c.loop-place.place c.args.ends.now c.loop-place-test.false) c.loop-place.invariant.others

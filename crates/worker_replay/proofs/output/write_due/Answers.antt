@@ -3,7 +3,7 @@ use Rattle.std.specs.List.{flat_map}
 use Rattle.engine.specs.DueSummary.{DueSummary}
 use Rattle.replay.specs.Lines.{serial_line, area_lines}
 use Rattle.output_format.specs.declared.Show.TheVariants as show
-use Rattle.replay.specs.declared.page.Stop.TheVariants as stop
+use Rattle.replay.specs.declared.buffer.PrintError.TheVariants as stop
 use Rattle.replay.specs.Stops.{stop_of}
 use Rattle.replay.proofs.Written.{err_as}
 use Rattle.replay.proofs.Wholes.{append_whole, serial_whole}
@@ -16,16 +16,16 @@ returns-in_err-put_serial-clause-err g c = λ whole. err_as _ c.from_residual.re
 pub returns-in_err-show_summaries-clause-err : goal.returns-in_err-show_summaries-clause-err
 returns-in_err-show_summaries-clause-err g c =
     λ whole. err_as _ c.from_residual-in_err-show_summaries.result c.in_err-show_summaries.field-0.0 c.from_residual-in_err-show_summaries.ensures.1 (λ v. shown_cut v show.Due c.args.format _ _ _ _ _ _ _ c.in_ok-put_serial.ensures
-    (ap (λ (lists : List (ℕ × List DueSummary)). (string_bytes c.args.page.now ++ serial_line c.args.format c.args.core.now) ++ flat_map (area_lines c.args.format) lists) c.summaries.ensures.value)
+    (ap (λ (lists : List (ℕ × List DueSummary)). (string_bytes c.args.buffer.now ++ serial_line c.args.format c.args.core.now) ++ flat_map (area_lines c.args.format) lists) c.summaries.ensures.value)
     c.in_err-show_summaries.field-0.0 (append_whole _ _ whole (serial_whole c.args.format c.args.core.now)) c.in_err-show_summaries.ensures.err)
 
-pub returns-in_err-write_page-clause-err : goal.returns-in_err-write_page-clause-err
-returns-in_err-write_page-clause-err g c =
-    λ whole. err_as _ c.from_residual-in_err-write_page.result (stop_of c.in_err-write_page.field-0.0) c.from_residual-in_err-write_page.ensures.1 (λ v. end_cut v show.Due c.args.format _ _ _ _ _ _ _ c.in_ok-put_serial.ensures
-    (ap (λ (lists : List (ℕ × List DueSummary)). (string_bytes c.args.page.now ++ serial_line c.args.format c.args.core.now) ++ flat_map (area_lines c.args.format) lists) c.summaries.ensures.value)
-    (stop_of c.in_err-write_page.field-0.0) (append_whole _ _ whole (serial_whole c.args.format c.args.core.now)) _ _ c.in_ok-show_summaries.ensures.ok c.in_err-write_page.ensures.err)
+pub returns-in_err-flush_buffer-clause-err : goal.returns-in_err-flush_buffer-clause-err
+returns-in_err-flush_buffer-clause-err g c =
+    λ whole. err_as _ c.from_residual-in_err-flush_buffer.result (stop_of c.in_err-flush_buffer.field-0.0) c.from_residual-in_err-flush_buffer.ensures.1 (λ v. end_cut v show.Due c.args.format _ _ _ _ _ _ _ c.in_ok-put_serial.ensures
+    (ap (λ (lists : List (ℕ × List DueSummary)). (string_bytes c.args.buffer.now ++ serial_line c.args.format c.args.core.now) ++ flat_map (area_lines c.args.format) lists) c.summaries.ensures.value)
+    (stop_of c.in_err-flush_buffer.field-0.0) (append_whole _ _ whole (serial_whole c.args.format c.args.core.now)) _ _ c.in_ok-show_summaries.ensures.ok c.in_err-flush_buffer.ensures.err)
 
 pub returns-clause-ok : goal.returns-clause-ok
 returns-clause-ok g c =
     λ v. shown_whole v show.Due c.args.format _ _ _ _ _ _ _ c.in_ok-put_serial.ensures
-    (ap (λ (lists : List (ℕ × List DueSummary)). (string_bytes c.args.page.now ++ serial_line c.args.format c.args.core.now) ++ flat_map (area_lines c.args.format) lists) c.summaries.ensures.value) _ _ _ c.in_ok-show_summaries.ensures.ok c.in_ok-write_page.ensures.ok c.in_ok-write_page.ensures.empty
+    (ap (λ (lists : List (ℕ × List DueSummary)). (string_bytes c.args.buffer.now ++ serial_line c.args.format c.args.core.now) ++ flat_map (area_lines c.args.format) lists) c.summaries.ensures.value) _ _ _ c.in_ok-show_summaries.ensures.ok c.in_ok-flush_buffer.ensures.ok c.in_ok-flush_buffer.ensures.empty

@@ -11,11 +11,11 @@ returns-in_err-show-clause-err g c =
     err_as _ c.from_residual.result c.in_err-show.field-0.0 c.from_residual.ensures.1 (shown_cut c.args.version show.Journal c.args.format [] c.args.core.now _ _ [] _ _ c.requires refl
     c.in_err-show.field-0.0 none_whole c.in_err-show.ensures.err)
 
-pub returns-in_err-write_page-clause-err : goal.returns-in_err-write_page-clause-err
-returns-in_err-write_page-clause-err g c =
-    err_as _ c.from_residual-in_err-write_page.result (stop_of c.in_err-write_page.field-0.0) c.from_residual-in_err-write_page.ensures.1 (end_cut c.args.version show.Journal c.args.format [] c.args.core.now _ _ [] _ _ c.requires refl
-    (stop_of c.in_err-write_page.field-0.0) none_whole _ _ c.in_ok-show.ensures.ok c.in_err-write_page.ensures.err)
+pub returns-in_err-flush_buffer-clause-err : goal.returns-in_err-flush_buffer-clause-err
+returns-in_err-flush_buffer-clause-err g c =
+    err_as _ c.from_residual-in_err-flush_buffer.result (stop_of c.in_err-flush_buffer.field-0.0) c.from_residual-in_err-flush_buffer.ensures.1 (end_cut c.args.version show.Journal c.args.format [] c.args.core.now _ _ [] _ _ c.requires refl
+    (stop_of c.in_err-flush_buffer.field-0.0) none_whole _ _ c.in_ok-show.ensures.ok c.in_err-flush_buffer.ensures.err)
 
 pub returns-clause-ok : goal.returns-clause-ok
 returns-clause-ok g c =
-    shown_whole c.args.version show.Journal c.args.format [] c.args.core.now _ _ [] _ _ c.requires refl _ _ _ c.in_ok-show.ensures.ok c.in_ok-write_page.ensures.ok c.in_ok-write_page.ensures.empty
+    shown_whole c.args.version show.Journal c.args.format [] c.args.core.now _ _ [] _ _ c.requires refl _ _ _ c.in_ok-show.ensures.ok c.in_ok-flush_buffer.ensures.ok c.in_ok-flush_buffer.ensures.empty

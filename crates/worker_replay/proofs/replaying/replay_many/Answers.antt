@@ -2,8 +2,8 @@ use Rattle.std.proofs.Common.{◌≡◌, Err, ap}
 use Rattle.recording.specs.declared.fault.LineFault.{LineFault}
 use Rattle.replay.specs.declared.fault.ReplayFault.{ReplayFault}
 use Rattle.replay.specs.declared.fault.ReplayFault.TheVariants as replay_fault
-use Rattle.replay.specs.declared.page.Stop.{Stop}
-use Rattle.replay.specs.declared.page.Stop.TheVariants as stop
+use Rattle.replay.specs.declared.buffer.PrintError.{PrintError}
+use Rattle.replay.specs.declared.buffer.PrintError.TheVariants as stop
 use Rattle.replay.specs.Stops.{fault_of}
 use Rattle.replay.proofs.Ends.{stop_of_write, stop_of_closed, stop_of_memory}
 use Rattle.worker_replay.proofs.Whole.{replays, replays_part, run_whole, or_else}
@@ -13,7 +13,7 @@ pub returns-in-Ok-write-clause-ok : goal.returns-in-Ok-write-clause-ok
 returns-in-Ok-write-clause-ok g c = replays _ _ _ _ _ _ _ c.version-version.ensures.value _ _ c.in-Ok.ensures.recording c.in_ok-printed.ensures.run c.in-Ok-write.ensures.ok
 
 -- what ends the writing is no fault of a line
-no_line : (why : Stop) (given : ReplayFault) (f : LineFault) → given ≡ fault_of why → given ≡ replay_fault.Line f → ⊥
+no_line : (why : PrintError) (given : ReplayFault) (f : LineFault) → given ≡ fault_of why → given ≡ replay_fault.Line f → ⊥
 no_line stop.Write given f is h = cc
 no_line stop.Closed given f is h = cc
 no_line stop.Memory given f is h = cc

@@ -6,7 +6,7 @@ use Rattle.std.specs.Map.{lookup}
 use Rattle.std.proofs.lemmas.Result.{on_ok_weaker}
 use Rattle.active_ranges.specs.Active.{ActiveValue}
 use Rattle.active_ranges.specs.Grouped.{IsPutIn, Networks, member_of, range_cmp}
-use Rattle.active_ranges.specs.declared.member.Member.{Member}
+use Rattle.active_ranges.specs.declared.member.RangeMember.{RangeMember}
 use Rattle.active_ranges.proofs.Grouped.{cost_among, found, put_here, put_elsewhere}
 use Rattle.active_ranges.proofs.Lists.{nothing_there}
 use Rattle.active_ranges.proofs.active.ActiveRanges.put.Goals as goal
@@ -43,4 +43,4 @@ returns-clause-others c =
     let stood : Some had ≡ lookup (is_at (range_cmp c.args.range)) es = c.in-Some.ensures.value in
     let outer = ((c.get_mut.follows.holds new).3 (rw (sym stood) refl)).0 in
     on_ok_weaker c.put.result
-    (λ (inner : IsPutIn had c.args.network c.args.cost new) (m : Member) (other : m ≢ member). put_elsewhere es fs spent spent member c.args.cost (Some had) new (sym stood) outer inner m other ∙ ap (λ (v : ActiveValue). get v.members m) c.self.view_is) c.put.ensures
+    (λ (inner : IsPutIn had c.args.network c.args.cost new) (m : RangeMember) (other : m ≢ member). put_elsewhere es fs spent spent member c.args.cost (Some had) new (sym stood) outer inner m other ∙ ap (λ (v : ActiveValue). get v.members m) c.self.view_is) c.put.ensures

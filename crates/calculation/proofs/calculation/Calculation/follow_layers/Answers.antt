@@ -10,12 +10,12 @@ use Rattle.area_trees.specs.Areas.{AreaTreeValue}
 use Rattle.intra.specs.Intras.{IsIntraOf}
 use Rattle.active_ranges.specs.Active.{AreRangesOf, EntriesDifferAmong, IsRangeNamed, RangesDifferAt}
 use Rattle.active_ranges.specs.Right.{AreConfigured}
-use Rattle.active_ranges.specs.declared.member.Member.{Member}
+use Rattle.active_ranges.specs.declared.member.RangeMember.{RangeMember}
 use Rattle.event_state.specs.States.{inputs_of}
 use Rattle.calculation.specs.Calculations.{CalculationValue, AreItemsKept}
 use Rattle.state_trees.specs.Trees.{AreTreesOf, inputs_with}
 use Rattle.calculation.specs.Summaries.{RoutesDifferAmong}
-use Rattle.calculation.specs.Followed.{AreLayersBehind, routers_in}
+use Rattle.calculation.specs.Followed.{AreLayersOutOfDateBy, routers_in}
 use Rattle.ospf_types.proofs.RangeChanges.{areas_kept}
 use Rattle.state_trees.proofs.OtherRanges.{apart_kept}
 use Rattle.route_layers.proofs.Above.{configured}
@@ -26,7 +26,7 @@ pub follow_range-requires : goal.follow_range-requires
 follow_range-requires c =
     let s = c.args.state.now in
     let k : CalculationValue = record { trees = c.self.inside.trees.items; intra = c.self.inside.intra; active = c.self.inside.active; inter = c.self.inside.inter; external = c.self.inside.external } in
-    let b : AreLayersBehind s c.args.dirty.now c.args.range k = subst (AreLayersBehind s c.args.dirty.now c.args.range) (sym c.self.view_is) c.requires.before in
+    let b : AreLayersOutOfDateBy s c.args.dirty.now c.args.range k = subst (AreLayersOutOfDateBy s c.args.dirty.now c.args.range) (sym c.self.view_is) c.requires.before in
     let listed : c.as_slice-areas.result.now ≡ s.config.areas = c.as_slice-areas.ensures ∙ ap (λ (x : Config). x.areas) c.config.ensures.value in
     let before = range_before b.0 s c.args.dirty.now.keys.items c.args.dirty.now.interfaces.items c.args.range b.3 b.5 (record k { trees = b.1 }) b.2 in
     record {
@@ -47,7 +47,7 @@ pub update-requires : goal.update-requires
 update-requires c =
     let s = c.args.state.now in
     let k : CalculationValue = record { trees = c.self.inside.trees.items; intra = c.self.inside.intra; active = c.self.inside.active; inter = c.self.inside.inter; external = c.self.inside.external } in
-    let b : AreLayersBehind s c.args.dirty.now c.args.range k = subst (AreLayersBehind s c.args.dirty.now c.args.range) (sym c.self.view_is) c.requires.before in
+    let b : AreLayersOutOfDateBy s c.args.dirty.now c.args.range k = subst (AreLayersOutOfDateBy s c.args.dirty.now c.args.range) (sym c.self.view_is) c.requires.before in
     let grown : AreTreesOf s s.config.areas k.trees = subst (λ (v : CalculationValue). AreTreesOf s s.config.areas v.trees) (sym c.self.view_is) c.requires.trees in
     let old : CalculationValue = record k { trees = b.1 } in
     let intra = c.follow_intra.new.intra in
@@ -75,7 +75,7 @@ pub follow_inter-requires-clause-before : goal.follow_inter-requires-clause-befo
 follow_inter-requires-clause-before c =
     let s = c.args.state.now in
     let k : CalculationValue = record { trees = c.self.inside.trees.items; intra = c.self.inside.intra; active = c.self.inside.active; inter = c.self.inside.inter; external = c.self.inside.external } in
-    let b : AreLayersBehind s c.args.dirty.now c.args.range k = subst (AreLayersBehind s c.args.dirty.now c.args.range) (sym c.self.view_is) c.requires.before in
+    let b : AreLayersOutOfDateBy s c.args.dirty.now c.args.range k = subst (AreLayersOutOfDateBy s c.args.dirty.now c.args.range) (sym c.self.view_is) c.requires.before in
     let grown : AreTreesOf s s.config.areas k.trees = subst (λ (v : CalculationValue). AreTreesOf s s.config.areas v.trees) (sym c.self.view_is) c.requires.trees in
     let old : CalculationValue = record k { trees = b.1 } in
     let intra = c.follow_intra.new.intra in
@@ -97,7 +97,7 @@ pub follow_external-requires-clause-before : goal.follow_external-requires-claus
 follow_external-requires-clause-before c =
     let s = c.args.state.now in
     let k : CalculationValue = record { trees = c.self.inside.trees.items; intra = c.self.inside.intra; active = c.self.inside.active; inter = c.self.inside.inter; external = c.self.inside.external } in
-    let b : AreLayersBehind s c.args.dirty.now c.args.range k = subst (AreLayersBehind s c.args.dirty.now c.args.range) (sym c.self.view_is) c.requires.before in
+    let b : AreLayersOutOfDateBy s c.args.dirty.now c.args.range k = subst (AreLayersOutOfDateBy s c.args.dirty.now c.args.range) (sym c.self.view_is) c.requires.before in
     let grown : AreTreesOf s s.config.areas k.trees = subst (λ (v : CalculationValue). AreTreesOf s s.config.areas v.trees) (sym c.self.view_is) c.requires.trees in
     let old : CalculationValue = record k { trees = b.1 } in
     let intra = c.follow_intra.new.intra in
@@ -114,7 +114,7 @@ pub returns-clause-right : goal.returns-clause-right
 returns-clause-right c =
     let s = c.args.state.now in
     let k : CalculationValue = record { trees = c.self.inside.trees.items; intra = c.self.inside.intra; active = c.self.inside.active; inter = c.self.inside.inter; external = c.self.inside.external } in
-    let b : AreLayersBehind s c.args.dirty.now c.args.range k = subst (AreLayersBehind s c.args.dirty.now c.args.range) (sym c.self.view_is) c.requires.before in
+    let b : AreLayersOutOfDateBy s c.args.dirty.now c.args.range k = subst (AreLayersOutOfDateBy s c.args.dirty.now c.args.range) (sym c.self.view_is) c.requires.before in
     let grown : AreTreesOf s s.config.areas k.trees = subst (λ (v : CalculationValue). AreTreesOf s s.config.areas v.trees) (sym c.self.view_is) c.requires.trees in
     let old : CalculationValue = record k { trees = b.1 } in
     let intra = c.follow_intra.new.intra in
@@ -149,7 +149,7 @@ layers_kept : (c : goal.After-drop-within-2) → AreItemsKept c.in_ok-networks.n
 layers_kept c =
     let s = c.args.state.now in
     let k : CalculationValue = record { trees = c.self.inside.trees.items; intra = c.self.inside.intra; active = c.self.inside.active; inter = c.self.inside.inter; external = c.self.inside.external } in
-    let b : AreLayersBehind s c.args.dirty.now c.args.range k = subst (AreLayersBehind s c.args.dirty.now c.args.range) (sym c.self.view_is) c.requires.before in
+    let b : AreLayersOutOfDateBy s c.args.dirty.now c.args.range k = subst (AreLayersOutOfDateBy s c.args.dirty.now c.args.range) (sym c.self.view_is) c.requires.before in
     let grown : AreTreesOf s s.config.areas k.trees = subst (λ (v : CalculationValue). AreTreesOf s s.config.areas v.trees) (sym c.self.view_is) c.requires.trees in
     let old : CalculationValue = record k { trees = b.1 } in
     let intra = c.follow_intra.new.intra in
@@ -163,9 +163,9 @@ layers_kept c =
     let last : List Dest = c.in_ok-all.all.items in
     let over : c.push_routers.new.dests.items ≡ c.extend_from_slice.new.self.items ++ routers_in last = c.in_ok-push_routers.ensures ∙ ap (λ (ds : List Dest). c.extend_from_slice.new.self.items ++ routers_in ds) c.deref-5.ensures.value in
     let all : c.extend_from_slice-2.new.self.items ≡ last ++ c.push_routers.new.dests.items = c.in_ok-extend_from_slice-2.ensures.items ∙ ap (λ (ds : List Dest). last ++ ds) c.deref-6.ensures.value in
-    let within : List Member = c.in_ok-within.within.items in
-    let told : c.push_members.new.dests.items ≡ c.push_routers.new.dests.items ++ map (λ (m : Member). Net m.network) within =
-    c.in_ok-push_members.ensures ∙ ap (λ (ms : List Member). c.push_routers.new.dests.items ++ map (λ (m : Member). Net m.network) ms) c.deref-7.ensures.value in
+    let within : List RangeMember = c.in_ok-within.within.items in
+    let told : c.push_members.new.dests.items ≡ c.push_routers.new.dests.items ++ map (λ (m : RangeMember). Net m.network) within =
+    c.in_ok-push_members.ensures ∙ ap (λ (ms : List RangeMember). c.push_routers.new.dests.items ++ map (λ (m : RangeMember). Net m.network) ms) c.deref-7.ensures.value in
     let ranges : AreRangesOf s.config.areas intra.entries c.update.new.self = subst (λ (areas : List AreaConfig). AreRangesOf areas intra.entries c.update.new.self) listed c.in_ok-ranges.ensures.kept in
     let exact : (p : Prefix) → Contains c.in_ok-networks.networks.items p ↔ Contains c.extend_from_slice-2.new.self.items (Net p) = λ p.
     subst (λ (ds : List Dest). Contains c.in_ok-networks.networks.items p ↔ Contains ds (Net p)) c.deref-8.ensures.value (c.in_ok-networks.ensures.exact p) in

@@ -1,5 +1,5 @@
 use Rattle.std.proofs.Common.{Some}
-use Rattle.capture_recording.specs.declared.capturing.Beginning.TheVariants.{Router}
+use Rattle.capture_recording.specs.declared.capturing.Preamble.TheVariants.{Router}
 use Rattle.capture_recording.specs.Texts.{notes_of}
 use Rattle.capture_recording.proofs.Ends.{lacking_said, nothing_written}
 use Rattle.capture_recording.proofs.Said.{behind_none}

@@ -1,5 +1,5 @@
 use Rattle.std.proofs.Common.{subst, sym, Some}
-use Rattle.capture_recording.specs.declared.capturing.Beginning.TheVariants.{Router}
+use Rattle.capture_recording.specs.declared.capturing.Preamble.TheVariants.{Router}
 use Rattle.captured_config.specs.Fronts.{captured_recording}
 use Rattle.recording.specs.Recordings.{IsText}
 use Rattle.capture_recording.specs.Finishing.{IsNoFront}

@@ -1,5 +1,5 @@
 use Rattle.std.proofs.Common.{inl, inr}
-use Rattle.changes.specs.declared.opening.FrontEnd.TheVariants as front_end
+use Rattle.changes.specs.declared.opening.PreambleEnd.TheVariants as front_end
 use Rattle.recording.specs.declared.fault.Fault.TheVariants as fault
 use Rattle.changes.specs.declared.following.End.TheVariants as end
 use Rattle.replay.proofs.Advance.{progress_none}
@@ -9,9 +9,9 @@ use Rattle.changes.proofs.Behind.{all_end_as, all_stop_as, cut_behind, ends_as, 
 use Rattle.changes.proofs.following.Run.go_on.Goals as goal
 
 pub returns-in_err-fault-in-Line-clause-err : goal.returns-in_err-fault-in-Line-clause-err
-returns-in_err-fault-in-Line-clause-err g c = λ page.
+returns-in_err-fault-in-Line-clause-err g c = λ buffer.
     all_stop_as c.args.front front_end.Line _ _ _ _ _ _ _ c.in-Line.is
-    (err_as _ c.from_residual.result c.in_err-fault-in-Line.field-0.0 c.from_residual.ensures.1 (line_stops _ _ _ _ c.in_err-fault-in-Line.field-0.0 _ page (c.in_err-fault-in-Line.ensures.err page)))
+    (err_as _ c.from_residual.result c.in_err-fault-in-Line.field-0.0 c.from_residual.ensures.1 (line_stops _ _ _ _ c.in_err-fault-in-Line.field-0.0 _ buffer (c.in_err-fault-in-Line.ensures.err buffer)))
 
 pub returns-in-Some-clause-ok : goal.returns-in-Some-clause-ok
 returns-in-Some-clause-ok g c =
@@ -27,9 +27,9 @@ returns-in_default-clause-ok g c =
     all_end_as c.args.front front_end.Line _ _ _ _ _ _ _ _ c.in-Line.is (lines_end _ _ _ _ _ _ _ _ _ x c.follow.result c.follow.ensures.ok)
 
 pub returns-in_default-clause-err : goal.returns-in_default-clause-err
-returns-in_default-clause-err g c = λ page.
+returns-in_default-clause-err g c = λ buffer.
     let x = takes_none _ _ _ _ _ c.in_default.is c.in_ok-fault-in-Line.ensures.ok in
-    all_stop_as c.args.front front_end.Line _ _ _ _ _ _ _ c.in-Line.is (lines_stop _ _ c.follow.new.self _ _ _ _ _ _ x c.follow.result page c.follow.ensures.err)
+    all_stop_as c.args.front front_end.Line _ _ _ _ _ _ _ c.in-Line.is (lines_stop _ _ c.follow.new.self _ _ _ _ _ _ x c.follow.result buffer c.follow.ensures.err)
 
 pub returns-in_default-clause-progress : goal.returns-in_default-clause-progress
 returns-in_default-clause-progress g c =
@@ -54,6 +54,6 @@ returns-in-Over g c =
         | inr (inl long) ↦ ends_as c.args.front front_end.LongLine end.Over old old c.args.lines.now left left out out long (long_behind old c.args.lines.now left out end.Over)
         | inr (inr (f, at)) ↦ ends_as c.args.front (front_end.AtFault f) end.Over old old c.args.lines.now left left out out at (fault_behind old c.args.lines.now left out f end.Over)
       ];
-      err = λ page. tt;
+      err = λ buffer. tt;
       progress = progress_none old.progress (g.F.Write.contents c.args.faults.now);
     }

@@ -18,7 +18,7 @@ returns-in_err-tell_next-clause-err g c =
 pub returns-clause-ok : goal.returns-clause-ok
 returns-clause-ok g c = (
   record {
-    same = record { version = refl; skips = refl; progress = refl; wanted = refl; answers = refl };
+    same = record { version = refl; skips_faults = refl; progress = refl; wanted = refl; answers = refl };
     taken = Comes c.in-Ok.line;
     reads = read_as _ _ _ (Comes c.in-Ok.line) c.as_slice.ensures.value c.in-Ok.ensures.says;
     said = λ no. tt;
@@ -44,7 +44,7 @@ pub returns-in-Err : goal.returns-in-Err
 returns-in-Err g c = record {
   ok = (
     record {
-      same = record { version = refl; skips = refl; progress = refl; wanted = refl; answers = refl };
+      same = record { version = refl; skips_faults = refl; progress = refl; wanted = refl; answers = refl };
       taken = Fails c.in-Err.fault;
       reads = read_as _ _ _ (Fails c.in-Err.fault) c.as_slice.ensures.value c.in-Err.ensures.fails;
       said = λ no. absurd (skipped _ c.if-not-self.false no);

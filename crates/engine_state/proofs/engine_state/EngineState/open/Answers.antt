@@ -3,8 +3,8 @@ use Rattle.event_state.specs.declared.base.Base.{Base}
 use Rattle.event_state.specs.declared.event.Event.{Event}
 use Rattle.publication.specs.Lines.{Line}
 use Rattle.publication.specs.Names.{Name}
-use Rattle.publication.specs.declared.shown.ShownState.{ShownState}
-use Rattle.publication.specs.declared.shown.Shown.{Shown}
+use Rattle.publication.specs.declared.published_table.PublishedState.{PublishedState}
+use Rattle.publication.specs.declared.published_table.PublishedTable.{PublishedTable}
 use Rattle.engine_state.proofs.Keeping.{match_true, none_named, opened_fresh, opened_kept, opened_right, opened_table}
 use Rattle.engine_state.proofs.engine_state.EngineState.open.Goals as goal
 
@@ -18,7 +18,7 @@ pub show-writer-requires-clause-right : goal.show-writer-requires-clause-right
 show-writer-requires-clause-right g c =
     let face = c.in_ok-first.ensures ∙ (λ i. record { table = c.table.ensures.value i; front = c.front.result; base = (c.of-opening.ensures ∙ c.base.ensures.value) i }) in
     opened_table c.args.core c.in_ok-writer.writer.desk.shown.value.base c.open-history.result.list c.table-3.result.now c.table.ensures.kept c.requires.limits c.requires.journal
-    (ap (λ (x : Shown). x.base) c.in_ok-writer.ensures.0 ∙ ap (λ (f : ShownState). f.base) face) c.open-history.ensures c.table-3.ensures.value
+    (ap (λ (x : PublishedTable). x.base) c.in_ok-writer.ensures.0 ∙ ap (λ (f : PublishedState). f.base) face) c.open-history.ensures c.table-3.ensures.value
 
 pub invariant_of-result : goal.invariant_of-result
 invariant_of-result g c =
@@ -35,7 +35,7 @@ invariant_of-result g c =
     let written = ap (λ (l : Line). l.list) did.history ∙ empty in
     let listed = ap (λ (l : Line). l.list) published.0 ∙ empty in
     let book = ap (λ (l : Line). l.book) did.history ∙ sym (ap (λ (l : Line). l.book) published.0) in
-    let base = ap (λ (n : Name). n.base) did.name ∙ ap (λ (x : Shown). x.base) c.in_ok-writer.ensures.0 ∙ ap (λ (f : ShownState). f.base) face in (
+    let base = ap (λ (n : Name). n.base) did.name ∙ ap (λ (x : PublishedTable). x.base) c.in_ok-writer.ensures.0 ∙ ap (λ (f : PublishedState). f.base) face in (
       c.table.ensures.kept,
       opened_kept core c.show-writer.new.history c.front-rolled.result shown _ c.requires.journal c.requires.limits rolled written listed book base (known ∙ ap Some (sym did.name)) published.1,
       opened_fresh core c.show-writer.new.history c.front-rolled.result shown _ c.requires.journal rolled written listed (did.pending done),

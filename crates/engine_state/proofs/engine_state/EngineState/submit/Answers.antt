@@ -1,7 +1,7 @@
 use Rattle.std.proofs.Common.{◌≡◌, ◌+◌, ◌++◌, Bool, drop, length, IfSome, ap, ◌∙◌, subst, arith, [], ◌∷◌, refl, sym, append_assoc, length-append}
 use mathlib.Core.List.{IsPrefix}
 use Rattle.left_right.specs.Sides.{view as known_to}
-use Rattle.event_core.specs.Cores.{CoreValue, IsCore, Stands, NamesChanges}
+use Rattle.event_core.specs.Cores.{CoreValue, IsCore, MatchesStatus, NamesChanges}
 use Rattle.event_core.specs.declared.reply.Status.{Status}
 use Rattle.event_core.specs.declared.reply.Status.TheVariants.{Current}
 use Rattle.publication.specs.Names.{Name}
@@ -102,7 +102,7 @@ publish-engine_state-requires-clause-follows g c fresh_before current =
     let kept = c.self.invariant.1 in
     let fresh = subst (λ (b : Bool). IsFresh b core c.self.inside.parts.history rolled shown (drop c.self.inside.parts.writer.behind c.self.inside.parts.writer.log.items)) fresh_before c.self.invariant.2 in
     let built : core.built ≡ length core.journal = omega (arith, kept.published.built, c.self.invariant.0.within, ap length fresh.1, length-append rolled.list core.journal) in
-    let stands : Stands core Current now = subst (λ (s : Status). Stands core s now) current c.in-Ok.ensures.applied.stands in
+    let stands : MatchesStatus core Current now = subst (λ (s : Status). MatchesStatus core s now) current c.in-Ok.ensures.applied.stands in
     let named : NamesChanges core Current now = subst (λ (s : Status). NamesChanges core s now) current c.in-Ok.ensures.changes in (
       fresh.0,
       stands.0,

@@ -1,6 +1,6 @@
 use Rattle.std.proofs.Common.{rules, [], ◌∷◌, ap, ◌∙◌, inl, inr, refl}
 use Rattle.ospf_types.specs.declared.entry.Vertex.{Vertex}
-use Rattle.explanation.specs.declared.trace.Place.TheVariants as place
+use Rattle.explanation.specs.declared.trace.TraceNode.TheVariants as place
 use Rattle.explanation.specs.declared.trace.Step.{Step}
 use Rattle.explanation.specs.declared.trace.Trace.{Trace}
 use Rattle.explanation.specs.Traces.{GivesOwn, last_from}

@@ -2,7 +2,7 @@
 use Rattle.std.proofs.Common.{◌≡◌, ap, sym, ◌∙◌}
 use Rattle.std.proofs.lemmas.Slice.Eq.{slice_eq-Decides}
 use Rattle.ospf_types.proofs.Paths.{hop_eq-Decides}
-use Rattle.external.specs.Preferred.{PreferredValue}
+use Rattle.external.specs.AsbrRoute.{PreferredValue}
 use Rattle.external.proofs.preferred.PreferredSame.is_same.Goals as goal
 
 pub returns-then-has_preference_of : goal.returns-then-has_preference_of

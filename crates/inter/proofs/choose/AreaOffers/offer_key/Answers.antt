@@ -12,10 +12,10 @@ returns-in_default c = takes_no_route c.args.self.intra.now.areas c.args.self.ar
 pub returns-in_default-router : goal.returns-in_default-router
 returns-in_default-router c = takes_unreached c.args.self.intra.now.areas c.args.self.area c.args.self.index.now c.args.key c.args.best.now (sym c.in_default-router.ensures)
 
-pub returns-then-not-is_border : goal.returns-then-not-is_border
-returns-then-not-is_border c =
+pub returns-then-not-is_abr : goal.returns-then-not-is_abr
+returns-then-not-is_abr c =
     takes_no_border c.args.self.intra.now.areas c.args.self.area c.args.self.index.now c.args.key c.in-Some-router.border.now (sym c.in-Some-router.ensures) c.args.best.now
-    (λ lt. let e : true ≡ _ = sym (c.is_border.ensures.1 lt) ∙ c.if-not-is_border.true in absurd cc)
+    (λ lt. let e : true ≡ _ = sym (c.is_abr.ensures.1 lt) ∙ c.if-not-is_abr.true in absurd cc)
 
 pub returns : goal.returns
 returns c =
@@ -23,7 +23,7 @@ returns c =
     let a = c.in-Some.route.now in
     let cost : c.new-cost.result ≡ r.distance + a.metric = c.new-cost.ensures ∙ (λ i. c.distance.ensures.value i + c.metric.ensures.value i) in
     on_ok_weaker c.offer_hops.result
-    (λ takes. takes_border c.args.self.intra.now.areas c.args.self.area c.args.self.index.now c.args.key r (sym c.in-Some-router.ensures) a c.args.best.now c.offer_hops.new.best (sym c.in-Some.ensures) (c.is_border.ensures.0 c.if-not-is_border.false)
+    (λ takes. takes_border c.args.self.intra.now.areas c.args.self.area c.args.self.index.now c.args.key r (sym c.in-Some-router.ensures) a c.args.best.now c.offer_hops.new.best (sym c.in-Some.ensures) (c.is_abr.ensures.0 c.if-not-is_abr.false)
     (subst (λ (hops : List NextHop). TakesPaths (HopsOffer hops c.args.key.router (r.distance + a.metric)) c.args.best.now c.offer_hops.new.best) c.hops.ensures
     (subst (λ (n : ℕ). TakesPaths (HopsOffer c.hops.result.now c.args.key.router n) c.args.best.now c.offer_hops.new.best) cost takes)))
     c.offer_hops.ensures

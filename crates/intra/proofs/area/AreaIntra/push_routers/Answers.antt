@@ -3,7 +3,7 @@ use Rattle.std.specs.Prelude.{◌↔◌, IsSome, count_by}
 use Rattle.std.specs.FinMap.{get}
 use Rattle.std.specs.List.{Contains}
 use Rattle.std.proofs.lemmas.List.Elements.{Contains-append_left, Contains-append_right, Contains-append_cases}
-use Rattle.intra.specs.Reached.{ReachedByRouter}
+use Rattle.intra.specs.ReachedRouter.{ReachedByRouter}
 use Rattle.intra.proofs.Often.{count_append, count_once}
 use Rattle.intra.proofs.area.AreaIntra.push_routers.Goals as goal
 

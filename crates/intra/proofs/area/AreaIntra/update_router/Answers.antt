@@ -4,7 +4,7 @@ use Rattle.std.specs.FinMap.{get}
 use Rattle.ospf_types.specs.declared.entry.Vertex.TheVariants.{Router}
 use Rattle.intra.specs.Inputs.{distance_at, hops_at}
 use Rattle.intra.specs.Intras.{AreaIntraValue}
-use Rattle.intra.specs.Reached.{reached_by}
+use Rattle.intra.specs.ReachedRouter.{reached_by}
 use Rattle.intra.proofs.Following.{updated_one}
 use Rattle.intra.proofs.area.AreaIntra.update_router.Goals as goal
 

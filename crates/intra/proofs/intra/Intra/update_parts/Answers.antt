@@ -35,7 +35,7 @@ pub returns-clause-in_order : goal.returns-clause-in_order
 returns-clause-in_order c =
     let routers = c.in_ok-named.named.routers.items in
     let anew = c.in_ok-update_entries.ensures.entries in
-    let all = c.in_ok-add_routers.ensures ∙ (λ i. anew.told_as i ++ map Router (c.as_slice-2.ensures.value i)) in
+    let all = c.in_ok-add_routers.ensures ∙ (λ i. anew.reported_as i ++ map Router (c.as_slice-2.ensures.value i)) in
     subst (IsStrictlySortedBy dest_cmp) (sym all) (dests_sorted anew.differing routers anew.in_order c.in_ok-named.ensures.routers_in_order)
 
 pub returns-clause-exact : goal.returns-clause-exact

@@ -11,4 +11,4 @@ returns c =
     let about : is_about_network (kind_of c.args.self.now.body) ≡ true = ap is_about_network (sym c.kind.ensures) ∙ sym c.has_network.ensures ∙ c.if-not-has_network.false in
     let id : c.read_u32.result ≡ big_number 4 (drop 4 items) = c.read_u32.ensures ∙ ap (λ (b : List ℕ). big_number 4 b) (from_place 4 c.deref.result.now ∙ ap (drop 4) c.deref.ensures.value) in
     let mask : c.read_u32-2.result ≡ big_number 4 (drop 20 items) = c.read_u32-2.ensures ∙ ap (λ (b : List ℕ). big_number 4 b) (from_place 20 c.deref-2.result.now ∙ ap (drop 20) c.deref-2.ensures.value) in
-    ap Some c.of_mask.ensures ∙ network_with c.read_u32.result c.read_u32-2.result (big_number 4 (drop 4 items)) (big_number 4 (drop 20 items)) id mask ∙ kept_prefix items c.args.self.now c.self.view_is c.self.invariant about
+    ap Some c.from_mask.ensures ∙ network_with c.read_u32.result c.read_u32-2.result (big_number 4 (drop 4 items)) (big_number 4 (drop 20 items)) id mask ∙ kept_prefix items c.args.self.now c.self.view_is c.self.invariant about

@@ -8,7 +8,7 @@ use Rattle.replay.proofs.opened.OpenedRecording.run_silently.Goals as goal
 
 pub loop-line-init : goal.loop-line-init
 loop-line-init g c =
-    let first = c.number_of_first-number.ensures ∙ ap (first_number c.args.self.version) c.base.ensures.value in
+    let first = c.first_event_line-number.ensures ∙ ap (first_number c.args.self.version) c.base.ensures.value in
     record { taking = taking_none _ _ _ _ _ first (sym c.into_iter-line-iterator.ensures.into_iter_gives.0); shown = advanced_none _ _ _ _ first }
 
 pub overflow_add-number : goal.overflow_add-number

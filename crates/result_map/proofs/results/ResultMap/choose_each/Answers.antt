@@ -2,7 +2,7 @@
 use Rattle.std.proofs.Common.{◌≤◌, ◌+◌, ◌∙◌, ℕ, List, length, ap, subst, sym}
 use Rattle.std.specs.Option.{option_to_list}
 use Rattle.std.proofs.lemmas.List.{length-append}
-use Rattle.result_map.specs.Chosen.{AreChosenAnew}
+use Rattle.result_map.specs.Chosen.{AreRechosen}
 use Rattle.result_map.specs.Results.{Results, result_at, result_in}
 use Rattle.result_map.proofs.KeyLaws.{key_order}
 use Rattle.result_map.proofs.ChosenAnew.{so_far_none, so_far_more, so_far_all}
@@ -11,7 +11,7 @@ use Rattle.result_map.proofs.results.ResultMap.choose_each.Goals as goal
 
 pub loop-key-init : goal.loop-key-init
 loop-key-init g c = (
-  so_far_none g.K.ResultKey.order (g.R.Choose.IsChosen c.args.by.now) g.N.Told.told_as (result_in g.K.ResultKey.order c.self.inside.entries.entries) c.args.keys.now c.args.told.now.items c.requires.none c.requires.in_order,
+  so_far_none g.K.ResultKey.order (g.R.Choose.IsChosen c.args.by.now) g.N.ReportedAs.reported_as (result_in g.K.ResultKey.order c.self.inside.entries.entries) c.args.keys.now c.args.told.now.items c.requires.none c.requires.in_order,
   left_none (result_in g.K.ResultKey.order c.self.inside.entries.entries) c.args.keys.now (length c.truncate.new.self.items) (ap (λ (left : List ℕ). length left) c.truncate.ensures.items) c.requires.in_order,
 )
 
@@ -39,7 +39,7 @@ pub loop-key-preserved : goal.loop-key-preserved
 loop-key-preserved g c =
     let keys = key_order g.met.K.ResultKey.ordered g.met.K.Ord.total g.met.K.ResultKey.exact g.met.K.Ord.matches_eq in
     let long = ap (λ (left : List ℕ). length left) c.in_ok-leave.ensures.ok ∙ length-append c.loop-key.self-inside.left.items (option_to_list c.in_ok-place.place) in (
-      so_far_more g.K.ResultKey.order keys.total keys.exact (g.R.Choose.IsChosen c.args.by.now) g.N.Told.told_as (result_in g.K.ResultKey.order c.self.inside.entries.entries) (result_in g.K.ResultKey.order c.loop-key.self-inside.entries.entries)
+      so_far_more g.K.ResultKey.order keys.total keys.exact (g.R.Choose.IsChosen c.args.by.now) g.N.ReportedAs.reported_as (result_in g.K.ResultKey.order c.self.inside.entries.entries) (result_in g.K.ResultKey.order c.loop-key.self-inside.entries.entries)
           (result_in g.K.ResultKey.order c.choose_one.new.entries.entries) c.args.keys.now c.requires.in_order c.loop-key.key-index c.key-item.result c.loop-key-test.true c.key-item.is c.loop-key.told.items c.choose_one.new.told.items
           c.loop-key.invariant.0 c.in_ok-place.ensures.chosen,
       subst (IsLeft g.K.ResultKey.order (result_in g.K.ResultKey.order c.choose_one.new.entries.entries) c.args.keys.now (c.loop-key.key-index + 1)) (sym long)
@@ -51,5 +51,5 @@ pub returns : goal.returns
 returns g c =
     let old : Results g.row.K.Denot g.row.V.Denot = record { entries = c.self.inside.entries.entries } in
     let new : Results g.row.K.Denot g.row.V.Denot = record { entries = c.loop-key.self-inside.entries.entries } in
-    subst (λ (r : Results g.row.K.Denot g.row.V.Denot). AreChosenAnew g.K.ResultKey.order (g.R.Choose.IsChosen c.args.by.now) g.N.Told.told_as (result_at g.K.ResultKey.order r) (result_at g.K.ResultKey.order new) c.args.keys.now c.loop-key.told.items) c.self.view_is
-    (so_far_all g.K.ResultKey.order (g.R.Choose.IsChosen c.args.by.now) g.N.Told.told_as (result_at g.K.ResultKey.order old) (result_at g.K.ResultKey.order new) c.args.keys.now c.loop-key.key-index c.loop-key.told.items c.loop-key-test.false c.loop-key.invariant.0)
+    subst (λ (r : Results g.row.K.Denot g.row.V.Denot). AreRechosen g.K.ResultKey.order (g.R.Choose.IsChosen c.args.by.now) g.N.ReportedAs.reported_as (result_at g.K.ResultKey.order r) (result_at g.K.ResultKey.order new) c.args.keys.now c.loop-key.told.items) c.self.view_is
+    (so_far_all g.K.ResultKey.order (g.R.Choose.IsChosen c.args.by.now) g.N.ReportedAs.reported_as (result_at g.K.ResultKey.order old) (result_at g.K.ResultKey.order new) c.args.keys.now c.loop-key.key-index c.loop-key.told.items c.loop-key-test.false c.loop-key.invariant.0)

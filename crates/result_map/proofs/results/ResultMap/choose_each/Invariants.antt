@@ -7,5 +7,5 @@ use Rattle.result_map.proofs.results.ResultMap.choose_each.Given as goal
 
 abbrev pub invariant-loop-key : goal.invariant-loop-key
 invariant-loop-key g l =
-    IsSoFar g.K.ResultKey.order (g.R.Choose.IsChosen l.by) g.N.Told.told_as (result_in g.K.ResultKey.order l.initial.self-inside.entries.entries) (result_in g.K.ResultKey.order l.self-inside.entries.entries) l.keys l.key-index l.told.items
+    IsSoFar g.K.ResultKey.order (g.R.Choose.IsChosen l.by) g.N.ReportedAs.reported_as (result_in g.K.ResultKey.order l.initial.self-inside.entries.entries) (result_in g.K.ResultKey.order l.self-inside.entries.entries) l.keys l.key-index l.told.items
     × IsLeft g.K.ResultKey.order (result_in g.K.ResultKey.order l.self-inside.entries.entries) l.keys l.key-index (length l.self-inside.left.items)

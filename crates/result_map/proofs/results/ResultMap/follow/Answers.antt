@@ -2,7 +2,7 @@
 use Rattle.std.proofs.Common.{List, sym, subst}
 use Rattle.std.specs.Prelude.{◌↔◌, Contains}
 use Rattle.std.specs.List.Sorted.{IsStrictlySortedBy}
-use Rattle.result_map.specs.Chosen.{HasOther}
+use Rattle.result_map.specs.Chosen.{HasChanged}
 use Rattle.result_map.specs.Results.{result_at}
 use Rattle.result_map.proofs.ChosenAnew.{all_chosen, told_themselves}
 use Rattle.result_map.proofs.KeyLaws.{key_order}
@@ -22,5 +22,5 @@ returns-clause-in_order g c =
 pub returns-clause-exact : goal.returns-clause-exact
 returns-clause-exact g c = λ k.
     let anew = c.in_ok-choose_each.ensures in
-    subst (λ (ks : List g.row.K.Denot). Contains ks k ↔ HasOther (result_at g.K.ResultKey.order c.args.self.now) (result_at g.K.ResultKey.order c.choose_each.new.self) k)
+    subst (λ (ks : List g.row.K.Denot). Contains ks k ↔ HasChanged (result_at g.K.ResultKey.order c.args.self.now) (result_at g.K.ResultKey.order c.choose_each.new.self) k)
     (sym (told_themselves g.K.ResultKey.order (g.R.Choose.IsChosen c.args.by.now) _ _ c.deref.result.now c.choose_each.new.told.items anew)) (anew.exact k)

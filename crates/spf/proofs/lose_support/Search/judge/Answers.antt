@@ -22,9 +22,9 @@ returns c =
     on_both c.suspect_beyond.result c.suspect_beyond.ensures.told c.suspect_beyond.ensures.lost
     (λ told same.
     subst (λ (vs : List Vertex). IsJudged c.args.graph.now old lost vs s.suspects new.suspects s.pending.stale new.pending.stale c.args.suspect.now) (sym same)
-    (judged_lost c.args.graph.now old lost s.suspects s.pending.stale c.args.suspect.now c.push.new.self new.suspects new.pending.stale true c.in-Some.distance c.links_out_of.result.now
+    (judged_lost c.args.graph.now old lost s.suspects s.pending.stale c.args.suspect.now c.push.new.self new.suspects new.pending.stale true c.in-Some.distance c.links_from_at.result.now
     not_yet
     (sym c.in-Some.ensures.value)
     (λ supported. let yes = c.in_ok-is_supported.ensures.1 supported in let no = c.if-branch.false in absurd cc)
-    c.links_out_of.ensures.exact (inl (refl, c.in_ok-push.ensures.pushed, not_yet)) (within_lost lost c.push.new.self s.suspects s.pending.stale c.args.suspect.now c.requires.within c.requires.stale c.in_ok-push.ensures.pushed)
-    (subst (λ (r : ℕ). AreToldOf (IsHead (MaySupport r old c.in-Some.distance) c.links_out_of.result.now) c.push.new.self s.pending.stale new.pending.stale s.suspects new.suspects) c.root.ensures.value told)))
+    c.links_from_at.ensures.exact (inl (refl, c.in_ok-push.ensures.pushed, not_yet)) (within_lost lost c.push.new.self s.suspects s.pending.stale c.args.suspect.now c.requires.within c.requires.stale c.in_ok-push.ensures.pushed)
+    (subst (λ (r : ℕ). AreToldOf (IsHead (MaySupport r old c.in-Some.distance) c.links_from_at.result.now) c.push.new.self s.pending.stale new.pending.stale s.suspects new.suspects) c.root.ensures.value told)))

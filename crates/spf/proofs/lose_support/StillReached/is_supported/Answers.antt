@@ -19,11 +19,11 @@ decided_by (Some place) A N Q some none shows denies = (λ t. shows some, λ q. 
 pub returns-in-Some : goal.returns-in-Some
 returns-in-Some c =
     let old = get c.args.self.distances.now in
-    let links = c.links_into-links.result.now in
+    let links = c.links_to_at-links.result.now in
     let others = c.split_at.result.1.now in
     let parts : links ≡ c.split_at.result.0.now ++ others = sym (take-append-drop c.min-start.result links) ∙ (λ i. sym c.split_at.ensures.front i ++ sym c.split_at.ensures.back i) in
     let found = c.in-Some.ensures.found in (
-      λ t. supported_by c.args.graph.now old c.args.self.lost.now c.args.vertex.now c.args.distance links c.links_into-links.ensures.exact found.0
+      λ t. supported_by c.args.graph.now old c.args.self.lost.now c.args.vertex.now c.args.distance links c.links_to_at-links.ensures.exact found.0
           (subst (λ (ls : List Link). Contains ls found.0) (sym parts) (Contains-append_right c.split_at.result.0.now others found.0 found.1)) found.2,
       λ s. refl,
     )
@@ -31,7 +31,7 @@ returns-in-Some c =
 pub returns : goal.returns
 returns c =
     let old = get c.args.self.distances.now in
-    let links = c.links_into-links.result.now in
+    let links = c.links_to_at-links.result.now in
     let passed = c.split_at.result.0.now in
     let others = c.split_at.result.1.now in
     let parts : links ≡ passed ++ others = sym (take-append-drop c.min-start.result links) ∙ (λ i. sym c.split_at.ensures.front i ++ sym c.split_at.ensures.back i) in
@@ -39,6 +39,6 @@ returns c =
     subst (λ b. IsTrue b ↔ Q) (sym c.is_some.ensures)
     (decided_by c.find_support-2.result ((l : Link) × Contains passed l × Supports old c.args.self.lost.now c.args.distance l) (All (λ l. Supports old c.args.self.lost.now c.args.distance l → ⊥) passed) Q
     c.find_support-2.ensures.found c.find_support-2.ensures.none
-    (λ found. supported_by c.args.graph.now old c.args.self.lost.now c.args.vertex.now c.args.distance links c.links_into-links.ensures.exact found.0
+    (λ found. supported_by c.args.graph.now old c.args.self.lost.now c.args.vertex.now c.args.distance links c.links_to_at-links.ensures.exact found.0
     (subst (λ (ls : List Link). Contains ls found.0) (sym parts) (Contains-append_left passed others found.0 found.1)) found.2)
-    (λ none. unsupported c.args.graph.now old c.args.self.lost.now c.args.vertex.now c.args.distance links c.links_into-links.ensures.exact passed others parts none c.in_default.ensures.none))
+    (λ none. unsupported c.args.graph.now old c.args.self.lost.now c.args.vertex.now c.args.distance links c.links_to_at-links.ensures.exact passed others parts none c.in_default.ensures.none))

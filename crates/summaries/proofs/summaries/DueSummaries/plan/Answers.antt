@@ -33,15 +33,15 @@ pub returns-clause-kept : goal.returns-clause-kept
 returns-clause-kept c after carried =
     let v = c.args.inputs.now in
     let b = c.requires.before in
-    let touched : List Dest = c.in_ok-touched.touched.items in
+    let affected : List Dest = c.in_ok-affected.affected.items in
     let plans : List AreaPlan = c.in_ok-areas.areas.items in
     let length_is : length c.plan_areas.new.lists ≡ c.self.inside.areas.len = c.plan_areas.auto.lists ∙ ap (λ (ws : List AreaSummariesValue). length ws) c.deref_mut.ensures.value ∙ sym c.self.inside.areas.ok.0 in
     let leads : AllChanged (changes_of plans) c.plan_areas.new.lists after.areas = subst (λ (lists : List AreaSummariesValue). AllChanged (changes_of plans) lists after.areas) (with_items_is c.self.inside.areas c.plan_areas.new.lists length_is) carried.lists in
     let own : c.deref_mut.result.now ≡ c.args.self.now.areas = c.deref_mut.ensures.value ∙ ap (λ (w : DueSummariesValue). w.areas) c.self.view_is in
     let lists : AreListsOf b.0 v.areas c.deref_mut.result.now =
     subst (AreListsOf b.0 v.areas) (sym own) (lists_now b.0 v c.args.self.now.areas b.2.areas b.1.lists) in
-    let named_are : dests_in c.deref-2.result.now ≡ touched = ap dests_in c.deref-2.ensures.value ∙ c.in_ok-find_candidates.ensures.dests ∙ c.deref.ensures.value in
-    let alike : AreDueAlikeBut (dests_in c.deref-2.result.now) b.0 v = subst (λ (ds : List Dest). AreDueAlikeBut ds b.0 v) (sym named_are) (c.in_ok-touched.ensures.enough b.0 b.1 b.2) in
+    let named_are : dests_in c.deref-2.result.now ≡ affected = ap dests_in c.deref-2.ensures.value ∙ c.in_ok-find_candidates.ensures.dests ∙ c.deref.ensures.value in
+    let alike : AreDueAlikeBut (dests_in c.deref-2.result.now) b.0 v = subst (λ (ds : List Dest). AreDueAlikeBut ds b.0 v) (sym named_are) (c.in_ok-affected.ensures.enough b.0 b.1 b.2) in
     record {
       active = carried.active ∙ c.in_ok-active.ensures.ok ∙ ap (λ (w : SummaryInputsValue). w.active) c.inputs.view_is;
       lists = planned_lists v (dests_in c.deref-2.result.now) v.areas c.deref_mut.result.now c.plan_areas.new.lists plans c.in_ok-areas.ensures.planned after.areas leads b.0 alike lists;
@@ -62,9 +62,9 @@ pub returns-then-is_empty-clause-kept : goal.returns-then-is_empty-clause-kept
 returns-then-is_empty-clause-kept c after carried =
     let v = c.args.inputs.now in
     let b = c.requires.before in
-    let touched : List Dest = c.in_ok-touched.touched.items in
-    let none : touched ≡ [] = nil_from_length touched (sym c.in_ok-touched.touched.ok.0 ∙ eqb-true _ 0 (sym c.is_empty.ensures ∙ c.if-is_empty.true)) in
-    let alike : AreDueAlikeBut [] b.0 v = subst (λ (ds : List Dest). AreDueAlikeBut ds b.0 v) none (c.in_ok-touched.ensures.enough b.0 b.1 b.2) in
+    let affected : List Dest = c.in_ok-affected.affected.items in
+    let none : affected ≡ [] = nil_from_length affected (sym c.in_ok-affected.affected.ok.0 ∙ eqb-true _ 0 (sym c.is_empty.ensures ∙ c.if-is_empty.true)) in
+    let alike : AreDueAlikeBut [] b.0 v = subst (λ (ds : List Dest). AreDueAlikeBut ds b.0 v) none (c.in_ok-affected.ensures.enough b.0 b.1 b.2) in
     let same : after.areas ≡ c.args.self.now.areas = subst (λ (ps : List AreaPlan). AllChanged (changes_of ps) c.args.self.now.areas after.areas) c.new-areas.ensures.items carried.lists in
     record {
       active = carried.active ∙ c.in_ok-active.ensures.ok ∙ ap (λ (w : SummaryInputsValue). w.active) c.inputs.view_is;

@@ -1,6 +1,0 @@
--- the first networks are gone through
-use Rattle.event_core.proofs.OtherItems.{AreOthersTo}
-use Rattle.event_core.proofs.routes.TableBehind.other_items.Given as goal
-
-abbrev pub invariant-loop-network : goal.invariant-loop-network
-invariant-loop-network l = AreOthersTo l.self.calculation.now l.self.table.now.items l.networks l.network-index l.items.items

@@ -1,0 +1,71 @@
+//! What an event may change, known before it is taken.
+ghost use Rattle.std.specs.Prelude.{◌≡◌, IfOk, IfErr, is_some};
+ghost use Rattle.event_state.specs.Refusals.{IsRefusalOf};
+ghost use Rattle.event_state.specs.Steps.{step};
+ghost use Rattle.calculation.specs.Active.{RangesDifferAt};
+ghost use Rattle.calculation.specs.Trees.{StatesDifferAmong};
+ghost use Rattle.event_core.specs.Affected.{IsNamedBetween, IsRangeNamedBetween, range_of};
+
+use event_state::{Event, Refusal, State};
+use ospf_types::key::{Key, Scope};
+use ospf_types::memory::Memory;
+use ospf_types::prefix::Prefix;
+use std::alloc::Global;
+
+/// The LSAs and the interfaces that an event may change, the ones or the others, or the range.
+#[derive(Drop)]
+pub(crate) struct Affected {
+    pub(crate) keys: Vec<(Scope, Key)>,
+    pub(crate) interfaces: Vec<u8>,
+    // Its Area ID and its prefix.
+    pub(crate) range: Option<(u32, Prefix)>,
+}
+
+/// What the event may change, or its refusal where there is no room to say it.
+pub(crate) fn affected_by(alloc: Global, state: &State, event: &Event) -> Result<Affected, Refusal>
+    ensures named { IfOk result (λ named.
+        IsNamedBetween named state.now (step state.now event.now)) }
+    ensures ranges { IfOk result (λ named.
+        IsRangeNamedBetween named state.now (step state.now event.now)) }
+    ensures range { IfOk result (λ named. named.range ≡ range_of event.now) }
+    ensures refused { IfErr result (IsRefusalOf state.now event.now) }
+{
+    match changed_by(alloc, state, event) {
+        Ok(named) => Ok(named),
+        Err(Memory) => Err(state.refusal(event).unwrap_or(Refusal::Memory)),
+    }
+}
+
+fn changed_by(alloc: Global, state: &State, event: &Event) -> Result<Affected, Memory>
+    ensures named { IfOk result (λ named.
+        IsNamedBetween named state.now (step state.now event.now)) }
+    ensures ranges { IfOk result (λ named.
+        IsRangeNamedBetween named state.now (step state.now event.now)) }
+    ensures range { IfOk result (λ named. named.range ≡ range_of event.now) }
+{
+    if let Event::Interface { id, .. } = event {
+        return Ok(Affected {
+            keys: Vec::new(alloc),
+            interfaces: Vec::from_slice(alloc, &[*id])?,
+            range: None,
+        });
+    }
+    Ok(Affected {
+        keys: state.named(alloc, event)?,
+        interfaces: Vec::new(alloc),
+        range: range_of(event),
+    })
+}
+
+// The range that the event sets or drops.
+fn range_of(event: &Event) -> Option<(u32, Prefix)>
+    ensures { result ≡ range_of event.now }
+{
+    match event {
+        Event::RangeSet { area, prefix, .. } | Event::RangeDrop { area, prefix } => {
+            Some((*area, *prefix))
+        }
+        Event::Install { .. } | Event::Flush { .. } | Event::Purge { .. } => None,
+        Event::Interface { .. } | Event::Second => None,
+    }
+}

@@ -1,0 +1,71 @@
+//! Which LSAs an event may bring into use, take out of use or change, known before it is taken.
+ghost use Rattle.std.specs.Prelude.{◌≡◌, ◌++◌, [], ◌∷◌, IfOk, OnOk};
+ghost use Rattle.event_state.specs.Affected.{AreListed, IsAmong, NamesAll, with_scope};
+
+use crate::event::Event;
+use crate::state::State;
+use ospf_types::key::{Key, Scope};
+use ospf_types::lsa::MAX_AGE;
+use ospf_types::memory::Memory;
+use std::alloc::Global;
+
+impl State {
+    /// The keys of the LSAs that the event may bring into use, take out of use or change, each with its
+    /// scope: that of its LSA, or of each LSA that a second brings to MaxAge (RFC 2328, 14).
+    pub fn named(&self, alloc: Global, event: &Event) -> Result<Vec<(Scope, Key)>, Memory>
+        ensures { IfOk result (λ named. NamesAll self.now event.now named.items) }
+    {
+        match event {
+            Event::Install { scope, lsa } => one(alloc, *scope, lsa.key()),
+            Event::Flush { scope, key } | Event::Purge { scope, key } => one(alloc, *scope, *key),
+            Event::Interface { .. } | Event::RangeSet { .. } | Event::RangeDrop { .. } => {
+                Ok(Vec::new(alloc))
+            }
+            Event::Second => self.coming(alloc),
+        }
+    }
+
+    // Those that a second brings to MaxAge, of each area and of the AS.
+    fn coming(&self, alloc: Global) -> Result<Vec<(Scope, Key)>, Memory>
+        ensures { IfOk result (λ named. (at : Scope) → AreListed named.items self.now at) }
+    {
+        let mut named = Vec::new(alloc);
+        for area in self.config().areas.as_slice() {
+            self.add_coming(Scope::Area(area.id), &mut named)?;
+        }
+        self.add_coming(Scope::As, &mut named)?;
+        Ok(named)
+    }
+
+    // Those of one scope.
+    fn add_coming(&self, scope: Scope, named: &mut Vec<(Scope, Key)>) -> Result<(), Memory>
+        ensures kept { OnOk result (IsAmong named.old.items named.new.items) }
+        ensures listed { OnOk result (AreListed named.new.items self.now scope) }
+    {
+        let Some(database) = self.database(scope) else {
+            return Ok(());
+        };
+        if database.len() == 0 {
+            return Ok(());
+        }
+        let mut keys = Vec::new(*named.allocator());
+        database.at_age(MAX_AGE - 1, &mut keys)?;
+        add_all(scope, &keys, named)
+    }
+}
+
+fn one(alloc: Global, scope: Scope, key: Key) -> Result<Vec<(Scope, Key)>, Memory>
+    ensures { IfOk result (λ named. named.items ≡ (scope, key) ∷ []) }
+{
+    Ok(Vec::from_slice(alloc, &[(scope, key)])?)
+}
+
+// Adds the keys, each with the scope, at the end.
+fn add_all(scope: Scope, keys: &[Key], named: &mut Vec<(Scope, Key)>) -> Result<(), Memory>
+    ensures { OnOk result (named.new.items ≡ named.old.items ++ with_scope scope keys.now) }
+{
+    for key in keys {
+        named.push((scope, *key))?;
+    }
+    Ok(())
+}

@@ -1,5 +1,0 @@
-use Rattle.std.proofs.Common.{length, ◌-◌}
-use Rattle.graph_links.proofs.places.below.Given as goal
-
-abbrev pub decreases-loop-past : goal.decreases-loop-past
-decreases-loop-past l = length l.links - l.past

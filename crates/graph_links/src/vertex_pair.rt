@@ -1,0 +1,196 @@
+//! The links from one vertex to another.
+ghost use Rattle.std.specs.Prelude.{◌≡◌, ◌<◌, length, OnOk, IsOk, IfOk};
+ghost use Rattle.ospf_types.specs.declared.label.Label.TheVariants.{At};
+ghost use Rattle.graph_links.specs.Pairs.{AddsBetween, AddsBy, AddsOnce, AddsOnto, AddsOver, AddsPlain, AreCheap, KeepsApart, details_of, link_by, turned};
+
+use crate::link_end::LinkEnd;
+use crate::label::LinkLabel;
+use crate::link::{Link, Up};
+use crate::parallel_links::{ParallelLink, ways_over};
+use ospf_types::entry::Vertex;
+use ospf_types::listed::Listed;
+use ospf_types::memory::Memory;
+use std::alloc::Global;
+use vertex_map::HintedVertex;
+
+/// A vertex, the place of its row, and the ends of its LSA that are at another.
+#[derive(Clone, Copy)]
+pub(crate) struct Facing<'a> {
+    pub(crate) vertex: Vertex,
+    pub(crate) place: u32,
+    pub(crate) ends: &'a [LinkEnd],
+}
+
+/// What the links of a router rest on beside LSAs: the Router ID of the root, and its interfaces.
+#[derive(Clone, Copy)]
+pub struct RootInterfaces<'a> {
+    pub root: u32,
+    pub interfaces: &'a [Up],
+}
+
+/// Two vertices that name each other: links lead from the one to the other.
+#[derive(Clone, Copy)]
+pub(crate) struct VertexPair<'a> {
+    pub(crate) local: RootInterfaces<'a>,
+    pub(crate) from: Facing<'a>,
+    pub(crate) to: Facing<'a>,
+}
+
+impl<'a> VertexPair<'a> {
+    /// The pair seen from the other vertex.
+    pub(crate) fn turned(self) -> VertexPair<'a>
+        ensures { result ≡ turned self.entry }
+    {
+        VertexPair {
+            local: self.local,
+            from: self.to,
+            to: self.from,
+        }
+    }
+
+    /// Lists the links from the one vertex to the other, each once.
+    pub(crate) fn list_links(&self, alloc: Global, links: &mut Vec<Link>) -> Result<(), Memory>
+        ensures listed { OnOk result (AddsBetween self.now links.old.items links.new.items) }
+        ensures cheap { OnOk result (AreCheap links.old.items → AreCheap links.new.items) }
+        ensures apart { OnOk result
+            (KeepsApart self.now.from.vertex self.now.to.vertex links.old.items links.new.items) }
+    {
+        match self.from.vertex {
+            Vertex::Router(router) => self.list_from_router(alloc, router, links),
+            Vertex::Network(_) => self.list_from_network(alloc, links),
+        }
+    }
+
+    // Lists the links of a router by its ways over its ends at the other vertex. Mostly it has one.
+    fn list_from_router(
+        &self,
+        alloc: Global,
+        router: u32,
+        links: &mut Vec<Link>,
+    ) -> Result<(), Memory>
+        ensures listed { OnOk result (AddsOver self.now router links.old.items links.new.items) }
+        ensures cheap { OnOk result (AreCheap links.old.items → AreCheap links.new.items) }
+    {
+        match self.from.ends {
+            [only] if router != self.local.root => self.list_over_end(*only, links),
+            _ => self.list_over_all(alloc, router, links),
+        }
+    }
+
+    // Lists the links of any router by its ways over all its ends at the other vertex.
+    #[inline(never)]
+    fn list_over_all(&self, alloc: Global, router: u32, links: &mut Vec<Link>) -> Result<(), Memory>
+        ensures listed { OnOk result (AddsOver self.now router links.old.items links.new.items) }
+        ensures cheap { OnOk result (AreCheap links.old.items → AreCheap links.new.items) }
+    {
+        let ways = ways_over(alloc, self.local, router, self.from.ends)?;
+        self.list_by_ways(ways.as_slice(), links)
+    }
+
+    // Lists the link of a router other than the root that has this one end at the other vertex, unless the metric is 0.
+    fn list_over_end(&self, end: LinkEnd, links: &mut Vec<Link>) -> Result<(), Memory>
+        ensures listed { OnOk result (AddsPlain self.now end links.old.items links.new.items) }
+        ensures cheap { OnOk result (AreCheap links.old.items → AreCheap links.new.items) }
+    {
+        if end.metric == 0 {
+            return Ok(());
+        }
+        let way = ParallelLink {
+            cost: end.metric,
+            interface: None,
+        };
+        links.push(self.link_by(way))?;
+        Ok(())
+    }
+
+    // Lists the links of a router by these ways.
+    fn list_by_ways(&self, ways: &[ParallelLink], links: &mut Vec<Link>) -> Result<(), Memory>
+        ensures listed { OnOk result (AddsBy self.now ways.now links.old.items links.new.items) }
+        ensures cheap { OnOk result (AreCheap links.old.items → AreCheap links.new.items) }
+    {
+        for way in ways {
+            links.push(self.link_by(*way))?;
+        }
+        Ok(())
+    }
+
+    // The link of a router by this way.
+    fn link_by(&self, way: ParallelLink) -> Link
+        ensures value { result ≡ link_by self.now.from.vertex self.now.to.vertex way }
+        ensures cheap { result.cost < 65536 }
+    {
+        self.link(way.cost, LinkLabel::over(way.interface))
+    }
+
+    // Lists the link of a network, if the other vertex is a router.
+    #[inline(never)]
+    fn list_from_network(&self, alloc: Global, links: &mut Vec<Link>) -> Result<(), Memory>
+        ensures listed { OnOk result (AddsOnto self.now links.old.items links.new.items) }
+        ensures cheap { OnOk result (AreCheap links.old.items → AreCheap links.new.items) }
+        ensures apart { OnOk result
+            (KeepsApart self.now.from.vertex self.now.to.vertex links.old.items links.new.items) }
+    {
+        let Vertex::Router(_) = self.to.vertex else {
+            return Ok(());
+        };
+        let label = label_onto(alloc, self.to.ends)?;
+        // A.4.3: the distance from a network to its routers is zero.
+        links.push(self.link(0, label))?;
+        Ok(())
+    }
+
+    // The link with this cost and label.
+    fn link(&self, cost: u16, label: LinkLabel) -> Link
+        ensures { result ≡ record {
+          from = self.now.from.vertex;
+          to = self.now.to.vertex;
+          cost = cost;
+          label = label;
+        } }
+    {
+        Link {
+            from: HintedVertex::new(self.from.vertex, self.from.place),
+            to: HintedVertex::new(self.to.vertex, self.to.place),
+            cost,
+            label,
+        }
+    }
+}
+
+/// The label of a link of a network to a router that has these ends there. Mostly it has one.
+/// 16.1.1: the Link Data of each link back to the network is the address of a next hop.
+fn label_onto(alloc: Global, ends: &[LinkEnd]) -> Result<LinkLabel, Memory>
+    ensures label { IfOk result (λ label. label ≡ At (details_of ends.now)) }
+
+    // One address takes no memory.
+    ensures one { length ends.now ≡ 1 → IsOk result }
+{
+    match ends {
+        [only] => Ok(LinkLabel::at_one(only.detail)),
+        _ => LinkLabel::at(alloc, each_once(alloc, ends)?),
+    }
+}
+
+/// The Link Data of the ends, without what equals the one before it.
+fn each_once(alloc: Global, ends: &[LinkEnd]) -> Result<Listed<u32>, Memory>
+    ensures { IfOk result (λ details. details ≡ details_of ends.now) }
+{
+    let mut details = Listed::new(alloc);
+    let mut last = None;
+    for end in ends {
+        list_once(&mut details, last, end.detail)?;
+        last = Some(end.detail);
+    }
+    Ok(details)
+}
+
+/// Lists the Link Data unless it is what came last.
+fn list_once(details: &mut Listed<u32>, last: Option<u32>, detail: u32) -> Result<(), Memory>
+    ensures { OnOk result (AddsOnce last detail details.old details.new) }
+{
+    if last == Some(detail) {
+        return Ok(());
+    }
+    details.push(detail)?;
+    Ok(())
+}

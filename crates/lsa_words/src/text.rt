@@ -1,0 +1,39 @@
+//! All of an LSA: the header, then the body by its LS type.
+ghost use Rattle.std.specs.Prelude.{◌≡◌, ◌++◌, OnOk, string_bytes};
+ghost use Rattle.lsa_words.specs.Words.{body_words, words_of};
+
+use crate::external::put_external;
+use crate::header::put_header;
+use crate::network::put_network;
+use crate::router::put_router;
+use crate::summary::put_summary;
+use lsa_codec::Checked;
+use ospf_types::lsa::{ASBR_SUMMARY_LSA, NETWORK_LSA, ROUTER_LSA, SUMMARY_LSA};
+use ospf_types::memory::Memory;
+
+/// Appends the LSA in words, a line for each field, link, attached router and TOS entry, in the
+/// order of its bytes. Ages are in seconds, and the length is in bytes. Options, router bits,
+/// sequence number and checksum are in hexadecimal. If memory runs out, the text may have a part
+/// of this.
+pub fn put_lsa_text(lsa: &Checked, text: &mut String) -> Result<(), Memory>
+    ensures { OnOk result (string_bytes text.new ≡ string_bytes text.old ++ words_of lsa.now) }
+{
+    put_header(&lsa.header(), text)?;
+    put_body(lsa, text)?;
+    Ok(())
+}
+
+fn put_body(lsa: &Checked, text: &mut String) -> Result<(), Memory>
+    ensures { OnOk result (string_bytes text.new ≡ string_bytes text.old
+        ++ body_words lsa.now.body) }
+{
+    let (header, body) = (lsa.header(), lsa.body());
+    match header.kind {
+        ROUTER_LSA => put_router(body, text),
+        NETWORK_LSA => put_network(body, text),
+        SUMMARY_LSA => put_summary(body, text),
+        // A.4.4: the mask of this one is zero.
+        ASBR_SUMMARY_LSA => put_summary(body, text),
+        _ => put_external(body, text),
+    }
+}

@@ -1,0 +1,73 @@
+//! What follows from changes in what is advertised.
+ghost use Rattle.std.specs.Prelude.{◌≡◌, [], OnOk, IsTrue, Contains, option_copied};
+ghost use Rattle.offer_index.specs.AffectedDests.{AreAdded};
+ghost use Rattle.offer_index.specs.Lists.{HasMore};
+
+use crate::advertised::AdvertisedRoute;
+use ospf_types::key::Dest;
+use ospf_types::memory::Memory;
+use std::alloc::Global;
+use std::marker::Model;
+
+/// Destinations and forwarding addresses whose result may differ, in no stated order.
+#[derive(Drop)]
+pub struct AffectedDests {
+    pub dests: Vec<Dest>,
+    pub addresses: Vec<u32>,
+}
+
+impl Model for AffectedDests {
+    ghost use Rattle.offer_index.specs.Indexes.{ChangedOffersValue};
+
+    ghost Value = { ChangedOffersValue };
+
+    ghost view = { λ a. record { dests = a.dests.items; addresses = a.addresses.items } };
+}
+
+impl AffectedDests {
+    /// None.
+    pub fn none(alloc: Global) -> AffectedDests
+        ensures { result ≡ record { dests = []; addresses = [] } }
+    {
+        AffectedDests {
+            dests: Vec::new(alloc),
+            addresses: Vec::new(alloc),
+        }
+    }
+
+    /// Adds the destination of the route, and its forwarding address if it has one.
+    pub(crate) fn add(&mut self, route: Option<&AdvertisedRoute>) -> Result<(), Memory>
+        ensures { OnOk result (AreAdded (option_copied route.entry) self.old self.new) }
+    {
+        let Some(route) = route else {
+            return Ok(());
+        };
+        self.dests.push(route.dest())?;
+        if route.forwarding() == 0 {
+            return Ok(());
+        }
+        push_new(&mut self.addresses, route.forwarding())?;
+        Ok(())
+    }
+}
+
+// Adds the address, unless it was added last.
+pub(crate) fn push_new(addresses: &mut Vec<u32>, address: u32) -> Result<(), Memory>
+    ensures { OnOk result (HasMore (λ a. a ≡ address) addresses.old.items addresses.new.items) }
+{
+    if is_last(addresses.as_slice(), address) {
+        return Ok(());
+    }
+    addresses.push(address)?;
+    Ok(())
+}
+
+// Whether the address was added last.
+fn is_last(addresses: &[u32], address: u32) -> bool
+    ensures { IsTrue result → Contains addresses.now address }
+{
+    match addresses.last() {
+        Some(last) => *last == address,
+        None => false,
+    }
+}

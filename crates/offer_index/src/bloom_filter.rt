@@ -1,0 +1,73 @@
+//! A coarse set of numbers, which tells at little cost that a number is not among them.
+ghost use Rattle.std.specs.Prelude.{◌≡◌, ◌<◌, ◌↔◌, ℕ, IsTrue, OnOk};
+ghost use Rattle.offer_index.specs.BloomFilter.{IsMarked, place_of};
+
+use ospf_types::memory::Memory;
+use std::alloc::Global;
+use std::hash::RandomState;
+use word_hash::WordHash;
+
+// So many places there are, each of which some numbers share.
+const PLACES: usize = 4096;
+
+/// A coarse set of numbers. It has each that was put in, and may have others. The first takes memory for all.
+pub(crate) struct BloomFilter {
+    hashing: WordHash,
+    marks: Vec<bool>,
+}
+
+// proof: one call drops it, in place of a drop of each part wherever one is held.
+impl Drop for BloomFilter {
+    fn drop(self) {
+        let BloomFilter {
+            hashing: _,
+            marks: _marks,
+        } = self;
+    }
+}
+
+impl BloomFilter {
+    pub(crate) fn new(alloc: Global, hashing: RandomState) -> BloomFilter {
+        BloomFilter {
+            hashing: WordHash::new(hashing),
+            marks: Vec::new(alloc),
+        }
+    }
+
+    /// Puts the number in.
+    pub(crate) fn put(&mut self, number: u32) -> Result<(), Memory>
+        ensures kept { (n : ℕ) → IsMarked self.old n → IsMarked self.new n }
+        ensures there { OnOk result (IsMarked self.new number) }
+    {
+        self.marks.resize(PLACES, false)?;
+        let place = self.place(number);
+        self.marks[place] = true;
+        Ok(())
+    }
+
+    /// Whether the number is in the set, which may have more than was put in.
+    pub(crate) fn has(&self, number: u32) -> bool
+        ensures { IsTrue result ↔ IsMarked self.now number }
+    {
+        // Where there is none, nothing is hashed.
+        if self.marks.is_empty() {
+            return false;
+        }
+        match self.marks.get(self.place(number)) {
+            Some(mark) => *mark,
+            None => false,
+        }
+    }
+
+    pub(crate) fn clear(&mut self) {
+        self.marks.clear();
+    }
+
+    // The place of the number.
+    fn place(&self, number: u32) -> usize
+        ensures value { result ≡ place_of self.now number }
+        ensures bounded { result < 4096 }
+    {
+        (self.hashing.hash_word(u64::from(number)) % 4096) as usize
+    }
+}

@@ -1,0 +1,15 @@
+-- Why a look saw nothing.
+use Rattle.std.specs.Prelude.{◌≡◌, ◌<◌, length}
+use Rattle.publication.specs.Forwarders.{ForwarderValue}
+use Rattle.publication.specs.declared.lookup_error.LookupError.{LookupError}
+use Rattle.publication.specs.declared.lookup_error.LookupError.TheVariants.{NoEntry, Shorter}
+
+-- the one that comes back
+abbrev pub forwarder_in : LookupError → ForwarderValue
+forwarder_in (NoEntry f) = f
+forwarder_in (Shorter f told) = f
+
+-- The forwarder comes back as it was. Where a table was shown, its list is shorter than what the forwarder knows
+abbrev pub IsLookupError : ForwarderValue → LookupError → Type 0
+IsLookupError f (NoEntry g) = g ≡ f
+IsLookupError f (Shorter g told) = (g ≡ f) × (told.name ≡ f.name) × (length told.list < length f.known)

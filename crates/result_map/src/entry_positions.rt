@@ -1,0 +1,110 @@
+//! Where results stand among the entries, so that a key is hashed once where its result is chosen anew.
+ghost use Rattle.std.specs.Prelude.{◌≡◌, ◌↔◌, None, Some, IfNone, IfOk, IfSome, IsTrue, OnErr, OnOk};
+ghost use Rattle.result_map.specs.Results.{OthersUnchanged, StandsAt, ReportsDifference, ReportsSame, result_in};
+
+use crate::keys::ResultKey;
+use crate::same::Same;
+use indexmap::IndexMap;
+use ospf_types::memory::Memory;
+use word_hash::WordHash;
+
+/// Where the result of the key stands.
+pub(crate) fn place_of<K: ResultKey, V>(entries: &IndexMap<K, V, WordHash>, key: K) -> Option<usize>
+    ensures at { IfSome result (StandsAt K.order entries.now.entries key) }
+    ensures none { IfNone result (result_in K.order entries.now.entries key ≡ None) }
+{
+    // Where there are none, nothing is hashed.
+    if entries.is_empty() {
+        return None;
+    }
+    match entries.get_full(&key) {
+        Some((place, _, _)) => Some(place),
+        None => None,
+    }
+}
+
+/// This is the result at the key from now on, which stands at the place, where it has one. The answer tells whether it
+/// differs from the one before. If memory runs out, nothing changes.
+pub(crate) fn exchange<K: ResultKey, V: Same + Drop>(
+    entries: &mut IndexMap<K, V, WordHash>,
+    place: Option<usize>,
+    key: K,
+    fresh: Option<V>,
+) -> Result<bool, Memory>
+    requires at { IfSome place (StandsAt K.order entries.old.entries key) }
+    requires none { IfNone place (result_in K.order entries.old.entries key ≡ None) }
+    ensures here { OnOk result (result_in K.order entries.new.entries key ≡ fresh) }
+    ensures others { OnOk result (OthersUnchanged (result_in K.order entries.old.entries)
+        (result_in K.order entries.new.entries) key) }
+    ensures differs { IfOk result (ReportsDifference (result_in K.order entries.old.entries)
+        (result_in K.order entries.new.entries) key) }
+    ensures stays { IfOk result (ReportsSame (result_in K.order entries.old.entries)
+        (result_in K.order entries.new.entries) key) }
+    ensures err { OnErr result (entries.new.entries ≡ entries.old.entries) }
+{
+    match (place, fresh) {
+        (Some(place), Some(fresh)) => Ok(write(entries, place, key, fresh)),
+        (Some(place), None) => {
+            take_out(entries, place, key);
+            Ok(true)
+        }
+        (None, Some(fresh)) => {
+            entries.insert(key, fresh)?;
+            Ok(true)
+        }
+        (None, None) => Ok(false),
+    }
+}
+
+// This is the result at the key from now on, which has one at the place. The answer tells whether it differs from that.
+fn write<K: ResultKey, V: Same + Drop>(
+    entries: &mut IndexMap<K, V, WordHash>,
+    place: usize,
+    key: K,
+    fresh: V,
+) -> bool
+    requires { StandsAt K.order entries.old.entries key place }
+    ensures here { result_in K.order entries.new.entries key ≡ Some fresh }
+    ensures others { OthersUnchanged (result_in K.order entries.old.entries)
+        (result_in K.order entries.new.entries) key }
+    ensures differs { ReportsDifference (result_in K.order entries.old.entries)
+        (result_in K.order entries.new.entries) key result }
+    ensures stays { ReportsSame (result_in K.order entries.old.entries)
+        (result_in K.order entries.new.entries) key result }
+{
+    let stays = stands_at(entries, place, key, &fresh);
+    // proof: no key stands twice.
+    let _ = entries.len();
+    // Written where the result stays too: beside it, it may tell where to look first.
+    entries[place] = fresh;
+    !stays
+}
+
+// Whether the result at the key, which stands at the place, is this one.
+fn stands_at<K: ResultKey, V: Same>(
+    entries: &IndexMap<K, V, WordHash>,
+    place: usize,
+    key: K,
+    fresh: &V,
+) -> bool
+    requires { StandsAt K.order entries.now.entries key place }
+    ensures { IsTrue result ↔ (result_in K.order entries.now.entries key ≡ Some fresh.now) }
+{
+    match entries.get_index(place) {
+        Some((_, standing)) => standing.is_same(fresh),
+        None => false,
+    }
+}
+
+// The key, whose result stands at the place, has none from now on. The last entry takes the place.
+fn take_out<K: ResultKey, V: Drop>(entries: &mut IndexMap<K, V, WordHash>, place: usize, key: K)
+    requires { StandsAt K.order entries.old.entries key place }
+    ensures here { result_in K.order entries.new.entries key ≡ None }
+    ensures others { OthersUnchanged (result_in K.order entries.old.entries)
+        (result_in K.order entries.new.entries) key }
+{
+    match entries.swap_remove_index(place) {
+        Some(_taken) => {}
+        None => {}
+    }
+}

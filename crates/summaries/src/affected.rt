@@ -1,0 +1,99 @@
+//! The destinations whose summaries may differ.
+ghost use Rattle.std.specs.Prelude.{◌↔◌, Contains, IsFalse, IsTrue, IfOk, OnOk};
+ghost use Rattle.std.specs.List.Sorted.{IsStrictlySortedBy};
+ghost use Rattle.ospf_types.specs.declared.key.Dest.{Dest as DestValue};
+ghost use Rattle.ospf_types.specs.Keys.{dest_cmp};
+ghost use Rattle.result_map.specs.Lists.{GainsAll, HasAll, ListsExactly};
+ghost use Rattle.summaries.specs.Changes.{HasAllDue};
+ghost use Rattle.summaries.specs.Touched.{IsTouchedBy, IsOver, IsOverIn, IsNetIn};
+
+use crate::giving::default_network;
+use crate::inputs::SummaryInputs;
+use ospf_types::config::AreaConfig;
+use ospf_types::key::Dest;
+use ospf_types::memory::Memory;
+use ospf_types::prefix::Prefix;
+use result_map::{add_networks, add_routers};
+use std::alloc::Global;
+
+/// The named destinations, and the prefixes of the ranges that have one of the named networks; ascending, each once.
+pub(crate) fn affected(
+    alloc: Global,
+    areas: &[AreaConfig],
+    dests: &[Dest],
+) -> Result<Vec<Dest>, Memory>
+    ensures in_order { IfOk result (λ found. IsStrictlySortedBy dest_cmp found.items) }
+    ensures enough { IfOk result (λ found. HasAll (IsTouchedBy areas.now dests.now) found.items) }
+{
+    let mut found = Vec::from_slice(alloc, dests)?;
+    for area in areas {
+        push_ranges_of(area, dests, &mut found)?;
+    }
+    ascending(found)
+}
+
+/// The destinations, ascending, each once. Those that stand in order already cost little.
+pub(crate) fn ascending(mut dests: Vec<Dest>) -> Result<Vec<Dest>, Memory>
+    ensures in_order { IfOk result (λ found. IsStrictlySortedBy dest_cmp found.items) }
+    ensures same { IfOk result (λ found. ListsExactly (Contains dests.items) found.items) }
+{
+    dests.sort()?;
+    dests.dedup();
+    Ok(dests)
+}
+
+// Adds the prefixes of the area's ranges that have one of the networks.
+fn push_ranges_of(area: &AreaConfig, dests: &[Dest], found: &mut Vec<Dest>) -> Result<(), Memory>
+    ensures { OnOk result
+        (GainsAll (IsOverIn area.now.ranges dests.now) found.old.items found.new.items) }
+{
+    for range in area.ranges.as_slice() {
+        push_range(range.prefix, dests, found)?;
+    }
+    Ok(())
+}
+
+// Adds the prefix, where it covers one of the networks.
+fn push_range(prefix: Prefix, dests: &[Dest], found: &mut Vec<Dest>) -> Result<(), Memory>
+    ensures { OnOk result (GainsAll (IsOver dests.now prefix) found.old.items found.new.items) }
+{
+    if !covers_one(prefix, dests) {
+        return Ok(());
+    }
+    found.push(Dest::Net(prefix))?;
+    Ok(())
+}
+
+// Whether the prefix covers one of the networks.
+fn covers_one(prefix: Prefix, dests: &[Dest]) -> bool
+    ensures { IsFalse result → (d : DestValue) → Contains dests.now d → IsNetIn prefix d → ⊥ }
+{
+    for dest in dests {
+        if is_covered(prefix, dest) {
+            return true;
+        }
+    }
+    false
+}
+
+// Whether the destination is a network that the prefix covers.
+fn is_covered(prefix: Prefix, dest: &Dest) -> bool
+    ensures { IsTrue result ↔ IsNetIn prefix dest.now }
+{
+    match *dest {
+        Dest::Net(network) => prefix.covers(network),
+        Dest::Router(_) => false,
+    }
+}
+
+/// Each destination that is due in an area; and perhaps others.
+pub(crate) fn all(alloc: Global, inputs: &SummaryInputs<'_>) -> Result<Vec<Dest>, Memory>
+    ensures { IfOk result (λ dests. HasAllDue inputs.now dests.items) }
+{
+    let mut dests = inputs.inter.dests(alloc)?;
+    add_networks(&inputs.intra.networks(alloc)?, &mut dests)?;
+    add_networks(&inputs.ranges.prefixes(alloc)?, &mut dests)?;
+    add_routers(&inputs.external.routers(alloc)?, &mut dests)?;
+    dests.push(Dest::Net(default_network()))?;
+    Ok(dests)
+}

@@ -1,0 +1,204 @@
+//! Vertices, each once, in the order in which they were added.
+ghost use Rattle.std.specs.Prelude.{◌≡◌, ◌↔◌, ◌<◌, ◌≤◌, ◌^◌, ◌++◌, ◌∷◌, [], IfNone, IfSome, IsTrue, OnOk, OnErr, IfOk, Contains, Some, length, slice_get};
+ghost use Rattle.tree_parts.specs.VertexSet.{HasNoDoubles, IsAdded, IsWithMember};
+ghost use Rattle.tree_parts.specs.Marks.{IsMarked, AreMarked, AreFound};
+
+use ospf_types::memory::Memory;
+use smallvec::SmallVec;
+use std::alloc::Global;
+use std::marker::Model;
+use vertex_map::{HintedVertex, VertexMap};
+use word_hash::WordHash;
+
+/// A list of vertices has each vertex once, in the order in which they were added. Up to sixteen take no memory.
+pub struct VertexSet {
+    list: SmallVec<HintedVertex, 16>,
+    // Of more than sixteen vertices, at which index of the list each stands. Others may be marked too, and one that is
+    // marked at an index where the list has another is not there. So the list is cleared, and no mark.
+    marks: VertexMap<usize>,
+}
+
+// proof: one call drops it, in place of a drop of each part wherever one is held.
+impl Drop for VertexSet {
+    fn drop(self) {
+        let VertexSet {
+            list: _list,
+            marks: _marks,
+        } = self;
+    }
+}
+
+impl Model for VertexSet {
+    ghost use Rattle.std.specs.Prelude.{List};
+    ghost use Rattle.ospf_types.specs.declared.entry.Vertex.{Vertex};
+    ghost use Rattle.tree_parts.specs.VertexSet.{HasNoDoubles};
+    ghost use Rattle.tree_parts.specs.Marks.{AreFound};
+
+    ghost Value = { List Vertex };
+
+    ghost view = { λ m. m.list.items };
+
+    ghost invariant = { λ m. HasNoDoubles m.list.items × AreFound m.marks m.list.items };
+}
+
+impl VertexSet {
+    /// No vertices.
+    pub fn new(alloc: Global, hashing: WordHash) -> VertexSet
+        ensures { result ≡ [] }
+    {
+        VertexSet {
+            list: SmallVec::new(alloc),
+            marks: VertexMap::new(alloc, hashing),
+        }
+    }
+
+    /// Whether the vertex is there.
+    pub fn has(&self, vertex: &HintedVertex) -> bool
+        ensures { IsTrue result ↔ Contains self.now vertex.now }
+    {
+        let list = self.list.as_slice();
+        if list.len() > 16 {
+            return is_marked(&self.marks, list, vertex);
+        }
+        is_among(list, vertex)
+    }
+
+    /// How many vertices are there.
+    pub fn len(&self) -> usize
+        ensures value { result ≡ length self.now }
+        ensures small { result < 2 ^ 63 }
+    {
+        // proof: of more than sixteen each has its mark.
+        let _ = self.marks.len();
+        self.list.len()
+    }
+
+    /// Lends the vertices, in the order in which they were added.
+    pub fn as_slice(&self) -> &[HintedVertex]
+        ensures value { result.now ≡ self.now }
+        ensures apart { HasNoDoubles self.now }
+    {
+        self.list.as_slice()
+    }
+
+    /// Adds the vertex at the end, unless it is there. The answer is whether it was not.
+    pub fn add(&mut self, vertex: &HintedVertex) -> Result<bool, Memory>
+        ensures end { IfOk result (λ fresh. IsWithMember self.old self.new vertex.now fresh) }
+        ensures added { OnOk result (IsAdded self.old self.new vertex.now) }
+        ensures unchanged { OnErr result (self.new ≡ self.old) }
+    {
+        if self.has(vertex) {
+            return Ok(false);
+        }
+        self.push(vertex)?;
+        Ok(true)
+    }
+
+    /// Adds a vertex that is not there at the end.
+    pub fn push(&mut self, vertex: &HintedVertex) -> Result<(), Memory>
+        requires { Contains self.old vertex.now → ⊥ }
+        ensures pushed { OnOk result (self.new ≡ self.old ++ vertex.now ∷ []) }
+        ensures unchanged { OnErr result (self.new ≡ self.old) }
+    {
+        mark(&mut self.marks, self.list.as_slice(), vertex)?;
+        self.list.push(vertex.copy())?;
+        Ok(())
+    }
+
+    /// Takes the last vertex out.
+    pub fn pop(&mut self) -> Option<HintedVertex>
+        ensures none { IfNone result (self.old ≡ []) }
+        ensures still_none { IfNone result (self.new ≡ []) }
+        ensures last { IfSome result (λ vertex. self.old ≡ self.new ++ vertex ∷ []) }
+    {
+        self.list.pop()
+    }
+
+    /// Takes all vertices out. What memory they have taken stays. Marks stay too, unless there are more than so many.
+    pub fn clear(&mut self, most: usize)
+        ensures { self.new ≡ [] }
+    {
+        self.list.clear();
+        if self.marks.len() > most {
+            self.marks.clear();
+        }
+    }
+}
+
+// Whether the vertex is one of these. All are compared.
+fn is_among(list: &[HintedVertex], vertex: &HintedVertex) -> bool
+    ensures { IsTrue result ↔ Contains list.now vertex.now }
+{
+    for other in list {
+        if is_same(other, vertex) {
+            return true;
+        }
+    }
+    false
+}
+
+// Whether the list has the vertex where it is marked.
+fn is_marked(marks: &VertexMap<usize>, list: &[HintedVertex], vertex: &HintedVertex) -> bool
+    ensures { IsTrue result ↔ IsMarked marks.now list.now vertex.now }
+{
+    match marks.get(vertex) {
+        Some(index) => stands_at(list, *index, vertex),
+        None => false,
+    }
+}
+
+fn stands_at(list: &[HintedVertex], index: usize, vertex: &HintedVertex) -> bool
+    ensures { IsTrue result ↔ (slice_get list.now index ≡ Some vertex.now) }
+{
+    match list.get(index) {
+        Some(other) => is_same(other, vertex),
+        None => false,
+    }
+}
+
+// Whether both are one vertex, whatever their places are.
+fn is_same(one: &HintedVertex, other: &HintedVertex) -> bool
+    ensures { IsTrue result ↔ (one.now ≡ other.now) }
+{
+    one.vertex() == other.vertex()
+}
+
+// Marks a vertex that is to follow these, if they are sixteen or more, and with the next one the sixteen before it.
+fn mark(marks: &mut VertexMap<usize>, list: &[HintedVertex], vertex: &HintedVertex) -> Result<(), Memory>
+    requires apart { HasNoDoubles list.now }
+    requires fresh { Contains list.now vertex.now → ⊥ }
+    requires found { AreFound marks.old list.now }
+    ensures grown { OnOk result (AreFound marks.new (list.now ++ vertex.now ∷ [])) }
+    ensures still { AreFound marks.new list.now }
+{
+    if list.len() < 16 {
+        return Ok(());
+    }
+    if list.len() > 16 {
+        return mark_next(marks, list, vertex);
+    }
+    mark_all(marks, list)?;
+    mark_next(marks, list, vertex)
+}
+
+// Marks a vertex that is to follow these.
+fn mark_next(marks: &mut VertexMap<usize>, list: &[HintedVertex], vertex: &HintedVertex) -> Result<(), Memory>
+    requires fresh { Contains list.now vertex.now → ⊥ }
+    requires marked { AreMarked marks.old list.now }
+    ensures grown { OnOk result (AreMarked marks.new (list.now ++ vertex.now ∷ [])) }
+    ensures still { AreMarked marks.new list.now }
+{
+    marks.insert(vertex, list.len())?;
+    Ok(())
+}
+
+// Marks each of these with its index.
+fn mark_all(marks: &mut VertexMap<usize>, list: &[HintedVertex]) -> Result<(), Memory>
+    requires { HasNoDoubles list.now }
+    ensures { OnOk result (AreMarked marks.new list.now) }
+{
+    for (index, vertex) in list.iter().enumerate() {
+        marks.insert(vertex, index)?;
+    }
+    Ok(())
+}
