@@ -1,11 +1,12 @@
-//! How many lines an input has.
+//! The number of lines of an input.
 ghost use Rattle.std.specs.Prelude.{◌≡◌, ◌<◌, IfSome, length};
 ghost use Rattle.abr.specs.Counting.{CountsLines, line_feeds};
 
 use std::io;
 use std::io::Read;
 
-/// Counts the line feeds that come up to the end, by reads into `window`. None if the input cannot be read.
+/// Returns the number of line feeds up to the end of the input, or `None` if it cannot be read. It
+/// reads into `window`.
 pub fn count_lines<R: Read>(input: &mut R, window: &mut [u8]) -> Option<usize>
     requires { 0 < length window.now }
     ensures { IfSome result (CountsLines (R.remaining input.old) (R.remaining input.new)) }

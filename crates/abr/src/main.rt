@@ -1,6 +1,8 @@
-//! The program `abr`: the databases and the routing table of an OSPF area border router (RFC 2328) from
-//! the command line. What its words mean, and what is written, `abr_cli` says; here is what it needs of
-//! the system.
+//! The program `abr`: the databases and the routing table of an OSPF area border router (RFC 2328)
+//! from the command line.
+//!
+//! `abr_cli` has the meaning of its words, and its output. This crate has what it needs of the
+//! system.
 #![tactic(auto)]
 
 mod beginning;
@@ -32,7 +34,7 @@ fn main(rt: HostRuntime) -> io::Result<ExitCode> {
     Ok(ExitCode::from(status))
 }
 
-// Does what the words ask for, with threads from `threads`. What is returned is the status.
+// Carries out what the words ask for, with threads from `threads`. Returns the status.
 fn status<S: Threads + Wait + Sync>(rt: &HostRuntime, threads: &S) -> io::Result<u8> {
     let all: Vec<String> = std::env::args(rt)?.collect(rt.alloc())?;
     let mut words = Vec::new(rt.alloc());

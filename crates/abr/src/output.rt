@@ -1,4 +1,4 @@
-//! A file that an answer is written to: whole, or not at all.
+//! Files that an output is written to: whole, or not at all.
 
 use abr_cli::{CommandFault, say_fault};
 use std::fs::{File, OpenOptions};
@@ -6,12 +6,15 @@ use std::io::{Stderr, Write};
 use std::path::PathBuf;
 use std::{fs, io};
 
-// How many names of new files are tried.
+// The number of names that are tried for a new file.
 const MOST_TRIALS: u32 = 100;
 
-/// A file, by the name that was given. It is opened at the first write. Where it is a regular file, or there is none, a new file
-/// beside it is written, and takes its place once the answer is whole; until then it stays as it was. A symbolic link is followed,
-/// and stays. A device or a pipe is written to as it is, and so is what a link would lead to that leads nowhere.
+/// A file by the name that was given, opened at the first write.
+///
+/// If it is a regular file, or there is none, a new file is written in the same folder. It replaces
+/// the old file once the output is whole, and until then the old file is unchanged. A symbolic link
+/// is followed, and stays. A device or a pipe is written to directly, and so is the target of a
+/// link if it does not exist.
 #[derive(Drop)]
 pub struct Output<'a> {
     rt: &'a HostRuntime,
@@ -19,15 +22,15 @@ pub struct Output<'a> {
     opened: Option<Opened>,
 }
 
-// What is open.
+// The open output.
 #[derive(Drop)]
 enum Opened {
-    // What is written to as it is.
+    // A file that is written to directly.
     Direct(File),
     Beside(Beside),
 }
 
-// A new file, its name, and that of the file whose place it takes, in one folder.
+// A new file, its name, and the name of the file that it replaces, in one folder.
 #[derive(Drop)]
 struct Beside {
     file: File,
@@ -36,6 +39,7 @@ struct Beside {
 }
 
 impl<'a> Output<'a> {
+    /// Creates the output. Nothing is opened yet.
     pub fn new(rt: &'a HostRuntime, name: &'a str) -> Output<'a> {
         Output {
             rt,
@@ -44,8 +48,10 @@ impl<'a> Output<'a> {
         }
     }
 
-    /// Ends the writing. Where the status is 0, the new file takes its place, and else it is removed. Where it cannot take its
-    /// place, that is said in `faults`. What is returned is the status.
+    /// Ends the writing, and returns the status.
+    ///
+    /// If the status is 0, a new file replaces the old one, or else it is removed. If it cannot
+    /// replace the old one, a line on `faults` says so.
     pub fn end(self, status: u8, faults: &mut Stderr) -> u8 {
         let Output { rt, name, opened } = self;
         match opened {
@@ -76,14 +82,14 @@ impl Write for Output<'_> {
     }
 }
 
-// Opens what the answer is written to.
+// Opens the output.
 fn open(rt: &HostRuntime, name: &str) -> io::Result<Opened> {
     if is_stream(name) {
         return Ok(Opened::Direct(open_direct(rt, name, false)?));
     }
     match fs::metadata(rt, name) {
         Ok(old) if old.is_file() => {
-            // (a file that may not be written is not replaced)
+            // This fails for a file that may not be written, so such a file is not replaced.
             open_direct(rt, name, false)?;
             let beside = Beside::create(rt, fs::canonicalize(rt, name)?)?;
             beside.file.set_permissions(old.permissions())?;
@@ -101,12 +107,13 @@ fn open(rt: &HostRuntime, name: &str) -> io::Result<Opened> {
     }
 }
 
-// Whether the name is that of a file that is open already, of this process or of another, whatever it leads to.
+// Returns true if the name is a name of an open file of this process or of another, whatever the
+// file is.
 fn is_stream(name: &str) -> bool {
     name.starts_with("/dev/std") || name.starts_with("/dev/fd/") || name.starts_with("/proc/")
 }
 
-// Opens what is there, to write behind what it has.
+// Opens the file to append to its contents.
 fn open_direct(rt: &HostRuntime, name: &str, creates: bool) -> io::Result<File> {
     OpenOptions::new()
         .append(true)
@@ -115,7 +122,8 @@ fn open_direct(rt: &HostRuntime, name: &str, creates: bool) -> io::Result<File> 
 }
 
 impl Beside {
-    // Creates a new file beside the target: its name, and behind it `.part`, or `.part2` and so on where there is that.
+    // Creates a new file in the folder of the target. Its name is the name of the target with
+    // `.part` appended, or `.part2` and so on if that is taken.
     fn create(rt: &HostRuntime, target: PathBuf) -> io::Result<Beside> {
         for trial in 1..=MOST_TRIALS {
             let name = part_name(rt, target.as_str(), trial)?;
@@ -128,7 +136,7 @@ impl Beside {
         Err(io::Error::from(io::ErrorKind::AlreadyExists))
     }
 
-    // Puts the file in the place of the target, once the system has it on its disk, or removes it.
+    // Replaces the target by the file once the system has it on its disk, or removes the file.
     fn end(self, rt: &HostRuntime, is_whole: bool) -> io::Result<()> {
         let Beside { file, name, target } = self;
         if is_whole {
@@ -148,7 +156,7 @@ fn place(rt: &HostRuntime, file: &File, name: &str, target: &str) -> io::Result<
     fs::rename(rt, name, target)
 }
 
-// Removes a file that is not whole. Where that fails, it stays under its name, and nothing is lost.
+// Removes a file that is not whole. If that fails, it stays under its name, and nothing is lost.
 fn remove(rt: &HostRuntime, name: &str) {
     if fs::remove_file(rt, name).is_err() {}
 }

@@ -1,4 +1,4 @@
-//! How much of a recording is done: whether it is shown, and how many lines there are.
+//! The progress of a command, and the number of lines of its recording.
 
 use crate::counting::count_lines;
 use crate::sink::Sink;
@@ -7,11 +7,13 @@ use std::fs;
 use std::fs::File;
 use std::io::IsTerminal;
 
-// How many bytes are read at once.
+// The number of bytes that are read at a time.
 const WINDOW: usize = 65_536;
 
-/// It is shown of its own accord where standard error is a terminal, and what the answer is written to is none. The lines of a
-/// file are counted first where it is shown how many of them `changes` has done.
+/// Returns the progress of the job.
+///
+/// It is set to be shown if standard error is a terminal and the output is not. If the progress of
+/// `changes` is shown, the lines of its file are counted first.
 pub fn progress_of(rt: &HostRuntime, job: &Result<Job<'_>, Usage>, out: &Sink<'_>) -> Progress {
     let is_shown = rt.stderr().is_terminal() && !out.is_terminal();
     let all = match job {
@@ -21,7 +23,8 @@ pub fn progress_of(rt: &HostRuntime, job: &Result<Job<'_>, Usage>, out: &Sink<'_
     Progress { is_shown, all }
 }
 
-// How many lines the file has. It is not known of standard input, nor of a pipe or a device, whose bytes come only once.
+// Returns the number of lines of the file. It is not known for standard input, pipes and devices,
+// whose bytes come only once.
 fn lines_of(rt: &HostRuntime, name: &str) -> Option<usize> {
     if name == "-" || !fs::metadata(rt, name).ok()?.is_file() {
         return None;

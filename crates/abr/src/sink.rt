@@ -3,7 +3,7 @@ use abr_cli::{Job, Usage};
 use std::io;
 use std::io::{IsTerminal, Stderr, Stdout, Write};
 
-/// Where the answer of a command is written to.
+/// The output of a command.
 #[derive(Drop)]
 pub enum Sink<'a> {
     Standard(Stdout),
@@ -11,7 +11,8 @@ pub enum Sink<'a> {
 }
 
 impl<'a> Sink<'a> {
-    /// The file that the job names for a page, and standard output for `-` and for each other job.
+    /// Returns the file that the job names for a page, or standard output for `-` and all other
+    /// jobs.
     pub fn of(rt: &'a HostRuntime, job: &Result<Job<'a>, Usage>) -> Sink<'a> {
         match job {
             Ok(
@@ -24,6 +25,7 @@ impl<'a> Sink<'a> {
         }
     }
 
+    /// Returns true if the output is a terminal.
     pub fn is_terminal(&self) -> bool {
         match self {
             Sink::Standard(out) => out.is_terminal(),
@@ -31,8 +33,10 @@ impl<'a> Sink<'a> {
         }
     }
 
-    /// Ends the writing. A file gets what was written where the status is 0, and else stays as it was. Where it cannot get it,
-    /// that is said in `faults`. What is returned is the status.
+    /// Ends the writing, and returns the status.
+    ///
+    /// If the status is 0, a file gets the output, or else it is unchanged. If it cannot get the
+    /// output, a line on `faults` says so.
     pub fn end(self, status: u8, faults: &mut Stderr) -> u8 {
         match self {
             Sink::Standard(_) => status,
@@ -41,7 +45,7 @@ impl<'a> Sink<'a> {
     }
 }
 
-// Whether the name is one of standard output.
+// Returns true if the name is a name of standard output.
 fn is_standard(name: &str) -> bool {
     name == "-" || name == "/dev/stdout" || name == "/dev/fd/1" || name == "/proc/self/fd/1"
 }

@@ -3,17 +3,17 @@ use std::fs::File;
 use std::io;
 use std::io::{Read, Stdin};
 
-/// Where a recording or a capture is read from.
+/// The input of a command: a recording or a capture.
 #[derive(Drop)]
 pub enum Source {
     File(File),
     Standard(Stdin),
-    /// There is none, or it could not be opened. Every read fails.
+    /// No input, or one that could not be opened. Every read fails.
     Missing,
 }
 
 impl Source {
-    /// The file that the job names, and standard input for `-` and for `follow`.
+    /// Returns the file that the job names, or standard input for `-` and for `follow`.
     pub fn of(rt: &HostRuntime, job: &Result<Job<'_>, Usage>) -> Source {
         match job {
             Ok(Job::Follow { .. }) => Source::Standard(rt.stdin()),
@@ -28,7 +28,7 @@ impl Source {
         }
     }
 
-    // The file of this name, and standard input for `-`.
+    // Returns the file of this name, or standard input for `-`.
     fn named(rt: &HostRuntime, name: &str) -> Source {
         if name == "-" {
             return Source::Standard(rt.stdin());

@@ -1,4 +1,4 @@
-//! The base: what the journal begins with.
+//! The base: the state before the first event of the journal.
 ghost use Rattle.std.specs.Prelude.{◌≡◌, Some, length, option_map, slice_get};
 ghost use Rattle.abr_c.specs.CTypes as c;
 ghost use Rattle.abr_c.specs.Given.{IsGiven};
@@ -16,7 +16,7 @@ use ospf_types::key::Scope;
 use recording::{Version, append_preamble};
 use std::alloc::Global;
 
-/// The serial of the base.
+/// Returns the serial of the base, or 0 if no core is open.
 #[unsafe(no_mangle)]
 pub extern "C" fn abr_base_serial(alloc: Global, slot: &mut Slot) -> u64
     ensures value { result ≡ base_serial_in (core_in slot.old) }
@@ -30,7 +30,7 @@ pub extern "C" fn abr_base_serial(alloc: Global, slot: &mut Slot) -> u64
     serial
 }
 
-/// How many interfaces the base has.
+/// Returns the number of interfaces of the base.
 #[unsafe(no_mangle)]
 pub extern "C" fn abr_base_interfaces(alloc: Global, slot: &mut Slot) -> usize
     ensures count { result ≡ length (interfaces_in (core_in slot.old)) }
@@ -44,7 +44,7 @@ pub extern "C" fn abr_base_interfaces(alloc: Global, slot: &mut Slot) -> usize
     count
 }
 
-/// One of its interfaces.
+/// Writes interface number `n` of the base to `out`. Returns true if there is one.
 #[unsafe(no_mangle)]
 pub extern "C" fn abr_base_interface_at(
     alloc: Global,
@@ -63,7 +63,7 @@ pub extern "C" fn abr_base_interface_at(
     give(out, interface)
 }
 
-/// How many LSAs the base has.
+/// Returns the number of LSAs of the base.
 #[unsafe(no_mangle)]
 pub extern "C" fn abr_base_lsas(alloc: Global, slot: &mut Slot) -> usize
     ensures count { result ≡ length (lsas_in (core_in slot.old)) }
@@ -77,7 +77,9 @@ pub extern "C" fn abr_base_lsas(alloc: Global, slot: &mut Slot) -> usize
     count
 }
 
-/// One of its LSAs: its length, or 0 if there is none. Its bytes are written where there is room.
+/// Writes LSA number `n` of the base, with its scope. Returns its length, or 0 if there is none.
+///
+/// The bytes are written if there is room for all of them.
 #[unsafe(no_mangle)]
 pub extern "C" fn abr_base_lsa_bytes(
     alloc: Global,
@@ -101,7 +103,8 @@ pub extern "C" fn abr_base_lsa_bytes(
     length
 }
 
-/// The base as text: its length, or 0 if no core is open or memory ran out. It is written where there is room.
+/// Writes the base as text, if there is room for all of it. Returns the length of the text, or 0 if
+/// no core is open or memory runs out.
 #[unsafe(no_mangle)]
 pub extern "C" fn abr_base_text_bytes(alloc: Global, slot: &mut Slot, text: &mut [u8]) -> usize
     ensures given { GivesText (core_in slot.old) result text.old text.new }

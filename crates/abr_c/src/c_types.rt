@@ -1,11 +1,11 @@
-//! What is passed to C and from it.
+//! The types that are passed to and from C.
 ghost use Rattle.std.specs.Prelude.{◌≡◌};
 ghost use Rattle.abr_c.specs.CTypes.{c_scope_of, key_of, network_in, scope_of};
 
 use ospf_types::key::{Key, Scope};
 use ospf_types::prefix::Prefix;
 
-/// `abr_scope`: the database of an area, or that of the AS.
+/// `abr_scope`: the database of an area (in host order), or the database of the AS.
 #[repr(C)]
 #[derive(Clone, Copy)]
 pub struct CScope {
@@ -13,7 +13,7 @@ pub struct CScope {
     pub area: u32,
 }
 
-/// `abr_key`: which LSA of a database.
+/// `abr_key`: the key of an LSA in its database, in host order.
 #[repr(C)]
 #[derive(Clone, Copy)]
 pub struct CKey {
@@ -22,7 +22,7 @@ pub struct CKey {
     pub router: u32,
 }
 
-/// `abr_prefix`: a network, in host order. C may hand in what is none.
+/// `abr_prefix`: a network, in host order. A value from C may not be valid.
 #[repr(C)]
 #[derive(Clone, Copy)]
 pub struct CPrefix {
@@ -30,8 +30,10 @@ pub struct CPrefix {
     pub length: u8,
 }
 
-/// `abr_item`: what the table has for a network. Its kind is 0 for nothing, 1 for a discard (RFC 2328, 11.1), 2 for an
-/// intra-area route, 3 for an inter-area one, 4 and 5 for external ones of type 1 and 2.
+/// `abr_item`: the item of the table for a network.
+///
+/// Its kind is 0 for none, 1 for a discard (RFC 2328, 11.1), 2 for an intra-area route and 3 for an
+/// inter-area route. It is 4 and 5 for external routes of type 1 and 2.
 #[repr(C)]
 #[derive(Clone, Copy)]
 pub struct CItem {
@@ -43,7 +45,10 @@ pub struct CItem {
     pub paths: u32,
 }
 
-/// `abr_hop`: a next hop. Its kind is 0 for an attached network, 1 for the peer of a point-to-point link, 2 for a router.
+/// `abr_hop`: a next hop, with addresses in host order.
+///
+/// Its kind is 0 for an attached network, 1 for the peer of a point-to-point link, and 2 for a
+/// router.
 #[repr(C)]
 #[derive(Clone, Copy)]
 pub struct CHop {
@@ -54,7 +59,7 @@ pub struct CHop {
     pub advertiser: u32,
 }
 
-/// `abr_due`: a summary-LSA that is due. An AS boundary router stands as its Router ID with length 32.
+/// `abr_due`: a due summary-LSA. An AS boundary router is given by its Router ID with length 32.
 #[repr(C)]
 #[derive(Clone, Copy)]
 pub struct CDue {
@@ -63,7 +68,8 @@ pub struct CDue {
     pub metric: u32,
 }
 
-/// `abr_due_change`: a summary-LSA that the last event changed in an area. Where it is no longer due its metric is 0.
+/// `abr_due_change`: a change that the last event made to a summary-LSA in an area. The metric is 0
+/// if it is no longer due.
 #[repr(C)]
 #[derive(Clone, Copy)]
 pub struct CDueChange {
@@ -72,7 +78,7 @@ pub struct CDueChange {
     pub due: CDue,
 }
 
-/// `abr_base_interface`: an interface with its id.
+/// `abr_base_interface`: an interface with its id, and addresses in host order.
 #[repr(C)]
 #[derive(Clone, Copy)]
 pub struct CInterface {
@@ -120,7 +126,7 @@ impl CKey {
 }
 
 impl CPrefix {
-    /// The network; none if the length is above 32, or a bit behind it is 1.
+    /// Returns the network, or `None` if the length is above 32, or a bit after the prefix is 1.
     pub(crate) fn network(self) -> Option<Prefix>
         ensures { result ≡ network_in self }
     {

@@ -12,7 +12,7 @@ use event_core::DueSummary;
 use ospf_types::key::Dest;
 use std::alloc::Global;
 
-/// How many are due in the area.
+/// Returns the number of summary-LSAs that are due in the area (in host order).
 #[unsafe(no_mangle)]
 pub extern "C" fn abr_dues(alloc: Global, slot: &mut Slot, area: u32) -> usize
     ensures count { result ≡ length (due_in (core_in slot.old) area) }
@@ -26,7 +26,8 @@ pub extern "C" fn abr_dues(alloc: Global, slot: &mut Slot, area: u32) -> usize
     count
 }
 
-/// One of those that are due in the area.
+/// Writes number `n` of the summary-LSAs that are due in the area (in host order) to `out`. Returns
+/// true if there is one.
 #[unsafe(no_mangle)]
 pub extern "C" fn abr_due_at(
     alloc: Global,

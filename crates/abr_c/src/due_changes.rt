@@ -1,4 +1,4 @@
-//! What the last event changed of what is due.
+//! The changes that the last event made to the due summary-LSAs.
 ghost use Rattle.std.specs.Prelude.{◌≡◌, length, slice_get};
 ghost use Rattle.abr_c.specs.CTypes as c;
 ghost use Rattle.abr_c.specs.Given.{IsGiven};
@@ -13,7 +13,7 @@ use event_core::{DueChanges, DueSummary};
 use ospf_types::key::Dest;
 use std::alloc::Global;
 
-/// How many summaries the last event changed, over all areas.
+/// Returns the number of summary-LSAs that the last event changed, over all areas.
 #[unsafe(no_mangle)]
 pub extern "C" fn abr_due_changes(alloc: Global, slot: &mut Slot) -> usize
     ensures count { result ≡ c.counted (length (due_changes_in (core_in slot.old))) }
@@ -27,7 +27,7 @@ pub extern "C" fn abr_due_changes(alloc: Global, slot: &mut Slot) -> usize
     count
 }
 
-/// One of these, area by area.
+/// Writes change number `n` to `out`, counted area by area. Returns true if there is one.
 #[unsafe(no_mangle)]
 pub extern "C" fn abr_due_change_at(
     alloc: Global,

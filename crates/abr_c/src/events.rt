@@ -1,4 +1,7 @@
-//! Events.
+//! Events, catching up and rolling.
+//!
+//! Each call returns the number of its outcome: 0 Current, 11 Behind, or the number of a fault or a
+//! refusal.
 ghost use Rattle.std.specs.Prelude.{◌≡◌, option_map};
 ghost use Rattle.event_state.specs.declared.event.Event.TheVariants as event_value;
 ghost use Rattle.abr_c.specs.CTypes.{key_of, network_in, scope_of};
@@ -11,7 +14,7 @@ use crate::slot::Slot;
 use event_core::{Core, Event};
 use std::alloc::Global;
 
-/// An LSA is installed in the database of its scope.
+/// Installs an LSA in the database of its scope.
 #[unsafe(no_mangle)]
 pub extern "C" fn abr_install_bytes(
     alloc: Global,
@@ -29,7 +32,7 @@ pub extern "C" fn abr_install_bytes(
     apply(alloc, slot, Event::Install { scope, lsa })
 }
 
-/// An LSA of the router's own is aged prematurely.
+/// Flushes one of the router's own LSAs: it is aged prematurely.
 #[unsafe(no_mangle)]
 pub extern "C" fn abr_flush(alloc: Global, slot: &mut Slot, scope: CScope, key: CKey) -> u32
     ensures { IsTold (event_value.Flush (scope_of scope) (key_of key)) (core_in slot.old) result
@@ -39,7 +42,7 @@ pub extern "C" fn abr_flush(alloc: Global, slot: &mut Slot, scope: CScope, key: 
     apply(alloc, slot, Event::Flush { scope, key })
 }
 
-/// An LSA at MaxAge leaves its database.
+/// Removes an LSA at MaxAge from its database.
 #[unsafe(no_mangle)]
 pub extern "C" fn abr_purge(alloc: Global, slot: &mut Slot, scope: CScope, key: CKey) -> u32
     ensures { IsTold (event_value.Purge (scope_of scope) (key_of key)) (core_in slot.old) result
@@ -49,7 +52,7 @@ pub extern "C" fn abr_purge(alloc: Global, slot: &mut Slot, scope: CScope, key: 
     apply(alloc, slot, Event::Purge { scope, key })
 }
 
-/// An interface takes the place of what the id held.
+/// Sets the interface with the id. Addresses and the Area ID are in host order.
 #[unsafe(no_mangle)]
 pub extern "C" fn abr_interface(
     alloc: Global,
@@ -73,7 +76,7 @@ pub extern "C" fn abr_interface(
     apply(alloc, slot, event)
 }
 
-/// An area address range is configured, in place of the one with its prefix.
+/// Configures an area address range, or replaces the one with its prefix.
 #[unsafe(no_mangle)]
 pub extern "C" fn abr_range_set(
     alloc: Global,
@@ -96,7 +99,7 @@ pub extern "C" fn abr_range_set(
     apply(alloc, slot, event)
 }
 
-/// An area address range is configured no longer.
+/// Removes an area address range from the configuration.
 #[unsafe(no_mangle)]
 pub extern "C" fn abr_range_drop(alloc: Global, slot: &mut Slot, area: u32, prefix: CPrefix) -> u32
     ensures { IsToldIf (option_map (λ p. event_value.RangeDrop area p) (network_in prefix))
@@ -108,7 +111,7 @@ pub extern "C" fn abr_range_drop(alloc: Global, slot: &mut Slot, area: u32, pref
     apply(alloc, slot, Event::RangeDrop { area, prefix })
 }
 
-/// A second passes.
+/// Lets a second pass.
 #[unsafe(no_mangle)]
 pub extern "C" fn abr_second(alloc: Global, slot: &mut Slot) -> u32
     ensures { IsTold event_value.Second (core_in slot.old) result (core_in slot.new) }
@@ -116,7 +119,7 @@ pub extern "C" fn abr_second(alloc: Global, slot: &mut Slot) -> u32
     apply(alloc, slot, Event::Second)
 }
 
-/// Table and due summaries are built anew, if they are behind.
+/// Rebuilds the table and the due summary-LSAs, if they are behind.
 #[unsafe(no_mangle)]
 pub extern "C" fn abr_catch_up(alloc: Global, slot: &mut Slot) -> u32
     ensures { CatchesUp (core_in slot.old) result (core_in slot.new) }
@@ -129,7 +132,7 @@ pub extern "C" fn abr_catch_up(alloc: Global, slot: &mut Slot) -> u32
     status_number(status)
 }
 
-/// The state as it is becomes the base, and the journal is empty.
+/// Makes the present state the base, and empties the journal.
 #[unsafe(no_mangle)]
 pub extern "C" fn abr_roll(alloc: Global, slot: &mut Slot) -> u32
     ensures { RollsTo (core_in slot.old) result (core_in slot.new) }
@@ -145,7 +148,7 @@ pub extern "C" fn abr_roll(alloc: Global, slot: &mut Slot) -> u32
     number
 }
 
-// Hands the core the event. The answer is the number of its answer.
+// Applies the event to the core. Returns the number of its outcome.
 fn apply(alloc: Global, slot: &mut Slot, event: Event) -> u32
     ensures { IsTold event (core_in slot.old) result (core_in slot.new) }
 {

@@ -1,8 +1,8 @@
-//! What a call writes for C, where there is something to write.
+//! Results that are written for C, if there are any.
 ghost use Rattle.std.specs.Prelude.{◌≡◌};
 ghost use Rattle.abr_c.specs.Given.{IsGiven, written};
 
-/// Writes what there is to `out`, and answers whether there is something.
+/// Writes the value to `out`, if there is one. Returns true if there is.
 pub(crate) fn give<T: Copy + Drop>(out: &mut T, found: Option<T>) -> bool
     ensures { IsGiven found result out.old out.new }
 {
@@ -15,7 +15,7 @@ pub(crate) fn give<T: Copy + Drop>(out: &mut T, found: Option<T>) -> bool
     }
 }
 
-/// Writes the bytes to the beginning of `out` if there is room for all of them.
+/// Writes the bytes to the start of `out`, if there is room for all of them.
 pub(crate) fn write_bytes(out: &mut [u8], bytes: &[u8])
     ensures { out.new ≡ written bytes.now out.old }
 {

@@ -1,4 +1,4 @@
-//! What C holds of a core.
+//! The pointer to a core that C has.
 ghost use Rattle.std.specs.Prelude.{◌≡◌, Option, Some, None, is_some, true};
 ghost use Rattle.event_core.specs.Cores.{CoreValue};
 ghost use Rattle.abr_c.specs.Owned.{core_coded, handle_owns};
@@ -9,7 +9,7 @@ use std::alloc::Global;
 use std::marker::Model;
 use std::ptr::null_mut;
 
-/// The place of a core, or of none.
+/// A pointer to a core, or null.
 #[repr(C)]
 pub struct Handle {
     at: *mut u8,
@@ -66,5 +66,5 @@ impl Handle {
     }
 }
 
-// A core may go from thread to thread; one call at a time uses it.
+// A core may move from thread to thread, as one call at a time uses it.
 unsafe impl Send for Handle {}

@@ -1,4 +1,4 @@
-//! The items of a table, one after the other.
+//! The items of a table, in order.
 ghost use Rattle.std.specs.Prelude.{◌≡◌, ◌<◌, ◌^◌, length, take, drop, map};
 ghost use Rattle.abr_c.specs.CTypes.{item_of_entry};
 ghost use Rattle.abr_c.specs.Given.{copied};
@@ -7,7 +7,7 @@ use crate::c_types::CItem;
 use crate::table::item_of_entry;
 use route_table::Items;
 
-/// Writes items to the front of `out`, as many as there are and have room, and answers how many.
+/// Writes items to the start of `out`, as many as there are and fit. Returns their number.
 pub(crate) fn copy_items(mut items: Items<'_>, out: &mut [CItem]) -> usize
     ensures count { result ≡ length (take (length out.old) (map item_of_entry items.entry)) }
     ensures written { out.new ≡ copied (map item_of_entry items.entry) out.old }
@@ -23,7 +23,7 @@ pub(crate) fn copy_items(mut items: Items<'_>, out: &mut [CItem]) -> usize
     count
 }
 
-/// The items without the first so many.
+/// Returns the items without the first `first` ones.
 pub(crate) fn without_first<'a>(mut items: Items<'a>, first: usize) -> Items<'a>
     ensures { result ≡ drop first items.entry }
 {

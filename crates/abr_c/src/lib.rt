@@ -1,5 +1,7 @@
-//! The event core of an OSPF area border router (RFC 2328) for C. `include/abr.h` says what each function is for; what is
-//! said of them here is what they answer, and what becomes of the core.
+//! The event core of an OSPF area border router (RFC 2328) for C.
+//!
+//! `include/abr.h` documents each function. The comments here say what a function returns, and what
+//! happens to the core. Places `n` count from 0.
 #![tactic(auto)]
 
 mod base;

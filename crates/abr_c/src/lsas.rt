@@ -1,4 +1,4 @@
-//! LSAs by themselves.
+//! Single LSAs, without a core.
 ghost use Rattle.std.specs.Prelude.{◌≡◌, ◌≤◌, ◌++◌, length, drop};
 ghost use Rattle.lsa_codec.specs.Checksum.{checksum_of};
 ghost use Rattle.lsa_codec.specs.Spelling.{header_bytes, spelling};
@@ -11,7 +11,8 @@ use byteorder::{BigEndian, ByteOrder};
 use lsa_codec::{Checked, Header, read, sum_of};
 use std::alloc::Global;
 
-/// The number of the first fault of the bytes; 0 if they are an LSA.
+/// Returns the number of the first fault of the bytes, or 0 if they are a valid LSA. It is 30 if
+/// memory runs out.
 #[unsafe(no_mangle)]
 pub extern "C" fn abr_lsa_fault_bytes(alloc: Global, lsa: &[u8]) -> u32
     ensures { IsLsaNumber lsa.now result }
@@ -22,7 +23,7 @@ pub extern "C" fn abr_lsa_fault_bytes(alloc: Global, lsa: &[u8]) -> u32
     wire_number(fault)
 }
 
-/// The checksum that the LSA has to have.
+/// Writes the checksum that the LSA has to have to `out`. Returns true if it has one.
 #[unsafe(no_mangle)]
 pub extern "C" fn abr_lsa_sum_bytes(lsa: &[u8], out: &mut u16) -> bool
     ensures { IsGiven (checksum_of lsa.now) result out.old out.new }
@@ -30,7 +31,8 @@ pub extern "C" fn abr_lsa_sum_bytes(lsa: &[u8], out: &mut u16) -> bool
     give(out, sum_of(lsa))
 }
 
-/// Writes the LSA to the beginning of `out` if there is room for all of it, and returns its length. It takes no memory.
+/// Writes the LSA to the start of `out`, if there is room for all of it. Returns its length. It
+/// allocates nothing.
 #[tactic(auto, unfolding(lsa_codec::specs::Spelling::spelling))]
 pub(crate) fn write_lsa(lsa: &Checked, out: &mut [u8]) -> usize
     ensures length { result ≡ length (spelling lsa.now) }

@@ -1,4 +1,4 @@
-//! The number of each fault and refusal.
+//! The numbers of faults and refusals.
 ghost use Rattle.std.specs.Prelude.{◌≡◌};
 ghost use Rattle.abr_c.specs.Numbers as numbers;
 
@@ -8,15 +8,15 @@ use event_state::EntryFault;
 use lsa_codec::WireFault;
 use recording::Fault;
 
-/// A seed has fewer than 16 bytes.
+/// 1 Length: a seed with fewer than 16 bytes.
 pub(crate) const LENGTH: u32 = 1;
-/// Memory ran out.
+/// 30 Memory: memory ran out.
 pub(crate) const MEMORY: u32 = 30;
-/// A line may not stand where it stands.
+/// 53 Order: a line out of order.
 pub(crate) const ORDER: u32 = 53;
-/// No core is open.
+/// 60 NoCore: no core is open.
 pub(crate) const NO_CORE: u32 = 60;
-/// An address and a length that are no network.
+/// 61 NoPrefix: an address and a length that are not a valid network.
 pub(crate) const NO_PREFIX: u32 = 61;
 
 pub(crate) fn status_number(status: Status) -> u32
@@ -94,7 +94,8 @@ fn unfit_number(unfit: EntryFault) -> u32
     }
 }
 
-/// Of an LSA, a configuration or a base the number is that of its own fault.
+/// Returns the number of the fault. The fault of an LSA, a configuration or a base has its own
+/// number.
 pub(crate) fn fault_number(fault: Fault) -> u32
     ensures { result ≡ numbers.fault_number fault }
 {

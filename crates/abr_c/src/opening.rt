@@ -1,4 +1,7 @@
-//! Opening and closing.
+//! Opening and closing of cores.
+//!
+//! A call that opens returns 0 or the number of a fault. The core that was open before is closed in
+//! either case.
 ghost use Rattle.std.specs.Prelude.{◌≡◌, ◌≤◌, ◌↔◌, None, IfOk, IfErr, IsTrue, OnOk, length};
 ghost use Rattle.event_state.specs.BaseFaults.{base_fault_of};
 ghost use Rattle.event_state.specs.Steps.{standard_limits};
@@ -14,7 +17,7 @@ use event_core::{Base, Core, Limits};
 use recording::parse;
 use std::alloc::Global;
 
-/// Opens a core with the configuration that the text says, in place of what was open.
+/// Opens a core with the configuration in the text.
 #[unsafe(no_mangle)]
 pub extern "C" fn abr_open_bytes(alloc: Global, config: &[u8], seed: &[u8], out: &mut Slot) -> u32
     ensures { Opens (SaysConfig config.now) (IsConfigRefusal config.now) seed.now result
@@ -27,7 +30,7 @@ pub extern "C" fn abr_open_bytes(alloc: Global, config: &[u8], seed: &[u8], out:
     open(alloc, base, seed, out)
 }
 
-/// Opens a core with the base that the text says, in place of what was open.
+/// Opens a core with the base in the text.
 #[unsafe(no_mangle)]
 pub extern "C" fn abr_open_base_bytes(
     alloc: Global,
@@ -51,7 +54,7 @@ pub extern "C" fn abr_close(slot: Slot) {
     drop(slot);
 }
 
-// Opens a core with the base, in place of what was open.
+// Opens a core with the base.
 fn open(alloc: Global, base: Base, seed: &[u8], out: &mut Slot) -> u32
     requires { base_fault_of standard_limits base ≡ None }
     ensures { OpensBase base seed.now result (core_in out.new) }
@@ -64,7 +67,7 @@ fn open(alloc: Global, base: Base, seed: &[u8], out: &mut Slot) -> u32
     0
 }
 
-// Opens no core, and closes the one that was open. The answer is the number.
+// Opens no core, and closes the one that was open. Returns the number.
 fn refuse(alloc: Global, number: u32, out: &mut Slot) -> u32
     ensures number { result ≡ number }
     ensures none { core_in out.new ≡ None }
@@ -73,7 +76,7 @@ fn refuse(alloc: Global, number: u32, out: &mut Slot) -> u32
     number
 }
 
-// The configuration that the text says, or the number of what is wrong with it.
+// Parses the text as a configuration. Returns the number of its fault.
 fn config_in(alloc: Global, text: &[u8]) -> Result<Base, u32>
     ensures says { IfOk result (SaysConfig text.now) }
     ensures sound { IfOk result (λ base. base_fault_of standard_limits base ≡ None) }
@@ -93,7 +96,7 @@ fn has_config_only(base: &Base) -> bool
     base.serial == 0 && base.interfaces.is_empty() && base.lsas.is_empty()
 }
 
-// The base that the text says, or the number of what is wrong with it.
+// Parses the text as a base. Returns the number of its fault.
 fn base_in(alloc: Global, text: &[u8]) -> Result<Base, u32>
     ensures says { IfOk result (SaysBase text.now) }
     ensures sound { IfOk result (λ base. base_fault_of standard_limits base ≡ None) }
@@ -111,7 +114,7 @@ fn base_in(alloc: Global, text: &[u8]) -> Result<Base, u32>
     }
 }
 
-// A core with the base, whose hash tables have their keys from the seed.
+// Creates a core with the base. The seed gives the keys of its hash maps.
 fn core_of(alloc: Global, base: Base, seed: &[u8]) -> Result<Box<Core>, u32>
     requires { base_fault_of standard_limits base ≡ None }
     ensures opens { IfOk result (λ core. IsOpening base standard_limits core.value) }

@@ -1,4 +1,4 @@
-//! The keys of the hash tables, from a seed.
+//! The keys of the hash maps, from a seed.
 ghost use Rattle.std.specs.Prelude.{◌≤◌, IsTrue, OnOk, IfOk, IfErr, length};
 ghost use Rattle.abr_c.specs.Opening.{HasKeysOf, IsSeedRefusal};
 
@@ -9,7 +9,7 @@ use std::hash::{BuildHasher, Hasher, RandomState};
 use std::io;
 use std::random::RandomSource;
 
-/// The 16 bytes with which a seed begins.
+/// A random source that gives the first bytes of a seed.
 #[derive(Clone, Copy)]
 struct Seed<'a> {
     bytes: &'a [u8],
@@ -24,7 +24,7 @@ impl RandomSource for Seed<'_> {
     }
 }
 
-/// The keys that the first 16 bytes of a seed give.
+/// Returns the keys that the first 16 bytes of a seed give.
 pub(crate) fn hashing_of(seed: &[u8]) -> Result<RandomState, u32>
     ensures long { OnOk result (16 ≤ length seed.now) }
     ensures keys { IfOk result (HasKeysOf seed.now) }
@@ -39,8 +39,8 @@ pub(crate) fn hashing_of(seed: &[u8]) -> Result<RandomState, u32>
     }
 }
 
-// Returns true if the empty text has the same hash under these keys as under those of the seed. No clause of `RandomState` says
-// which keys it takes of its source; a hash does.
+// Returns true if the empty text has the same hash under these keys as under the keys of the seed.
+// No clause of `RandomState` says which keys it takes from its source, but a hash does.
 fn has_keys_of(seed: &[u8], hashing: &RandomState) -> bool
     requires { 16 ≤ length seed.now }
     ensures { IsTrue result → HasKeysOf seed.now hashing.now }

@@ -1,4 +1,4 @@
-//! What C knows as `abr`.
+//! The type that C knows as `abr`.
 ghost use Rattle.std.specs.Prelude.{◌≡◌, Some, None, IfOk, IfErr, IfSome, IsNone, is_some};
 
 use crate::handle::Handle;
@@ -6,7 +6,7 @@ use event_core::Core;
 use std::alloc::Global;
 use std::mem::{ManuallyDrop, replace};
 
-/// `abr`: a core, or none. C may move it and hands it back as it is.
+/// `abr`: a core, or none. C may move it, but does not change it.
 #[repr(C)]
 pub struct Slot {
     handle: Handle,
@@ -44,7 +44,7 @@ impl Slot {
         }
     }
 
-    /// The core; or the slot, where there is none.
+    /// Returns the core, or the slot if it has none.
     pub(crate) fn into_core(self) -> Result<Box<Core>, Slot>
         ensures some { IfOk result (λ core. core_in self ≡ Some core.value) }
         ensures none { IfErr result (λ slot. (core_in slot ≡ None) × (core_in self ≡ None)) }
@@ -57,7 +57,7 @@ impl Slot {
         }
     }
 
-    /// Takes the core out, if there is one. None is left.
+    /// Removes and returns the core, if there is one.
     pub(crate) fn take(&mut self, alloc: Global) -> Option<Box<Core>>
         ensures some { IfSome result (λ core. core_in self.old ≡ Some core.value) }
         ensures none { IsNone result → core_in self.old ≡ None }
@@ -72,7 +72,7 @@ impl Slot {
         }
     }
 
-    /// Puts a core in, in place of the one that there was.
+    /// Puts a core into the slot. A core that was there is closed.
     pub(crate) fn put(&mut self, core: Box<Core>)
         ensures { core_in self.new ≡ Some core.value }
     {

@@ -16,7 +16,7 @@ use ospf_types::prefix::Prefix;
 use route_table::{Item, Match, Table};
 use std::alloc::Global;
 
-/// How many events were taken.
+/// Returns the serial: the number of events taken.
 #[unsafe(no_mangle)]
 pub extern "C" fn abr_serial(alloc: Global, slot: &mut Slot) -> u64
     ensures value { result ≡ serial_in (core_in slot.old) }
@@ -30,7 +30,7 @@ pub extern "C" fn abr_serial(alloc: Global, slot: &mut Slot) -> u64
     serial
 }
 
-/// Table and due summaries are those after so many of them.
+/// Returns the serial of the last event that the table and the due summary-LSAs reflect.
 #[unsafe(no_mangle)]
 pub extern "C" fn abr_built(alloc: Global, slot: &mut Slot) -> u64
     ensures value { result ≡ built_in (core_in slot.old) }
@@ -44,7 +44,8 @@ pub extern "C" fn abr_built(alloc: Global, slot: &mut Slot) -> u64
     built
 }
 
-/// The longest match of the address.
+/// Writes the longest match of the address (in host order) to `out`. Its kind is 0 if there is
+/// none.
 #[unsafe(no_mangle)]
 pub extern "C" fn abr_lookup(alloc: Global, slot: &mut Slot, address: u32, out: &mut CItem)
     ensures found { IsLookedUp (core_in slot.old) address out.new }
@@ -58,7 +59,7 @@ pub extern "C" fn abr_lookup(alloc: Global, slot: &mut Slot, address: u32, out: 
     slot.put(core);
 }
 
-/// What the table has for the network.
+/// Writes the item of the network to `out`. Its kind is 0 if there is none.
 #[unsafe(no_mangle)]
 pub extern "C" fn abr_get(alloc: Global, slot: &mut Slot, prefix: CPrefix, out: &mut CItem)
     ensures found { out.new ≡ item_for (core_in slot.old) (c.network_in prefix) }
@@ -75,7 +76,7 @@ pub extern "C" fn abr_get(alloc: Global, slot: &mut Slot, prefix: CPrefix, out: 
     slot.put(core);
 }
 
-/// A next hop of the network.
+/// Writes next hop number `n` of the network to `out`. Returns true if there is one.
 #[unsafe(no_mangle)]
 pub extern "C" fn abr_path(
     alloc: Global,
@@ -99,7 +100,7 @@ pub extern "C" fn abr_path(
     give(out, hop)
 }
 
-/// How many networks the last event changed.
+/// Returns the number of networks that the last event changed.
 #[unsafe(no_mangle)]
 pub extern "C" fn abr_changes(alloc: Global, slot: &mut Slot) -> usize
     ensures count { result ≡ length (changes_in (core_in slot.old)) }
@@ -113,7 +114,7 @@ pub extern "C" fn abr_changes(alloc: Global, slot: &mut Slot) -> usize
     count
 }
 
-/// One of these networks.
+/// Writes number `n` of these networks to `out`. Returns true if there is one.
 #[unsafe(no_mangle)]
 pub extern "C" fn abr_change_at(alloc: Global, slot: &mut Slot, n: usize, out: &mut CPrefix) -> bool
     ensures given { IsGiven (change_at (core_in slot.old) n) result out.old out.new }
@@ -127,7 +128,7 @@ pub extern "C" fn abr_change_at(alloc: Global, slot: &mut Slot, n: usize, out: &
     give(out, change)
 }
 
-/// How many networks the table has.
+/// Returns the number of networks in the table.
 #[unsafe(no_mangle)]
 pub extern "C" fn abr_items(alloc: Global, slot: &mut Slot) -> usize
     ensures count { result ≡ length (entries_in (core_in slot.old)) }
@@ -141,7 +142,7 @@ pub extern "C" fn abr_items(alloc: Global, slot: &mut Slot) -> usize
     count
 }
 
-/// What the table has, from the item number `first` on, as far as there is room.
+/// Writes the items from number `first` on to `out`, as many as fit. Returns their number.
 #[unsafe(no_mangle)]
 pub extern "C" fn abr_items_from(
     alloc: Global,
@@ -213,7 +214,7 @@ fn hop_of(path: Path) -> CHop
     }
 }
 
-// What C is told where the table has nothing.
+// The item of a network that is not in the table.
 const NO_ITEM: CItem = CItem {
     kind: 0,
     prefix: CPrefix {
@@ -244,7 +245,7 @@ fn item_of(network: Prefix, item: &Item) -> CItem
     }
 }
 
-// What C is told of a network with its item.
+// Returns the item of a table entry.
 pub(crate) fn item_of_entry(entry: (Prefix, &Item)) -> CItem
     ensures { result ≡ c.item_of_entry (entry.entry.0, entry.entry.1.now) }
 {
@@ -288,7 +289,7 @@ fn kind_number(kind: PathType) -> u8
     }
 }
 
-// How many there are, as a number of 32 bits.
+// Returns the number of paths, at most 2^32 - 1.
 fn count_of(paths: &[Path]) -> u32
     ensures { result ≡ c.count_of paths.now }
 {

@@ -1,4 +1,4 @@
-//! A box, taken apart.
+//! Boxes, taken apart.
 ghost use Rattle.std.specs.Prelude.{◌≡◌};
 ghost use Rattle.std.specs.Box.Ownership.{box_owns};
 

@@ -10,25 +10,29 @@ use std::alloc::Global;
 use std::hash::RandomState;
 use std::io;
 
-/// The command `capture`, as it was given.
+/// The command `capture`, with its words.
 #[derive(Clone, Copy)]
 pub struct Capture<'a> {
-    /// The capture's name.
+    /// The name of the capture.
     pub file: &'a str,
-    /// The word of the Router ID, where there is one. Without a file the beginning is made for it of the capture.
+    /// The word of the Router ID, if there is one. Without a file, the beginning is made for this
+    /// router from the capture.
     pub router: Option<&'a str>,
-    /// The name of the file with the recording's beginning, where there is one.
+    /// The name of the file with the beginning of the recording, if there is one.
     pub begin: Option<&'a str>,
-    /// What that file has, where it could be read.
+    /// The contents of that file, if it could be read.
     pub beginning: Option<&'a [u8]>,
-    /// What the recording leaves out.
+    /// The options for what the recording leaves out.
     pub options: Options,
 }
 
 impl<'a> Capture<'a> {
-    /// Reads the capture that comes from `input`, and writes its recording to `out`. What is at fault in it, and how much
-    /// was found, is written to `faults`, and why there is no whole recording; what is returned is the status: 2 where
-    /// there is neither a Router ID nor a beginning, or its word cannot be read, and then nothing was read, and else 0 or 1.
+    /// Reads the capture from `input`, and writes its recording to `out`.
+    ///
+    /// The faults of the capture, how much was found, and the reason if there is no whole recording
+    /// are written to `faults`. Returns the status: 0 with a whole recording, and else 1 or 2. It
+    /// is 2 only if there is neither a Router ID nor a beginning, or if the word of the Router ID
+    /// cannot be read. Then nothing was read from `input`.
     pub fn run<R: io::Read, W: io::Write, F: io::Write>(
         self,
         alloc: Global,
@@ -56,7 +60,7 @@ impl<'a> Capture<'a> {
         }
     }
 
-    // What the recording begins with: the file, where there is one.
+    // Returns the beginning of the recording: the file, if one is named, or else the Router ID.
     fn begins_with(self) -> Result<Preamble<'a>, CommandFault<'a>>
         ensures beginning { IfOk result (BeginsWith self.entry) }
         ensures fault { IfErr result (LacksBeginning self.entry) }
@@ -71,7 +75,7 @@ impl<'a> Capture<'a> {
     }
 }
 
-// The Router ID that the word writes, where there is one.
+// Parses the word of the Router ID, if there is one.
 fn router_of(word: Option<&str>) -> Result<Option<u32>, WordFault>
     ensures router { IfOk result (HasRouter word.entry) }
     ensures fault { IfErr result (IsRouterFault word.entry) }
@@ -82,7 +86,8 @@ fn router_of(word: Option<&str>) -> Result<Option<u32>, WordFault>
     }
 }
 
-// Says why there is no whole recording, but nothing where the output's pipe was closed.
+// Writes why there is no whole recording, unless the pipe of the output was closed. Returns the
+// status.
 fn say_capture_end<F: io::Write>(
     alloc: Global,
     file: &str,
@@ -97,7 +102,7 @@ fn say_capture_end<F: io::Write>(
     }
 }
 
-// The fault as one of the command; or why the output was not written whole.
+// Returns the fault as a fault of the command, or the reason why the output was not written whole.
 fn fault_from_capture(file: &str, fault: CapturingFault) -> Result<CommandFault<'_>, WriteError>
     ensures { result ≡ fault_from_capture file.entry fault }
 {

@@ -15,27 +15,29 @@ use std::hash::RandomState;
 use std::io;
 use worker_replay::WorkerReplayFault;
 
-/// The command `changes` or `follow`, as it was given.
+/// The command `changes` or `follow`, with its words.
 #[derive(Clone, Copy)]
 pub struct Changes<'a> {
-    /// The recording's name.
+    /// The name of the recording.
     pub file: &'a str,
-    /// The word of the one network that is asked for, where not all are.
+    /// The word of the one network that is wanted, or `None` if all are.
     pub only: Option<&'a str>,
     /// The form of the lines.
     pub format: Format,
-    /// Whether it is told too what came of a line that changed nothing, and of each line before the next is waited for.
+    /// True if lookups, and refused events and rolls, are reported too. The report of each line is
+    /// then written before the next line is read.
     pub answers: bool,
-    /// Whether a line at fault behind the front is told of and skipped.
+    /// True if a line with a fault after the preamble is reported and skipped.
     pub skips_faults: bool,
-    /// How many lines there are, and whether it is shown how many of them are done.
+    /// The progress that is shown.
     pub progress: Progress,
 }
 
 impl Changes<'_> {
-    /// Runs the recording that comes from `input`, and writes to `out` what each of its events changed. How much is done, and
-    /// why it ends early, is written to `faults`; what is returned is the status: 2 where the word is no network, and then
-    /// nothing was read, and else 0 or 1.
+    /// Runs the recording from `input`, and writes to `out` what each of its events changed.
+    ///
+    /// The progress, and the reason for an early end, are written to `faults`. Returns the status.
+    /// It is 2 only if the word is not a network: then nothing was read from `input`.
     pub fn run<R: io::Read, W: io::Write, F: io::Write>(
         self,
         alloc: Global,
@@ -61,7 +63,7 @@ impl Changes<'_> {
         }
     }
 
-    // What is told, where this network is asked for.
+    // Returns the options of the report, with this network.
     fn telling(self, only: Option<Prefix>) -> ChangeOptions
         ensures { result ≡ telling_of self.entry only }
     {
@@ -77,7 +79,7 @@ impl Changes<'_> {
     }
 }
 
-// The network that the word asks for; none where there is no word.
+// Parses the word of the network, if there is one.
 fn asked(word: Option<&str>) -> Result<Option<Prefix>, CommandFault<'static>>
     ensures asked { IfOk result (Asks word.entry) }
     ensures lacks { IfErr result (λ e. (e ≡ fault.Word NotANetwork) × LacksNetwork word.entry) }

@@ -1,4 +1,4 @@
-//! What the program does with its words.
+//! The dispatch from the words of the program to its commands.
 ghost use Rattle.std.specs.Prelude.{◌≡◌, IfOk, codes};
 ghost use Rattle.command_line.specs.Command.{AreWorkers, IsFit};
 ghost use Rattle.abr_cli.specs.Jobs.{HasFitWorkers, IsAsked, IsJobTold, IsTold, capture_asked, changes_asked, explain_asked, follow_asked, page_asked, replay_asked, shown_progress};
@@ -20,21 +20,23 @@ use std::sync::Wait;
 use std::thread::Threads;
 use worker_replay::ReplayOptions;
 
-/// A call of the program: what its words ask for, and the key of its hash maps.
+/// A call of the program: its job by its words, and the keys of its hash maps.
 pub struct Invocation<'a> {
     pub job: Result<Job<'a>, Usage>,
     pub hashing: RandomState,
-    /// Whether it is shown how much of a file is done where the words do not ask for it, and how many lines the file has, where
-    /// that is known.
+    /// The progress that is shown if the words do not ask for it, and the number of lines of the
+    /// file, if known.
     pub progress: Progress,
-    /// What the file has whose name stands behind `--begin`, where there is one and it could be read.
+    /// The contents of the file that is named after `--begin`, if there is one and it could be
+    /// read.
     pub beginning: Option<&'a [u8]>,
 }
 
 impl Invocation<'_> {
-    /// Does the job, or says why there is none. A recording or a capture is read from `input`, and the workers of a replay are
-    /// from 1 to 16; answers are written to `out`, and progress, faults and mistakes to `faults`. What is returned is the
-    /// status of the program.
+    /// Carries out the job, or writes why there is none. Returns the status of the program.
+    ///
+    /// A recording or a capture is read from `input`. Output is written to `out`, and progress,
+    /// faults and mistakes are written to `faults`. A replay has 1 to 16 workers.
     pub fn run<S: Threads + Wait + Sync, R: io::Read, W: io::Write, F: io::Write>(
         self,
         rt: &S,
@@ -64,7 +66,7 @@ impl Invocation<'_> {
     }
 }
 
-// A command, with all that it was given.
+// A command with its words.
 #[derive(Clone, Copy)]
 pub(crate) enum Asked<'a> {
     One(OneWords<'a>),
@@ -77,7 +79,7 @@ pub(crate) enum Asked<'a> {
     Fault(&'a str),
 }
 
-// The command that the job asks for.
+// Returns the command that the job asks for.
 fn asked_of<'a>(job: Job<'a>, own: Progress, beginning: Option<&'a [u8]>) -> Asked<'a>
     requires { IsFit job }
     ensures asked { IsAsked own beginning.entry job.entry result }
@@ -121,14 +123,14 @@ fn asked_of<'a>(job: Job<'a>, own: Progress, beginning: Option<&'a [u8]>) -> Ask
     }
 }
 
-// A command that is to be carried out.
+// A command to carry out.
 #[derive(Clone, Copy)]
 struct Doing<'a> {
     asked: Asked<'a>,
     hashing: RandomState,
 }
 
-// Carries out the command.
+// Carries out the command, and returns the status.
 fn do_asked<S: Threads + Wait + Sync, R: io::Read, W: io::Write, F: io::Write>(
     rt: &S,
     alloc: Global,
@@ -155,7 +157,7 @@ fn do_asked<S: Threads + Wait + Sync, R: io::Read, W: io::Write, F: io::Write>(
     }
 }
 
-// The command `replay`.
+// Returns the command `replay`.
 fn replay_of(
     file: &str,
     workers: usize,
@@ -176,7 +178,7 @@ fn replay_of(
     Replay { file, options }
 }
 
-// How much is shown, where the words ask for it or not.
+// Returns the program's own progress, shown also if the words ask for it.
 fn shown(asked: bool, own: Progress) -> Progress
     ensures { result ≡ shown_progress asked own }
 {
@@ -186,7 +188,7 @@ fn shown(asked: bool, own: Progress) -> Progress
     }
 }
 
-// The command `changes`: it tells what changed, and ends at the first fault.
+// Returns the command `changes`: it reports changes only, and ends at the first fault.
 fn changes_of<'a>(
     file: &'a str,
     only: Option<&'a str>,
@@ -205,7 +207,7 @@ fn changes_of<'a>(
     }
 }
 
-// The command `explain`. Of a recording that is read whole, it is known how many lines there are.
+// Returns the command `explain`. A recording that is read whole has a known number of lines.
 fn explain_of<'a>(
     file: &'a str,
     address: &'a str,
@@ -224,7 +226,7 @@ fn explain_of<'a>(
     }
 }
 
-// The command `page`. Of a recording that is read whole, it is known how many lines there are.
+// Returns the command `page`. A recording that is read whole has a known number of lines.
 fn page_of<'a>(file: &'a str, output: Option<&'a str>, progress: Progress) -> Page<'a>
     ensures { result ≡ page_asked file.entry output.entry progress }
 {
@@ -235,7 +237,7 @@ fn page_of<'a>(file: &'a str, output: Option<&'a str>, progress: Progress) -> Pa
     }
 }
 
-// The command `capture`.
+// Returns the command `capture`.
 fn capture_of<'a>(words: CaptureWords<'a>, beginning: Option<&'a [u8]>) -> Capture<'a>
     ensures { result ≡ capture_asked words.entry beginning.entry }
 {
@@ -252,7 +254,8 @@ fn capture_of<'a>(words: CaptureWords<'a>, beginning: Option<&'a [u8]>) -> Captu
     }
 }
 
-// The command `follow`: it reads standard input, tells what came of each line, and goes on behind a fault unless it is strict.
+// Returns the command `follow`. It reads standard input, reports the outcome of each line, and
+// skips faults unless it is strict.
 fn follow_of<'a>(only: Option<&'a str>, strict: bool, format: Format) -> Changes<'a>
     ensures file { result.file.now ≡ codes "-" }
     ensures asked { result ≡ follow_asked result.file only.entry strict format }

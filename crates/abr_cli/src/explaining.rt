@@ -14,25 +14,27 @@ use std::hash::RandomState;
 use std::io;
 use worker_replay::WorkerReplayFault;
 
-/// The command `explain`, as it was given.
+/// The command `explain`, with its words.
 #[derive(Clone, Copy)]
 pub struct Explain<'a> {
-    /// The recording's name.
+    /// The name of the recording.
     pub file: &'a str,
-    /// The word of the address; where an area is named, of a network or of the Router ID of an AS boundary router.
+    /// The word of the address. If an area is given, it is the word of a network, or of the Router
+    /// ID of an AS boundary router.
     pub address: &'a str,
-    /// The word of the area, where it is asked for what is due there.
+    /// The word of the area, if the question is about a due summary-LSA.
     pub due: Option<&'a str>,
     /// The form of the lines.
     pub format: Format,
-    /// Whether it is shown how much of the recording is done.
+    /// True if the progress is shown.
     pub progress: bool,
 }
 
 impl Explain<'_> {
-    /// Runs the recording that comes from `input`, and writes the explanation to `out`. How much is done, and why there is no
-    /// explanation, is written to `faults`; what is returned is the status: 2 where a word cannot be read, and then nothing was
-    /// read, and else 0 or 1.
+    /// Runs the recording from `input`, and writes the explanation to `out`.
+    ///
+    /// The progress, and the reason if there is no explanation, are written to `faults`. Returns
+    /// the status. It is 2 only if a word cannot be read: then nothing was read from `input`.
     pub fn run<R: io::Read, W: io::Write, F: io::Write>(
         self,
         alloc: Global,
@@ -68,7 +70,7 @@ impl Explain<'_> {
     }
 }
 
-// What the words ask.
+// Returns the question that the words ask.
 fn question_of(address: &str, due: Option<&str>) -> Result<Question, WordFault>
     ensures asks { IfOk result (Asks address.now due.entry) }
     ensures fault { IfErr result (IsWordFault address.now due.entry) }
@@ -81,7 +83,7 @@ fn question_of(address: &str, due: Option<&str>) -> Result<Question, WordFault>
     Ok(Question::Due(area, dest))
 }
 
-// A network, or the Router ID of an AS boundary router.
+// Parses a network, or the Router ID of an AS boundary router.
 fn dest_of(word: &str) -> Result<Dest, WordFault>
     ensures dest { IfOk result (WritesDest word.now) }
     ensures fault { OnErr result ((¬ IsAddress word.now) × IsNoNetwork word.now) }

@@ -1,5 +1,8 @@
-//! The commands of the program `abr`: an OSPF area border router's table from the command line
-//! (RFC 2328). A recording is run and told of as it goes; what the other commands answer, `command_answers` says.
+//! The commands of the program `abr`: the table of an OSPF area border router (RFC 2328) from the
+//! command line.
+//!
+//! The commands that read a recording or a capture are here. The answers of the others are in
+//! `command_answers`.
 #![tactic(auto)]
 
 mod capturing;

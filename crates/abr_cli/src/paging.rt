@@ -11,20 +11,22 @@ use std::hash::RandomState;
 use std::io;
 use worker_replay::WorkerReplayFault;
 
-/// The command `page`, as it was given.
+/// The command `page`, with its words.
 #[derive(Clone, Copy)]
 pub struct Page<'a> {
-    /// The recording's name.
+    /// The name of the recording.
     pub file: &'a str,
-    /// The name of the file that the page is written to, where it is not standard output.
+    /// The name of the file that the page is written to, or `None` for standard output.
     pub output: Option<&'a str>,
-    /// Whether it is shown how much of the recording is done.
+    /// True if the progress is shown.
     pub progress: bool,
 }
 
 impl Page<'_> {
-    /// Runs the recording that comes from `input`, and writes its page to `out`. How much is done, and why there is no page, is
-    /// written to `faults`, where a file that cannot be written is named; what is returned is the status, 0 or 1.
+    /// Runs the recording from `input`, and writes its page to `out`.
+    ///
+    /// The progress, and the reason if there is no page, are written to `faults`. The reason names
+    /// an output file that cannot be written. Returns the status, 0 or 1.
     pub fn run<R: io::Read, W: io::Write, F: io::Write>(
         self,
         alloc: Global,
@@ -51,7 +53,7 @@ impl Page<'_> {
     }
 }
 
-// Says why there is no page.
+// Writes why there is no page. Returns the status.
 fn say_page_end<F: io::Write>(
     alloc: Global,
     file: &str,
@@ -68,7 +70,7 @@ fn say_page_end<F: io::Write>(
     }
 }
 
-// The file that could not be written, if this is why there is no page.
+// Returns the name of the output file, if the fault is that it could not be written.
 fn unwritten(output: Option<&str>, fault: ReplayFault) -> Option<&str>
     ensures { result ≡ unwritten_file output.entry fault }
 {

@@ -15,18 +15,21 @@ use std::sync::Wait;
 use std::thread::Threads;
 use worker_replay::{WorkerReplayFault, ReplayOptions, replay_many};
 
-/// The command `replay`, as it was given.
+/// The command `replay`, with its words.
 #[derive(Clone, Copy)]
 pub struct Replay<'a> {
-    /// The recording's name.
+    /// The name of the recording.
     pub file: &'a str,
     pub options: ReplayOptions,
 }
 
 impl Replay<'_> {
-    /// Runs the recording that `input` holds. Its answers and then what the options show are written to `out`. How much is
-    /// done, and the fault for which it ends early, is written to `faults`, where no fault is said if `out` is a pipe and was
-    /// closed; what is returned is the status, 0 or 1. Of a run by several workers it is not shown how much is done.
+    /// Runs the recording from `input`. Its output, and the state that the options name, are
+    /// written to `out`.
+    ///
+    /// The progress, and the reason for an early end, are written to `faults`. There is no such
+    /// reason if `out` is a pipe that was closed, and no progress if there are several workers.
+    /// Returns the status, 0 or 1.
     pub fn run<S: Threads + Wait + Sync, R: io::Read, W: io::Write, F: io::Write>(
         self,
         rt: &S,
@@ -49,7 +52,7 @@ impl Replay<'_> {
     }
 }
 
-// Runs the recording, and shows how much is done.
+// Runs the recording, and shows the progress.
 fn run_with<S: Threads + Wait + Sync, R: io::Read, W: io::Write, F: io::Write>(
     rt: &S,
     alloc: Global,
@@ -82,7 +85,7 @@ fn run_with<S: Threads + Wait + Sync, R: io::Read, W: io::Write, F: io::Write>(
     }
 }
 
-/// Says why the running of a recording ended early, but nothing where the output's pipe was closed.
+/// Writes why a run ended early, unless the pipe of the output was closed. Returns the status.
 pub(crate) fn say_end<F: io::Write>(
     alloc: Global,
     file: &str,
@@ -97,7 +100,7 @@ pub(crate) fn say_end<F: io::Write>(
     }
 }
 
-// The fault as one of the command; or why the output was not written whole.
+// Returns the fault as a fault of the command, or the reason why the output was not written whole.
 fn fault_from(file: &str, fault: WorkerReplayFault) -> Result<CommandFault<'_>, WriteError>
     ensures { result ≡ from_replay file.entry fault }
 {
@@ -113,7 +116,8 @@ fn fault_from(file: &str, fault: WorkerReplayFault) -> Result<CommandFault<'_>, 
     }
 }
 
-/// Writes the line of the fault, or of want of memory where there is none for it.
+/// Writes the line of the fault, or of 30 Memory if there is no memory for that line. Returns the
+/// status, or 1 if the writer fails.
 pub fn say_fault<F: io::Write>(alloc: Global, fault: CommandFault<'_>, faults: &mut F) -> u8
     ensures { IsSaid (fault_line (command_fault_text fault.entry)) (status_of fault.entry) result
         (F.contents faults.old) (F.contents faults.new)

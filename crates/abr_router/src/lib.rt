@@ -1,23 +1,25 @@
-//! What a program names that links the router: the databases, the routing table and the due summary-LSAs of an OSPF area
-//! border router (RFC 2328). It has no code of its own: each name comes from a crate below it.
+//! The names for a program that links the router: the databases, the routing table and the due
+//! summary-LSAs of an OSPF area border router (RFC 2328).
+//!
+//! This crate has no code of its own. Each name comes from a crate below it.
 #![tactic(auto)]
 
-// One thread has a core; threads share an engine, and look up by forwarders.
+// The router: a core on one thread, or an engine that threads share, with its forwarders.
 pub use engine::{
     Answer, Base, BaseFault, BytesFault, ConfigFault, Core, DueList, DueSummary, Engine, Event,
     Forwarder, Gate, Open, OpenFault, Refusal, Refused, Reply, Seen, Status, Told, EntryFault, LookupError,
 };
-// What a router is opened from again.
+// The base, from which a router is opened again.
 pub use event_state::{Limits, fault_in_base};
 pub use ospf_types::listed::Listed;
-// What the core shows beside its table.
+// The other results of a core: due summaries, changes and work.
 pub use event_core::{DueChanges, DueSummaries, Touched, fault_in};
 pub use summary_lists::AreaSummaries;
 // LSAs and their bytes (A.4).
 pub use lsa_codec::{
     Checked, External, Header, Link, LinkKind, Links, Routers, WireFault, read, sum_of, write,
 };
-// The vocabulary of configurations, keys and routes.
+// Configurations, keys and routes.
 pub use ospf_types::address::Address;
 pub use ospf_types::config::{AreaConfig, Areas, Config, Interface, Range, Ranges, Stub};
 pub use ospf_types::entry::{Entry, PathType, Paths};

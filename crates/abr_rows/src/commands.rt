@@ -10,10 +10,10 @@ use std::random::RandomSource;
 use std::sync::Wait;
 use std::thread::Threads;
 
-// The router-LSA of 10.0.0.1 with one stub link, 192.0.2.0/24 at metric 10.
+// The router-LSA of 10.0.0.1 with one stub link, to 192.0.2.0/24 at metric 10.
 const STUB: &str = "000102010a0000010a00000180000001e986002400000001c0000200ffffff000300000a";
 
-// The words of `abr one`.
+// The arguments of `abr one`.
 const ONE: [&str; 7] = [
     "abr",
     "one",
@@ -24,7 +24,7 @@ const ONE: [&str; 7] = [
     "192.0.2.77",
 ];
 
-// The status that the words give, with a recording at hand.
+// Returns the status of the command with these arguments, with a recording as its input.
 fn status<S: Threads + Wait + Sync, W: io::Write, F: io::Write>(
     rt: &S,
     alloc: Global,
@@ -69,7 +69,7 @@ fn cannot_print<S: Threads + Wait + Sync>(
     cannot_write(rt, alloc, hashing, words, "abr: cannot write\n")
 }
 
-// A full disk is told by this line, and of a pipe whose reading end was closed nothing is said.
+// Returns true if the command prints this line for a full disk, and nothing for a closed pipe.
 fn cannot_write<S: Threads + Wait + Sync>(
     rt: &S,
     alloc: Global,
@@ -100,7 +100,7 @@ fn cannot_tell_the_fault<S: Threads + Wait + Sync>(
     status(rt, alloc, hashing, words, &mut out, &mut faults) == 1 && out.is_empty()
 }
 
-// The words of commands that print.
+// The arguments of commands that print.
 const PRINTING: [&[&str]; 7] = [
     &ONE,
     &["abr", "decode", STUB],
@@ -111,19 +111,19 @@ const PRINTING: [&[&str]; 7] = [
     &["abr", "--help"],
 ];
 
-// The words of a command that writes to a file, and what it says where it cannot.
+// The arguments of a command that writes to a file, and the line that it prints if it cannot.
 const WRITING: [&str; 5] = ["abr", "page", "-", "-o", "network.html"];
 
 const UNWRITTEN: &str = "abr: cannot write network.html\n";
 
-// Words that are at fault.
+// Arguments that are not valid.
 const FAULTY: [&[&str]; 3] = [
     &["abr", "one", "", "", "", "", ""],
     &["abr", "decode", "0"],
     &["abr", "two"],
 ];
 
-// The status is 1 where nothing can be written.
+// Runs commands that cannot write. Their status has to be 1.
 pub fn run<R: AllocGlobal + RandomSource + Threads + Wait + Sync>(rt: &R) -> Result<()> {
     let (alloc, hashing) = (rt.alloc(), RandomState::new(rt)?);
     for words in PRINTING {

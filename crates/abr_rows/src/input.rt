@@ -1,6 +1,6 @@
 use std::io;
 
-/// What a command reads: bytes, or nothing that can be read.
+/// The input of a command: bytes, or an input that cannot be read.
 #[derive(Drop)]
 pub enum Input<'a> {
     Bytes(&'a [u8]),

@@ -1,6 +1,8 @@
-//! Runs the commands of `abr` on the rows of `data/`, and prints which differ from what is wanted. Behind them it tries what no row
-//! can say: recordings read and printed, and replays and commands over readers and writers that fail. It ends with an error where
-//! something else comes.
+//! Runs the commands of `abr` on the rows of `data/`, and prints the rows that differ.
+//!
+//! Then it tests recordings that are read and printed, and replays and commands with readers and
+//! writers that fail, because no row can describe these. The first such test that differs ends the
+//! run with an error.
 #![tactic(auto)]
 
 mod commands;
@@ -46,7 +48,7 @@ const FILES: [&str; 19] = [
     "capture.rows",
 ];
 
-/// How many rows ran, and how many of them differ.
+/// The number of rows that ran, and the number of rows that differ.
 #[derive(Clone, Copy)]
 struct Count {
     ran: u64,
@@ -63,7 +65,7 @@ fn main(rt: HostRuntime) -> Result<()> {
     run_others(&rt)
 }
 
-// Tries what no row can say, and prints what was tried.
+// Runs the tests that no row can describe, and prints their names.
 fn run_others<R: AllocGlobal + RandomSource + Print + Threads + Wait + Sync>(rt: &R) -> Result<()> {
     recordings::run(rt)?;
     println!(rt; "recordings that are read and printed")?;
@@ -78,7 +80,7 @@ fn run_others<R: AllocGlobal + RandomSource + Print + Threads + Wait + Sync>(rt:
     Ok(())
 }
 
-// Runs the rows of a file, and prints those that differ.
+// Runs the rows of a file, and prints the rows that differ.
 fn run_file<R: Files + AllocGlobal + RandomSource + Print + Threads + Wait + Sync>(
     rt: &R,
     file: &str,

@@ -1,9 +1,9 @@
-//! Recordings are read, and printed as they were.
+//! Recordings that are read, and printed as the same text.
 
 use anyhow::{Result, bail, ensure};
 use recording::{Recording, Version, parse, print};
 
-// Each form of a line that every version has, and each LS type.
+// A recording with each form of line that every version has, and with each LS type.
 const TEXT: &str = "abr 1
 router 10.0.0.1
 area 0.0.0.0 normal
@@ -24,7 +24,7 @@ second
 lookup 255.255.255.255
 ";
 
-// Each form of a line that only version 3 has.
+// A recording with each form of line that only version 3 has.
 const BASED: &str = "abr 3
 router 10.0.0.1
 compat enabled
@@ -40,7 +40,7 @@ range-drop 0.0.0.0 10.0.0.0/8
 roll
 ";
 
-// What is printed of the recording behind what is there already.
+// Returns true if the recording prints as this text, after the text that is there already.
 fn printed(rt: &impl AllocGlobal, recording: &Recording, text: &str) -> Result<bool> {
     let mut out = Vec::from_slice(rt.alloc(), b"> ")?;
     print(rt.alloc(), recording, &mut out)?;

@@ -9,7 +9,7 @@ use std::hash::RandomState;
 use std::io;
 use std::random::RandomSource;
 
-/// A router with one network.
+/// The recording of a router with one network.
 pub const RECORDING: &str = "abr 1
 router 10.0.0.1
 area 0.0.0.0 normal
@@ -25,14 +25,14 @@ serial 2 built 2
 route 192.0.2.0/24 intra 0.0.0.0 10 0 direct:1
 ";
 
-/// A device that gives or takes at most sixteen bytes at a call, and does so for some calls.
+/// A device that reads or writes at most 16 bytes a call, for some calls, and then fails.
 #[derive(Drop)]
 pub struct Device<'a> {
     left: &'a [u8],
-    /// What was written to it.
+    /// The bytes that were written to it.
     pub taken: Vec<u8>,
     calls: u8,
-    // What it does then: a write fails with an error of this kind, or takes nothing.
+    // The kind of error of a later write, or `None` if a later write takes no bytes.
     failure: Option<io::ErrorKind>,
 }
 
@@ -70,7 +70,7 @@ impl io::Write for Device<'_> {
     }
 }
 
-/// A device with this text to be read, and for so many calls.
+/// Creates a device with this text to read, which fails after `calls` calls.
 pub fn some_device(
     alloc: Global,
     text: &str,
@@ -86,15 +86,15 @@ pub fn some_device(
     }
 }
 
-/// The routing table, in words; how much is done is not shown.
+/// The options that print the routing table as text, without progress.
 pub const PRINTING: PrintOptions = PrintOptions {
     show: Show::Routes,
     format: Format::Text,
     progress: false,
 };
 
-// What a replay with so many reads and writes answers, and whether what it wrote is a beginning of the
-// routes, and all of them.
+// Replays the recording with these numbers of reads and writes. Returns the result, if the output
+// is a prefix of the routes, and if it is all of them.
 fn replays(
     alloc: Global,
     hashing: RandomState,
@@ -128,7 +128,7 @@ pub fn run<R: AllocGlobal + RandomSource>(rt: &R) -> Result<()> {
     Ok(())
 }
 
-// The recording is read in fifteen calls, the last of which gives nothing.
+// The recording is read in 15 calls, the last of which gives no bytes.
 fn fails_by_its_reader(alloc: Global, hashing: RandomState) -> bool {
     let mut all = true;
     for calls in 0..15 {
@@ -155,7 +155,7 @@ fn fails_by_its_writer(alloc: Global, hashing: RandomState) -> bool {
     all
 }
 
-// A fault of the input writes nothing.
+// A fault of the input is returned although nothing can be written.
 fn fails_by_its_input(alloc: Global, hashing: RandomState) -> bool {
     let (line, fault) = (2, Fault::Truncated);
     let line_fault = ReplayFault::Line(LineFault { line, fault });

@@ -1,37 +1,37 @@
-//! Rows, read. In a file of rows each line has a mark in front:
+//! The rows of a file, and how they are read. Each line of the file begins with a mark:
 //!
 //! | Mark | The rest of the line |
 //! |---|---|
-//! | `$` | begins a row: the words behind `abr`, with one space between each two; `""` is a word of no letters |
-//! | `<` | a line of the input, which has its line feed |
-//! | `<+` | such a line, so many times: the number, and the line |
-//! | `\|` | a part of the input, or its end, which has none |
-//! | `<*` | a part of the input, so many times: the number, and the part |
+//! | `$` | begins a row: the arguments after `abr`, one space apart; `""` is an empty argument |
+//! | `<` | a line of the input, with its line feed |
+//! | `<+` | a repeated line of the input: the number, and the line |
+//! | `\|` | a part of the input without a line feed |
+//! | `<*` | a repeated part of the input: the number, and the part |
 //! | `<x` | a part of the input, in hexadecimal |
 //! | `^` | the input of the row before |
 //! | `x` | the input cannot be read |
-//! | `b` | a line of the file of `--begin`; where there is none, it cannot be read |
-//! | `>` | a line of the output that is wanted |
-//! | `>+` | such a line, so many times |
-//! | `>*` | a part of that output, so many times |
-//! | `!` | a line that is wanted on standard error |
-//! | `!~` | such a line, with `~` for each carriage return |
-//! | `?` | whatever is printed is as it is wanted |
-//! | `=` | the status that is wanted, and the end of the row |
+//! | `b` | a line of the file of `--begin`; without one, it cannot be read |
+//! | `>` | an expected line of the output |
+//! | `>+` | a repeated expected line of the output |
+//! | `>*` | a repeated expected part of the output |
+//! | `!` | an expected line on standard error |
+//! | `!~` | an expected line on standard error, with `~` for each carriage return |
+//! | `?` | any text may be printed |
+//! | `=` | the expected status, and the end of the row |
 //! | `#` | a remark |
 
 use std::alloc::{AllocError, AllocFailed, Global};
 use thiserror::Error;
 
-/// A command, and what is wanted of it.
+/// A command, and its expected results.
 #[derive(Debug)]
 pub struct Row<'a> {
-    /// The line at which it begins, counted from 1.
+    /// The line at which the row begins, counted from 1.
     pub line: usize,
     pub words: Vec<&'a str>,
     pub input: Vec<u8>,
     pub is_readable: bool,
-    /// The file of `--begin`, and whether it can be read.
+    /// The file of `--begin`. `has_beginning` is true if it can be read.
     pub beginning: Vec<u8>,
     pub has_beginning: bool,
     pub output: Vec<u8>,
@@ -40,7 +40,7 @@ pub struct Row<'a> {
     pub status: u8,
 }
 
-// proof: one call drops it, in place of a drop of each part wherever one is held.
+// proof: a value is dropped by one call, not part by part at each exit of a function.
 impl<'a> Drop for Row<'a> {
     fn drop(self) {
         let Row {
@@ -58,10 +58,10 @@ impl<'a> Drop for Row<'a> {
     }
 }
 
-/// Why there are no rows.
+/// The reason why rows cannot be read.
 #[derive(Clone, Copy, Debug, Error)]
 pub enum RowFault {
-    /// The line has no mark, or one that may not stand there.
+    /// The line has no mark, or the mark is not allowed there.
     #[error("line {0} is none of a row")]
     Line(usize),
     #[error("no memory")]
@@ -83,7 +83,11 @@ where
     }
 }
 
-/// The rows of a file, in order.
+/// Returns the rows of a file, in order.
+///
+/// # Errors
+///
+/// Returns the first line that is not valid, or `Memory` if memory runs out.
 pub fn read_rows<'a>(alloc: Global, text: &'a str) -> Result<Vec<Row<'a>>, RowFault> {
     let mut rows = Vec::new(alloc);
     let mut open = None;
@@ -104,14 +108,14 @@ pub fn read_rows<'a>(alloc: Global, text: &'a str) -> Result<Vec<Row<'a>>, RowFa
     Ok(rows)
 }
 
-// A row, and whether it has ended.
+// A row that is open, or that has ended.
 #[derive(Drop)]
 enum Step<'a> {
     Open(Row<'a>),
     Ended(Row<'a>),
 }
 
-// The row that the line begins; none where it is empty or a remark.
+// Returns the row that the line begins, or `None` if the line is empty or a remark.
 fn begin_row<'a>(alloc: Global, number: usize, line: &'a str) -> Result<Option<Row<'a>>, RowFault> {
     if line.is_empty() || line.starts_with('#') {
         return Ok(None);
@@ -133,7 +137,7 @@ fn begin_row<'a>(alloc: Global, number: usize, line: &'a str) -> Result<Option<R
     }))
 }
 
-// The words of a command, each behind a space.
+// Returns the arguments of a command, each of which follows a space.
 fn words_of<'a>(alloc: Global, text: &'a str) -> Result<Vec<&'a str>, RowFault> {
     let mut words = Vec::new(alloc);
     words.push("abr")?;
@@ -150,7 +154,7 @@ fn words_of<'a>(alloc: Global, text: &'a str) -> Result<Vec<&'a str>, RowFault> 
     Ok(words)
 }
 
-// The row with a further line. The row before it may be none.
+// Adds a line to the row. `before` is the row before it, if there is one.
 fn go_on<'a>(
     mut row: Row<'a>,
     before: Option<&Row<'a>>,
@@ -180,7 +184,7 @@ fn go_on<'a>(
     Ok(Step::Open(row))
 }
 
-// Adds the part of the input that the line has. Answers whether it has one.
+// Adds the line's part of the input. Returns false if the line is not part of the input.
 fn add_input(input: &mut Vec<u8>, number: usize, line: &str) -> Result<bool, RowFault> {
     if let Some(text) = line.strip_prefix("< ") {
         add_line(input, text)?;
@@ -198,7 +202,7 @@ fn add_input(input: &mut Vec<u8>, number: usize, line: &str) -> Result<bool, Row
     Ok(true)
 }
 
-// Adds what the line says is wanted. Answers whether it says that.
+// Adds the line's expected output. Returns false if the line is not part of it.
 fn add_wanted(row: &mut Row<'_>, number: usize, line: &str) -> Result<bool, RowFault> {
     if let Some(text) = line.strip_prefix(">* ") {
         add_often(&mut row.output, number, text, "")?;
@@ -216,14 +220,14 @@ fn add_wanted(row: &mut Row<'_>, number: usize, line: &str) -> Result<bool, RowF
     Ok(true)
 }
 
-// Adds the text and a line feed.
+// Appends the text and a line feed.
 fn add_line(to: &mut Vec<u8>, text: &str) -> Result<(), RowFault> {
     to.extend_from_slice(text.as_bytes())?;
     to.push(b'\n')?;
     Ok(())
 }
 
-// Adds a line that is written over: each `~` is a carriage return.
+// Appends a line in which each `~` is replaced by a carriage return.
 fn add_over(to: &mut Vec<u8>, text: &str) -> Result<(), RowFault> {
     for byte in text.as_bytes() {
         to.push(if *byte == b'~' { b'\r' } else { *byte })?;
@@ -232,7 +236,7 @@ fn add_over(to: &mut Vec<u8>, text: &str) -> Result<(), RowFault> {
     Ok(())
 }
 
-// Adds a part so many times, each with this end.
+// Appends a repeated part, each time with this end.
 fn add_often(to: &mut Vec<u8>, number: usize, text: &str, end: &str) -> Result<(), RowFault> {
     let (times, part) = text.split_once(' ').ok_or(RowFault::Line(number))?;
     let times: u32 = times.parse().map_err(|_| RowFault::Line(number))?;
@@ -243,7 +247,7 @@ fn add_often(to: &mut Vec<u8>, number: usize, text: &str, end: &str) -> Result<(
     Ok(())
 }
 
-// Adds the bytes that the text has in hexadecimal.
+// Appends the bytes of the hexadecimal text.
 fn add_bytes(to: &mut Vec<u8>, number: usize, text: &str) -> Result<(), RowFault> {
     let bytes = hex::decode(*to.allocator(), text).map_err(|_| RowFault::Line(number))?;
     to.extend_from_slice(&bytes)?;

@@ -1,4 +1,4 @@
-//! What events changed, over readers and writers that fail.
+//! Changes by events, over readers and writers that fail.
 
 use crate::replays::{RECORDING, some_device};
 use crate::trial::UNSHOWN;
@@ -15,13 +15,13 @@ use std::random::RandomSource;
 const CHANGES: &str = "5 set 192.0.2.0/24 intra 0.0.0.0 10 0 direct:1
 ";
 
-// The changes of all networks, in words.
+// The changes of all networks, as text.
 const WANTED: ChangeFilter = ChangeFilter {
     only: None,
     format: Format::Text,
 };
 
-// All that is told, and no answers; the first fault ends it.
+// Options that print all changes but no answers, and end at the first fault.
 const ALL: ChangeOptions = ChangeOptions {
     wanted: WANTED,
     answers: false,
@@ -29,7 +29,7 @@ const ALL: ChangeOptions = ChangeOptions {
     progress: UNSHOWN,
 };
 
-// Answers too, and faults are skipped.
+// Options that print answers too, and skip faults.
 const ANSWERS: ChangeOptions = ChangeOptions {
     wanted: WANTED,
     answers: true,
@@ -37,8 +37,8 @@ const ANSWERS: ChangeOptions = ChangeOptions {
     progress: UNSHOWN,
 };
 
-// What is answered with so many reads and writes, and whether what was written is a beginning of the
-// changes, and all of them.
+// Prints the changes with these numbers of reads and writes. Returns the result, if the output is a
+// prefix of the changes, and if it is all of them.
 fn tells(
     alloc: Global,
     hashing: RandomState,
@@ -76,7 +76,7 @@ pub fn run<R: AllocGlobal + RandomSource>(rt: &R) -> Result<()> {
     Ok(())
 }
 
-// The recording is read in fifteen calls, the last of which gives nothing.
+// The recording is read in 15 calls, the last of which gives no bytes.
 fn fails_by_its_reader(alloc: Global, hashing: RandomState) -> bool {
     let mut all = true;
     for calls in 0..15 {
@@ -87,7 +87,7 @@ fn fails_by_its_reader(alloc: Global, hashing: RandomState) -> bool {
     all && whole == (Ok(()), true, true)
 }
 
-// The line is written in three calls.
+// The line is written in 3 calls.
 fn fails_by_its_writer(alloc: Global, hashing: RandomState) -> bool {
     let (full, closed) = (io::ErrorKind::StorageFull, io::ErrorKind::BrokenPipe);
     let mut all = true;
@@ -104,7 +104,7 @@ fn fails_by_its_writer(alloc: Global, hashing: RandomState) -> bool {
     all
 }
 
-// A fault of the input writes nothing.
+// Nothing is written for a fault of the input.
 fn fails_by_its_input(alloc: Global, hashing: RandomState) -> bool {
     let (line, fault) = (2, Fault::Truncated);
     let line_fault = ReplayFault::Line(LineFault { line, fault });
@@ -112,7 +112,7 @@ fn fails_by_its_input(alloc: Global, hashing: RandomState) -> bool {
     found == (Err(line_fault), true, false)
 }
 
-/// Gives a line at each call, and counts them.
+/// A reader that gives one line a call, and counts the calls.
 #[derive(Drop)]
 struct LineByLine<'a> {
     left: &'a [u8],
@@ -128,7 +128,8 @@ impl io::Read for LineByLine<'_> {
     }
 }
 
-// Nothing can be written: it ends with the first line of which something is told, before the next is read.
+// Nothing can be written. The run ends with the first line that prints something, before the next
+// line is read.
 fn reads_line_by_line(alloc: Global, hashing: RandomState) -> bool {
     let mut input = LineByLine {
         left: RECORDING.as_bytes(),

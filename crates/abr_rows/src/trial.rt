@@ -1,4 +1,4 @@
-//! A row, run.
+//! One row, and how it is run.
 
 use crate::input::Input;
 use crate::row::Row;
@@ -8,13 +8,17 @@ use std::hash::RandomState;
 use std::sync::Wait;
 use std::thread::Threads;
 
-/// It is not shown how much is done, unless the words ask for it.
+/// Progress that is not shown, unless the arguments ask for it.
 pub const UNSHOWN: Progress = Progress {
     is_shown: false,
     all: None,
 };
 
-/// Whether the command answers what the row wants.
+/// Returns true if the command has the expected results of the row.
+///
+/// # Errors
+///
+/// Returns an error if memory runs out.
 pub fn is_as_wanted<S: Threads + Wait + Sync>(
     rt: &S,
     alloc: Global,

@@ -1,4 +1,4 @@
-//! A replay over two workers.
+//! A replay with two workers.
 
 use crate::replays::PRINTING;
 use anyhow::{Result, ensure};
@@ -8,7 +8,7 @@ use std::sync::Wait;
 use std::thread::Threads;
 use worker_replay::{ReplayOptions, replay_many};
 
-// The events that are taken are so in any order, and the flush is refused in any.
+// The events are taken, and the flush is refused, in whatever order they are submitted.
 const RECORDING: &str = "abr 1
 router 10.0.0.1
 area 0.0.0.0 normal
@@ -28,7 +28,7 @@ serial 4 built 4
 route 10.1.0.0/16 inter 0.0.0.0 20 0 peer:1@10.0.0.2
 ";
 
-// Look-ups see all events that were taken.
+// Lookups see all events that were taken.
 pub fn run<R: AllocGlobal + RandomSource + Threads + Wait + Sync>(rt: &R) -> Result<()> {
     let hashing = RandomState::new(rt)?;
     let mut input = RECORDING.as_bytes();

@@ -1,4 +1,4 @@
-//! Active ranges: those that have a member.
+//! The active ranges, which are the ranges that have a member.
 ghost use Rattle.std.specs.Prelude.{◌≡◌, ◌≢◌, ◌↔◌, ℕ, [], Some, None, Contains, IsTrue, IfOk, OnOk, OnErr, option_copied, map as list_map};
 ghost use Rattle.std.specs.FinMap as map;
 ghost use Rattle.std.specs.List.Sorted.{IsStrictlySortedBy};
@@ -26,13 +26,14 @@ use std::alloc::Global;
 use std::collections::BTreeMap;
 use std::marker::Model;
 
-/// The ranges of the areas that are active: each with the networks that it has, at the cost of their entries.
+/// The active ranges of the areas, each with its networks and the costs of their entries.
 pub struct ActiveRanges {
+    // A range that lost its last network may stay here, with an empty list. It is not active.
     ranges: BTreeMap<AreaRange, Networks>,
     spent: bool,
 }
 
-// proof: one call drops it, in place of a drop of each part wherever one is held.
+// proof: a value is dropped by one call, not part by part at each exit of a function.
 impl Drop for ActiveRanges {
     fn drop(self) {
         let ActiveRanges {
@@ -55,7 +56,7 @@ impl Model for ActiveRanges {
     ghost view = { λ a. record { members = map.from_entries (members_in a.ranges.entries); spent = a.spent } };
 }
 
-// The prefix of a range, and whether a range with it was active.
+// The prefix of a range, and true if a range with it was active.
 #[derive(Clone, Copy, PartialEq, Eq)]
 struct Noted {
     prefix: Prefix,
@@ -63,7 +64,7 @@ struct Noted {
 }
 
 impl ActiveRanges {
-    /// The active ranges by these routes, from scratch.
+    /// Builds the active ranges of these routes.
     pub fn build(alloc: Global, areas: &[AreaConfig], intra: &Intra) -> Result<ActiveRanges, Memory>
         ensures kept { IfOk result (AreRangesOf areas.now intra.now.entries) }
         ensures right { IfOk result (IsRightWith areas.now intra.now) }
@@ -78,9 +79,14 @@ impl ActiveRanges {
         Ok(active)
     }
 
-    /// Follows the routes, of which those of the named networks may differ. The answer is the prefixes of ranges that
-    /// became active, or no longer are, ascending, each once. If memory runs out, all is spent, and only `build`
-    /// makes another.
+    /// Updates the members by the routes, which may have changed for the networks in `dests`.
+    /// Returns the prefixes of ranges that became active or inactive, in ascending order without
+    /// duplicates.
+    ///
+    /// # Errors
+    ///
+    /// Returns `Memory` if memory runs out. The ranges are then spent: they are empty, and only
+    /// `build` makes others.
     pub fn update(
         &mut self,
         alloc: Global,
@@ -103,9 +109,14 @@ impl ActiveRanges {
         prefixes
     }
 
-    /// Follows a range that was set or dropped, which is named by its Area ID and its prefix; the routes stay. The answer is
-    /// the networks of the area that the prefix covers, as members of the range. If memory runs out, all is spent, and
-    /// only `build` makes another.
+    /// Updates the members of a range that was set or dropped, given by its Area ID and its prefix.
+    /// The routes must be the same as before. Returns the networks of the area that the prefix
+    /// covers, as members of the range.
+    ///
+    /// # Errors
+    ///
+    /// Returns `Memory` if memory runs out. The ranges are then spent: they are empty, and only
+    /// `build` makes others.
     pub fn reconfigure(
         &mut self,
         alloc: Global,
@@ -127,7 +138,7 @@ impl ActiveRanges {
         members
     }
 
-    /// Whether the prefix is that of an active range of some area.
+    /// Returns true if an active range of some area has this prefix.
     pub fn contains(&self, prefix: Prefix) -> bool
         ensures { IsTrue result ↔ IsActiveIn self.now prefix }
     {
@@ -143,7 +154,8 @@ impl ActiveRanges {
         false
     }
 
-    /// The greatest cost below the limit that a network of the area's range with this prefix has.
+    /// Returns the greatest cost below `limit` of a network in the area's range with this prefix,
+    /// or `None` if there is none.
     pub fn costliest(&self, range: Prefix, area: u32, limit: u32) -> Option<u32>
         ensures { IsGreatestBelow limit (HasCost self.now range area) result }
     {
@@ -156,7 +168,7 @@ impl ActiveRanges {
         networks.costliest(limit)
     }
 
-    /// The prefixes of active ranges, ascending, each once.
+    /// Returns the prefixes of active ranges, in ascending order without duplicates.
     pub fn prefixes(&self, alloc: Global) -> Result<Vec<Prefix>, Memory>
         ensures in_order { IfOk result (λ prefixes. IsStrictlySortedBy network_cmp prefixes.items) }
         ensures exact { IfOk result (λ prefixes. ListsExactly (IsActiveIn self.now) prefixes.items) }
@@ -168,7 +180,7 @@ impl ActiveRanges {
         Ok(ascending(prefixes))
     }
 
-    /// Whether an update ran out of memory.
+    /// Returns true if memory ran out in an update.
     pub fn spent(&self) -> bool
         ensures { result ≡ self.now.spent }
     {
@@ -177,7 +189,8 @@ impl ActiveRanges {
 }
 
 impl ActiveRanges {
-    // Follows the routes; after an error some members followed and others did not.
+    // Updates the members by the routes. After an error some members are updated and others are
+    // not.
     fn update_parts(
         &mut self,
         alloc: Global,
@@ -199,7 +212,7 @@ impl ActiveRanges {
         Ok(turned)
     }
 
-    // Follows the range; after an error some members followed and others did not.
+    // Updates the members of the range. After an error some are updated and others may not be.
     fn reconfigure_parts(
         &mut self,
         alloc: Global,
@@ -217,14 +230,15 @@ impl ActiveRanges {
         if had.is_empty() {
             return self.reconfigure_by_entries(alloc, areas, intra, named);
         }
-        // Where the range has members, they are all that it can have.
+        // If the range has members, they are all networks that it can have.
         if !is_configured(areas, area, range) {
             self.leave(area, range);
         }
         Ok(had)
     }
 
-    // Follows the range by the entries of all networks; after an error its members may have followed.
+    // Updates the members of the range by the entries of all networks. After an error its members
+    // may be updated.
     fn reconfigure_by_entries(
         &mut self,
         alloc: Global,
@@ -248,7 +262,7 @@ impl ActiveRanges {
         Ok(members)
     }
 
-    // The members of the area's range.
+    // Returns the members of the area's range.
     fn members_in(&self, alloc: Global, area: u32, range: Prefix) -> Result<Vec<RangeMember>, Memory>
         ensures { IfOk result (λ members. ListsExactly (IsMemberIn self.now area range) members.items) }
     {
@@ -262,7 +276,7 @@ impl ActiveRanges {
         }
     }
 
-    // Whether ranges with the prefixes are active now.
+    // Returns for each prefix if a range with it is active.
     fn noted(&self, alloc: Global, prefixes: &[Prefix]) -> Result<Vec<Noted>, Memory>
         ensures listed { IfOk result (λ noted. prefixes_of noted.items ≡ prefixes.now) }
         ensures exact { IfOk result (λ noted. AreNotedOf self.now noted.items) }
@@ -277,7 +291,7 @@ impl ActiveRanges {
         Ok(noted)
     }
 
-    // The prefixes of which what was noted is no longer so.
+    // Returns the prefixes for which this has changed since it was noted.
     fn turned(&self, alloc: Global, noted: &[Noted]) -> Result<Vec<Prefix>, Memory>
         requires { IsStrictlySortedBy network_cmp (prefixes_of noted.now) }
         ensures in_order { IfOk result (λ prefixes. IsStrictlySortedBy network_cmp prefixes.items) }
@@ -291,7 +305,7 @@ impl ActiveRanges {
         Ok(prefixes)
     }
 
-    // Adds the prefix, where what was noted of it is no longer so.
+    // Appends the prefix, if this has changed since it was noted.
     fn push_turned(&self, note: Noted, prefixes: &mut Vec<Prefix>) -> Result<(), Memory>
         ensures { OnOk result (IsTold self.now note prefixes.old.items prefixes.new.items) }
     {
@@ -302,7 +316,7 @@ impl ActiveRanges {
         Ok(())
     }
 
-    // The members take the costs of the entries.
+    // Sets the members to the costs of their entries.
     fn follow(&mut self, alloc: Global, intra: &Intra, named: &[RangeMember]) -> Result<(), Memory>
         ensures { OnOk result (AreFollowed intra.now.entries named.now self.old self.new) }
     {
@@ -312,7 +326,7 @@ impl ActiveRanges {
         Ok(())
     }
 
-    // The area's range has these members, and no others.
+    // Replaces the members of the area's range.
     fn take_in(
         &mut self,
         alloc: Global,
@@ -328,7 +342,7 @@ impl ActiveRanges {
         Ok(())
     }
 
-    // Drops the members of the area's range.
+    // Removes the members of the area's range.
     fn leave(&mut self, area: u32, range: Prefix)
         ensures { HasLeft area range self.old self.new }
     {
@@ -339,7 +353,8 @@ impl ActiveRanges {
         self.ranges.remove(&range);
     }
 
-    // The member takes the cost of its network's entry, where that is one through the member's area.
+    // Sets the member to the cost of its network's entry. Removes it if that entry is not one of
+    // the member's area.
     fn follow_member(&mut self, alloc: Global, intra: &Intra, member: RangeMember) -> Result<(), Memory>
         ensures spent { OnOk result (self.new.spent ≡ self.old.spent) }
         ensures here { OnOk result (HasCostBy intra.now.entries self.new member) }
@@ -354,7 +369,7 @@ impl ActiveRanges {
         self.put(alloc, AreaRange { prefix, area }, network, cost)
     }
 
-    // Gives the network of the range this cost. With none it is no member.
+    // Sets the cost of the network in the range, or removes the network if `cost` is `None`.
     fn put(
         &mut self,
         alloc: Global,
@@ -375,7 +390,7 @@ impl ActiveRanges {
         networks.put(network, cost)
     }
 
-    // Gives the range its first network at this cost, or nothing.
+    // Adds the range with its first network, unless `cost` is `None`.
     fn put_first(
         &mut self,
         alloc: Global,
@@ -405,7 +420,7 @@ impl ActiveRanges {
     }
 }
 
-// The prefixes of the members' ranges, ascending, each once.
+// Returns the prefixes of the members' ranges, in ascending order without duplicates.
 fn ranges_of(alloc: Global, members: &[RangeMember]) -> Result<Vec<Prefix>, Memory>
     ensures in_order { IfOk result (λ prefixes. IsStrictlySortedBy network_cmp prefixes.items) }
     ensures exact { IfOk result
@@ -415,7 +430,7 @@ fn ranges_of(alloc: Global, members: &[RangeMember]) -> Result<Vec<Prefix>, Memo
     Ok(ascending(prefixes))
 }
 
-// The prefix of each member's range.
+// Returns the prefix of each member's range.
 fn each_range(alloc: Global, members: &[RangeMember]) -> Result<Vec<Prefix>, Memory>
     ensures { IfOk result (λ prefixes. prefixes.items ≡ ranges_in members.now) }
 {
@@ -423,7 +438,7 @@ fn each_range(alloc: Global, members: &[RangeMember]) -> Result<Vec<Prefix>, Mem
     Ok(prefixes)
 }
 
-// The members without their costs.
+// Returns the members without their costs.
 fn members_of(alloc: Global, costs: &[(RangeMember, u32)]) -> Result<Vec<RangeMember>, Memory>
     ensures { IfOk result (λ members. members.items ≡ list_map (λ x. x.0) costs.now) }
 {
@@ -431,7 +446,7 @@ fn members_of(alloc: Global, costs: &[(RangeMember, u32)]) -> Result<Vec<RangeMe
     Ok(members)
 }
 
-// The networks as destinations.
+// Returns the networks as destinations.
 fn as_dests(alloc: Global, networks: &[Prefix]) -> Result<Vec<Dest>, Memory>
     ensures { IfOk result (λ dests. dests.items ≡ list_map dest_value.Net networks.now) }
 {
@@ -442,7 +457,7 @@ fn as_dests(alloc: Global, networks: &[Prefix]) -> Result<Vec<Dest>, Memory>
     Ok(dests)
 }
 
-/// The cost of an entry that is one through the area.
+/// Returns the cost of the entry, if it is an entry of the area.
 pub(crate) fn cost_in(entry: Option<&Entry>, area: u32) -> Option<u32>
     ensures { (cost : ℕ) → (result ≡ Some cost) ↔ IsCostIn (option_copied entry.entry) area cost }
 {
@@ -452,7 +467,7 @@ pub(crate) fn cost_in(entry: Option<&Entry>, area: u32) -> Option<u32>
     }
 }
 
-// Adds the prefix, where the range has a network.
+// Appends the prefix, if the range has a network.
 fn push_active(
     prefix: Prefix,
     networks: &Networks,

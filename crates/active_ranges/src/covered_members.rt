@@ -1,4 +1,4 @@
-//! The members that named networks may be.
+//! The possible members of ranges among given networks.
 ghost use Rattle.std.specs.Prelude.{IfOk, OnOk};
 ghost use Rattle.active_ranges.specs.Following.{IsNamed, IsNamedAs, IsNamedIn, IsNamedOf};
 ghost use Rattle.active_ranges.specs.Lists.{ListsExactly, HasMore};
@@ -10,7 +10,8 @@ use ospf_types::memory::Memory;
 use ospf_types::prefix::Prefix;
 use std::alloc::Global;
 
-/// Each of the named networks with each range that covers it, in each area. Those of one range stand side by side.
+/// Returns each given network with each range that covers it, in each area. The members of one
+/// range are adjacent.
 pub(crate) fn named_members(
     alloc: Global,
     areas: &[AreaConfig],
@@ -25,7 +26,7 @@ pub(crate) fn named_members(
     Ok(members)
 }
 
-// Adds the members of one area's ranges.
+// Appends the members of one area's ranges.
 fn push_named(area: &AreaConfig, dests: &[Dest], members: &mut Vec<RangeMember>) -> Result<(), Memory>
     ensures { OnOk result
         (HasMore (IsNamedIn area.now dests.now) members.old.items members.new.items) }
@@ -40,7 +41,7 @@ fn push_named(area: &AreaConfig, dests: &[Dest], members: &mut Vec<RangeMember>)
     Ok(())
 }
 
-// Adds the members of one range.
+// Appends the members of one range.
 fn push_covering(range: &AreaRange, dests: &[Dest], members: &mut Vec<RangeMember>) -> Result<(), Memory>
     ensures { OnOk result
         (HasMore (IsNamedOf range.now dests.now) members.old.items members.new.items) }
@@ -51,7 +52,7 @@ fn push_covering(range: &AreaRange, dests: &[Dest], members: &mut Vec<RangeMembe
     Ok(())
 }
 
-// The destination as a member of the range, where it is a network that this covers.
+// Appends the destination as a member of the range, if it is a network that the range covers.
 fn push_covered(range: &AreaRange, dest: Dest, members: &mut Vec<RangeMember>) -> Result<(), Memory>
     ensures { OnOk result (HasMore (IsNamedAs range.now dest) members.old.items members.new.items) }
 {

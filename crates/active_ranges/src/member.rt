@@ -2,7 +2,7 @@ ghost use Rattle.std.specs.Prelude.{◌≡◌};
 
 use ospf_types::prefix::Prefix;
 
-/// A network that a range of an area has.
+/// A network in a range of an area.
 #[derive(Clone, Copy, Debug, PartialEq, Eq)]
 pub struct RangeMember {
     /// The prefix of the range.
@@ -21,7 +21,7 @@ pub(crate) struct AreaRange {
 }
 
 impl AreaRange {
-    /// The least with this prefix.
+    /// Returns the least range with this prefix.
     pub(crate) fn least_of(prefix: Prefix) -> AreaRange
         ensures { result ≡ record { prefix = prefix; area = 0 } }
     {

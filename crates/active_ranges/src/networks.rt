@@ -12,7 +12,8 @@ use ospf_types::prefix::Prefix;
 use std::alloc::Global;
 use std::marker::Model;
 
-/// The networks of a range, ascending, each at its cost. They stand side by side, so that going through all costs little.
+/// The networks of a range in ascending order, each at its cost. They are adjacent in memory, so
+/// that it is cheap to visit all.
 #[derive(Drop)]
 pub(crate) struct Networks {
     list: Vec<(Prefix, u32)>,
@@ -32,7 +33,7 @@ impl Model for Networks {
 }
 
 impl Networks {
-    /// No networks.
+    /// Creates an empty list.
     pub(crate) fn new(alloc: Global) -> Networks
         ensures { result.entries ≡ [] }
     {
@@ -41,7 +42,7 @@ impl Networks {
         }
     }
 
-    /// The networks of members, at their costs.
+    /// Returns the networks of the members, at their costs.
     pub(crate) fn of(alloc: Global, costs: &[(RangeMember, u32)]) -> Result<Networks, Memory>
         ensures { IfOk result (AreMadeOf (list_map (λ x. (x.0.network, x.1)) costs.now)) }
     {
@@ -54,7 +55,7 @@ impl Networks {
         Ok(networks)
     }
 
-    /// Gives the network this cost. With none it is taken out.
+    /// Sets the cost of the network, or removes the network if `cost` is `None`.
     pub(crate) fn put(&mut self, network: Prefix, cost: Option<u32>) -> Result<(), Memory>
         ensures { OnOk result (IsPutIn self.old network cost self.new) }
     {
@@ -72,14 +73,14 @@ impl Networks {
         Ok(())
     }
 
-    /// Whether there are none.
+    /// Returns true if the list is empty.
     pub(crate) fn is_empty(&self) -> bool
         ensures { IsTrue result ↔ (self.now.entries ≡ []) }
     {
         self.list.is_empty()
     }
 
-    /// The greatest cost below the limit.
+    /// Returns the greatest cost below `limit`, or `None` if there is none.
     pub(crate) fn costliest(&self, limit: u32) -> Option<u32>
         ensures { IsGreatestBelow limit (IsCostOf self.now) result }
     {
@@ -92,7 +93,7 @@ impl Networks {
         most
     }
 
-    /// The networks as members of the range.
+    /// Returns the networks as members of the range.
     pub(crate) fn as_members(&self, alloc: Global, range: AreaRange) -> Result<Vec<RangeMember>, Memory>
         ensures { IfOk result
             (λ members. members.items ≡ list_map (λ e. member_of range e.0) self.now.entries) }
@@ -109,7 +110,8 @@ impl Networks {
         Ok(members)
     }
 
-    // Where the network is, or where it would go. Networks that come in their order go to the end, which is tried first.
+    // Returns the index of the network as `Ok`, or the index at which to insert it as `Err`. The
+    // end is tried first, as networks often come in order.
     fn place(&self, network: Prefix) -> Result<usize, usize>
         ensures found { IfOk result (IsAt self.now.entries network) }
         ensures absent { IfErr result (IsGapFor self.now.entries network) }
@@ -122,7 +124,7 @@ impl Networks {
     }
 }
 
-// Whether all networks of the list, which stand in their order, come before this one.
+// Returns true if all networks of the list, which is in order, come before this one.
 fn ends_before(list: &[(Prefix, u32)], network: Prefix) -> bool
     requires { IsStrictlySortedBy network_cmp (keys_of list.now) }
     ensures { IsTrue result → IsGapFor list.now network (length list.now) }

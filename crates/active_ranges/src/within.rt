@@ -13,7 +13,8 @@ use ospf_types::memory::Memory;
 use ospf_types::prefix::Prefix;
 use std::alloc::Global;
 
-/// The networks of the area that the range's prefix covers, as its members, each at its cost.
+/// Returns the networks of the area that the range's prefix covers, as members of the range, each
+/// at its cost.
 pub(crate) fn costs_within(
     alloc: Global,
     intra: &Intra,
@@ -36,12 +37,13 @@ pub(crate) fn costs_within(
         };
         push_within(kept.entry(), member, &mut costs)?;
     }
-    // What is made of members in their order costs less.
+    // Members in order are cheaper to put into a range.
     costs.sort_unstable_by_key(|(member, _)| member.network);
     Ok(costs)
 }
 
-// Adds the member, where its network's entry is one of its area, and its range covers the network.
+// Appends the member at its cost, if its network's entry is of its area and its range covers the
+// network.
 fn push_within(entry: &Entry, member: RangeMember, costs: &mut Vec<(RangeMember, u32)>) -> Result<(), Memory>
     ensures { OnOk result (AddsWithin member entry.now costs.old.items costs.new.items) }
 {
@@ -55,7 +57,7 @@ fn push_within(entry: &Entry, member: RangeMember, costs: &mut Vec<(RangeMember,
     Ok(())
 }
 
-/// Whether the area has a range with the prefix.
+/// Returns true if the area has a range with the prefix.
 pub(crate) fn is_configured(areas: &[AreaConfig], id: u32, prefix: Prefix) -> bool
     ensures { IsTrue result ↔ IsConfigured areas.now id prefix }
 {
@@ -67,7 +69,7 @@ pub(crate) fn is_configured(areas: &[AreaConfig], id: u32, prefix: Prefix) -> bo
     false
 }
 
-// Whether a range of the area has the prefix.
+// Returns true if a range of the area has the prefix.
 fn has_range(area: &AreaConfig, prefix: Prefix) -> bool
     ensures { IsTrue result ↔ HasRange area.now prefix }
 {

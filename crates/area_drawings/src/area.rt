@@ -21,8 +21,15 @@ use ospf_types::listed::Listed;
 use ospf_types::memory::Memory;
 use std::alloc::Global;
 
-/// The picture of an area: what its tree reaches from the router with this Router ID, and the links between. The work is quadratic
-/// in these, and nobody reads a picture of many hundreds: `count_vertices` says first how many there are.
+/// Draws the vertices that the tree of an area reaches, and the links between them. `root` is the
+/// Router ID of the root.
+///
+/// The work is quadratic in the number of vertices and links, and a picture of many hundreds cannot
+/// be read. `count_vertices` returns the number of vertices beforehand.
+///
+/// # Errors
+///
+/// Returns `Memory` if memory runs out.
 pub fn draw_area(
     alloc: Global,
     root: u32,
@@ -47,7 +54,7 @@ pub fn draw_area(
     })
 }
 
-// Puts the vertices in their order, and gives each its place.
+// Puts the vertices in order, and gives each its cell.
 fn arrange(
     alloc: Global,
     tree: &AreaTree,

@@ -1,4 +1,5 @@
-//! Which vertex each stands behind. It says in what order vertices are put, and no more.
+//! The vertex before each vertex on a shortest path. It decides the order of the vertices, and
+//! nothing else.
 ghost use Rattle.std.specs.Prelude.{◌≡◌, ◌+◌, ◌==◌};
 
 use crate::reached::ReachedVertex;
@@ -8,15 +9,15 @@ use ospf_types::memory::Memory;
 use std::alloc::Global;
 use vertex_graph::Link;
 
-/// A vertex, and the one that comes before it on a path of least cost from the root.
+/// A vertex, and the vertex before it on a shortest path from the root.
 #[derive(Clone, Copy)]
 pub(crate) struct Branch {
     parent: Vertex,
     child: Vertex,
 }
 
-/// A branch to each vertex that a path leads to over another. Of several such paths it is the one over the vertex that comes
-/// first.
+/// Returns a branch to each vertex that a shortest path leads to over another vertex. If there are
+/// several such paths, it uses the vertex that comes first in `reached`.
 pub(crate) fn list_branches(
     alloc: Global,
     tree: &AreaTree,
@@ -29,7 +30,7 @@ pub(crate) fn list_branches(
     Ok(branches)
 }
 
-// Adds the branches from a vertex to those that have none yet.
+// Appends the branches from a vertex to those that have none yet.
 fn add_branches(
     tree: &AreaTree,
     parent: ReachedVertex,
@@ -45,7 +46,7 @@ fn add_branches(
     Ok(())
 }
 
-// Whether a path of least cost leads over the link out of this vertex.
+// Returns true if a shortest path leads over this link out of `parent`.
 fn is_branch(tree: &AreaTree, parent: ReachedVertex, link: &Link) -> bool {
     match tree.distance(link.to.vertex()) {
         Some(distance) => is_least(parent.distance, link.cost, distance),
@@ -53,14 +54,15 @@ fn is_branch(tree: &AreaTree, parent: ReachedVertex, link: &Link) -> bool {
     }
 }
 
-/// Whether a link of this cost leads on a path of least cost from a vertex at the one distance to a vertex at the other.
+/// Returns true if a link of this cost, from a vertex at the distance `near` to one at the distance
+/// `far`, is on a shortest path.
 pub(crate) fn is_least(near: u32, cost: u16, far: u32) -> bool
     ensures { result ≡ (near + cost == far) }
 {
     u64::from(near) + u64::from(cost) == u64::from(far)
 }
 
-/// The vertex that this one stands behind.
+/// Returns the vertex before this one, or `None` if it has no branch.
 pub(crate) fn parent_of(branches: &[Branch], child: Vertex) -> Option<Vertex> {
     let branch = branches.iter().find(|b| b.child == child)?;
     Some(branch.parent)

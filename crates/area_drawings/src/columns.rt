@@ -8,8 +8,8 @@ use ospf_types::entry::Vertex;
 use ospf_types::memory::Memory;
 use std::alloc::Global;
 
-/// The networks at one distance, or the routers at one distance. Networks come first, since a router is no farther than its
-/// network, and a link out of a network costs nothing.
+/// The networks at one distance, or the routers at one distance. Networks come first: a router is
+/// no farther than its network, and a link out of a network costs nothing.
 #[derive(Clone, Copy, Debug, PartialEq, Eq, PartialOrd, Ord)]
 pub(crate) struct Column {
     pub(crate) distance: u32,
@@ -17,7 +17,7 @@ pub(crate) struct Column {
 }
 
 impl ReachedVertex {
-    /// The column of the vertex.
+    /// Returns the column of the vertex.
     pub(crate) fn column(self) -> Column
         ensures { result ≡ column_of self }
     {
@@ -32,7 +32,7 @@ impl ReachedVertex {
     }
 }
 
-/// The columns of these vertices, from the left, each once.
+/// Returns the columns of these vertices, from the left, without duplicates.
 pub(crate) fn list_columns(alloc: Global, reached: &[ReachedVertex]) -> Result<Vec<Column>, Memory>
     ensures in_order { IfOk result (λ columns. IsStrictlySortedBy column_cmp columns.items) }
     ensures exact { IfOk result (λ columns. AreColumnsOf reached.now columns.items) }
@@ -43,21 +43,22 @@ pub(crate) fn list_columns(alloc: Global, reached: &[ReachedVertex]) -> Result<V
     Ok(columns)
 }
 
-// The column of each vertex.
+// Returns the column of each vertex.
 fn each_column(alloc: Global, reached: &[ReachedVertex]) -> Result<Vec<Column>, Memory>
     ensures { IfOk result (λ columns. columns.items ≡ map column_of reached.now) }
 {
     Ok(reached.iter().map(|r| r.column()).collect(alloc)?)
 }
 
-/// The distances of the columns.
+/// Returns the distances of the columns.
 pub(crate) fn distances(alloc: Global, columns: &[Column]) -> Result<Vec<u32>, Memory>
     ensures { IfOk result (λ distances. distances.items ≡ map (λ c. c.distance) columns.now) }
 {
     Ok(columns.iter().map(|c| c.distance).collect(alloc)?)
 }
 
-/// The number of the column, from 0. A number of more than 32 bits counts as more than memory holds.
+/// Returns the index of the column. If it does not fit in 32 bits, this counts as memory that ran
+/// out.
 pub(crate) fn place_of(columns: &[Column], column: Column) -> Result<u32, Memory>
     requires { Contains columns.now column }
     ensures { IfOk result (λ place. slice_get columns.now place ≡ Some column) }

@@ -1,4 +1,4 @@
-//! The links that are drawn: those of the graph between vertices that are.
+//! The links of the picture: the links of the graph between vertices that are drawn.
 ghost use Rattle.std.specs.Prelude.{◌≡◌, ◌≢◌, ◌↔◌, IfOk, IfSome, IfNone, IsTrue, OnOk, Contains};
 ghost use Rattle.std.specs.List.{AllPairs};
 ghost use Rattle.area_drawings.specs.Links.{AddsLink, AreApart, AreLinksBetween, AreLinksOut, HasOneMore, KeepsApart, LacksVertex, IsStandOf, end_of, link_between};
@@ -12,7 +12,8 @@ use ospf_types::memory::Memory;
 use std::alloc::Global;
 use vertex_graph::Link;
 
-/// The links between these vertices, each once. Links of one cost between two vertices are drawn as one.
+/// Returns the links between these vertices, without duplicates. Links of one cost between two
+/// vertices are drawn as one.
 pub(crate) fn draw_links(
     alloc: Global,
     tree: &AreaTree,
@@ -30,7 +31,7 @@ pub(crate) fn draw_links(
     Ok(links)
 }
 
-// The links out of a vertex, each once.
+// Returns the links out of a vertex, without duplicates.
 fn links_out(
     alloc: Global,
     tree: &AreaTree,
@@ -48,7 +49,7 @@ fn links_out(
     Ok(links)
 }
 
-// Adds a link out of a vertex, if the other end is drawn.
+// Appends a link out of a vertex, if the other end is drawn.
 fn add_link(
     stands: &[Stand],
     from: Stand,
@@ -65,7 +66,7 @@ fn add_link(
     }
 }
 
-// The vertex in its place, if it is drawn.
+// Returns the vertex in its cell, if it is drawn.
 fn find(stands: &[Stand], vertex: Vertex) -> Option<Stand>
     ensures some { IfSome result (IsStandOf stands.now vertex) }
     ensures none { IfNone result (LacksVertex stands.now vertex) }
@@ -78,7 +79,7 @@ fn find(stands: &[Stand], vertex: Vertex) -> Option<Stand>
     None
 }
 
-// Adds the link if it is not there.
+// Appends the link, unless the list has it.
 fn add_new(link: DrawnLink, links: &mut Vec<DrawnLink>) -> Result<(), Memory>
     ensures exact { OnOk result (HasOneMore link links.old.items links.new.items) }
     ensures each_once { OnOk result (KeepsApart links.old.items links.new.items) }
@@ -90,14 +91,14 @@ fn add_new(link: DrawnLink, links: &mut Vec<DrawnLink>) -> Result<(), Memory>
     Ok(())
 }
 
-// Whether the link is there.
+// Returns true if the list has the link.
 fn has(links: &[DrawnLink], link: DrawnLink) -> bool
     ensures { IsTrue result ↔ Contains links.now link }
 {
     links.contains(&link)
 }
 
-// What is drawn of a link of this cost.
+// Returns the drawn link of this cost.
 fn drawn(from: Stand, cost: u16, to: Stand) -> DrawnLink
     ensures { result ≡ link_between from cost to }
 {
@@ -109,7 +110,7 @@ fn drawn(from: Stand, cost: u16, to: Stand) -> DrawnLink
     }
 }
 
-// The end of a link at a vertex.
+// Returns the end of a link at a vertex.
 fn end(stand: Stand) -> DrawnEnd
     ensures { result ≡ end_of stand }
 {

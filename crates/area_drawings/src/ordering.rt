@@ -1,4 +1,4 @@
-//! The order in which vertices are put: each right behind the vertex that a path leads over to it.
+//! The order of the vertices: each follows directly after the vertex before it on a shortest path.
 ghost use Rattle.std.specs.Prelude.{◌≤◌, length, IfOk};
 ghost use Rattle.std.specs.List.Sorted.{IsPermutation};
 
@@ -8,8 +8,8 @@ use ospf_types::entry::Vertex;
 use ospf_types::memory::Memory;
 use std::alloc::Global;
 
-/// The vertices in the order of the rows: a vertex, and behind it what paths over it lead to. They come with those nearer the
-/// root first.
+/// Returns the vertices in the order of the rows: each vertex directly after the one before it on a
+/// shortest path. They are inserted in the order of `reached`.
 pub(crate) fn order_rows(
     alloc: Global,
     branches: &[Branch],
@@ -25,7 +25,7 @@ pub(crate) fn order_rows(
     Ok(ordered)
 }
 
-// The place right behind the parent of the vertex, or the end where that is not there.
+// Returns the place directly after the parent of the vertex, or the end if the parent is missing.
 fn behind_parent(branches: &[Branch], ordered: &[ReachedVertex], child: Vertex) -> usize
     ensures { result ≤ length ordered.now }
 {

@@ -17,11 +17,16 @@ use std::alloc::Global;
 #[derive(Clone, Copy, Debug, PartialEq, Eq)]
 pub(crate) struct ReachedVertex {
     pub(crate) vertex: Vertex,
-    /// Its distance from the root: a sum of metrics.
+    /// The distance of the vertex from the root: a sum of metrics.
     pub(crate) distance: u32,
 }
 
-/// How many vertices have an LSA in the database and are reached: those that `draw_area` draws.
+/// Returns the number of vertices that have an LSA in the database and are reached: those that
+/// `draw_area` draws.
+///
+/// # Errors
+///
+/// Returns `Memory` if memory runs out.
 pub fn count_vertices(alloc: Global, database: &Database, tree: &AreaTree) -> Result<usize, Memory>
     ensures { IfOk result (IsCount database.now.lsas tree.now) }
 {
@@ -29,7 +34,8 @@ pub fn count_vertices(alloc: Global, database: &Database, tree: &AreaTree) -> Re
     Ok(reached.len())
 }
 
-/// The vertices that have an LSA in the database and are reached, each once, in the order of their columns.
+/// Returns the vertices that have an LSA in the database and are reached, without duplicates, in
+/// the order of their columns.
 pub(crate) fn list_reached(
     alloc: Global,
     database: &Database,
@@ -43,7 +49,7 @@ pub(crate) fn list_reached(
     Ok(reached)
 }
 
-// The vertices that LSAs under these keys stand for, ascending, each once.
+// Returns the vertices of these keys, in ascending order without duplicates.
 fn list_vertices(alloc: Global, keys: &[Key]) -> Result<Vec<Vertex>, Memory>
     ensures in_order { IfOk result (λ vertices. IsStrictlySortedBy vertex_cmp vertices.items) }
     ensures exact { IfOk result (λ vertices. AreVerticesOf keys.now vertices.items) }
@@ -54,7 +60,7 @@ fn list_vertices(alloc: Global, keys: &[Key]) -> Result<Vec<Vertex>, Memory>
     Ok(vertices)
 }
 
-// The vertex of each key that has one.
+// Returns the vertex of each key that has one.
 fn each_vertex(alloc: Global, keys: &[Key]) -> Result<Vec<Vertex>, Memory>
     ensures { IfOk result (λ vertices. vertices.items ≡ filter_map vertex_of_key keys.now) }
 {
@@ -65,7 +71,7 @@ fn each_vertex(alloc: Global, keys: &[Key]) -> Result<Vec<Vertex>, Memory>
     Ok(vertices)
 }
 
-// Adds the vertex of the key, if it has one.
+// Appends the vertex of the key, if it has one.
 fn add_vertex(key: Key, vertices: &mut Vec<Vertex>) -> Result<(), Memory>
     ensures { OnOk result (AddsVertexOf key vertices.old.items vertices.new.items) }
 {
@@ -75,7 +81,7 @@ fn add_vertex(key: Key, vertices: &mut Vec<Vertex>) -> Result<(), Memory>
     Ok(())
 }
 
-// Those of the vertices that are reached.
+// Returns those of the vertices that are reached.
 fn each_reached(
     alloc: Global,
     tree: &AreaTree,
@@ -90,7 +96,7 @@ fn each_reached(
     Ok(reached)
 }
 
-// Adds the vertex if it is reached.
+// Appends the vertex if it is reached.
 fn add_reached(
     tree: &AreaTree,
     vertex: Vertex,

@@ -1,4 +1,4 @@
-//! Where each vertex stands: its column and its row.
+//! The cell of each vertex: its column and its row.
 ghost use Rattle.std.specs.Prelude.{◌≡◌, map, IfOk, Contains};
 ghost use Rattle.std.specs.List.{All};
 ghost use Rattle.area_drawings.specs.Columns.{AreColumnsOf, column_of};
@@ -12,21 +12,21 @@ use ospf_types::entry::Vertex;
 use ospf_types::memory::Memory;
 use std::alloc::Global;
 
-/// A vertex in its place.
+/// A vertex in its cell.
 #[derive(Clone, Copy, Debug, PartialEq, Eq)]
 pub(crate) struct Stand {
     pub(crate) reached: ReachedVertex,
     pub(crate) place: GridCell,
 }
 
-/// Vertices in their places.
+/// Vertices in their cells.
 pub(crate) struct Stands {
     pub(crate) stands: Vec<Stand>,
-    /// How many rows they take.
+    /// The number of rows.
     pub(crate) rows: u32,
 }
 
-// proof: one call drops it, in place of a drop of each part wherever one is held.
+// proof: a value is dropped by one call, not part by part at each exit of a function.
 impl Drop for Stands {
     fn drop(self) {
         let Stands {
@@ -36,8 +36,9 @@ impl Drop for Stands {
     }
 }
 
-/// Gives each vertex its place, row by row. A vertex right of the one before it stays in that one's row if a path leads from that
-/// one to it; every other vertex begins a row.
+/// Gives each vertex its cell, row by row. A vertex stays in the row of the one before it, if a
+/// branch leads from that one to it and its column is farther right. Every other vertex starts a
+/// row.
 pub(crate) fn place_all(
     alloc: Global,
     columns: &[Column],
@@ -61,7 +62,7 @@ pub(crate) fn place_all(
     Ok(Stands { stands, rows })
 }
 
-// Where a vertex stands behind the one before it.
+// Returns the cell of a vertex that comes after `before`.
 fn next_stand(
     columns: &[Column],
     branches: &[Branch],
@@ -81,7 +82,8 @@ fn next_stand(
     })
 }
 
-// The row of a vertex in the column. If it follows the one before it, and stands to the right of that, it stays in the row.
+// Returns the row of a vertex in the column. It stays in the row of the one before it, if it
+// follows that one and is farther right.
 fn next_row(before: Option<Stand>, column: u32, follows: bool) -> Result<u32, Memory>
     ensures { IfOk result (IsNextRow before column) }
 {
@@ -91,7 +93,8 @@ fn next_row(before: Option<Stand>, column: u32, follows: bool) -> Result<u32, Me
     }
 }
 
-// How many rows there are where this is the last vertex. More than 32 bits count as more than memory holds.
+// Returns the number of rows if this is the last vertex. If it does not fit in 32 bits, this counts
+// as memory that ran out.
 fn rows_after(last: Option<Stand>) -> Result<u32, Memory>
     ensures { IfOk result (λ rows. rows ≡ rows_of last) }
 {
@@ -101,7 +104,7 @@ fn rows_after(last: Option<Stand>) -> Result<u32, Memory>
     }
 }
 
-// Whether a path leads to the vertex from the one before it.
+// Returns true if a branch leads to the vertex from the one before it.
 fn follows(branches: &[Branch], before: Option<Stand>, vertex: Vertex) -> bool {
     match (before, parent_of(branches, vertex)) {
         (Some(before), Some(parent)) => before.reached.vertex == parent,

@@ -1,4 +1,4 @@
-//! What is drawn of each vertex.
+//! The vertices of the picture.
 ghost use Rattle.std.specs.Prelude.{◌≡◌, map, IfOk};
 ghost use Rattle.std.specs.List.{All};
 ghost use Rattle.area_trees.specs.Areas.{IsTreeIn};
@@ -19,7 +19,7 @@ const BORDER: u8 = 1;
 // Bit E of a router-LSA: an AS boundary router (RFC 2328, A.4.2).
 const BOUNDARY: u8 = 2;
 
-/// What is drawn of the vertices, each in its place.
+/// Returns the drawn vertices, each in its cell.
 pub(crate) fn draw_vertices(
     alloc: Global,
     database: &Database,
@@ -37,7 +37,7 @@ pub(crate) fn draw_vertices(
     Ok(vertices)
 }
 
-// What is drawn of a vertex in its place.
+// Returns the drawn vertex in its cell.
 fn draw_vertex(
     alloc: Global,
     database: &Database,
@@ -58,7 +58,7 @@ fn draw_vertex(
     })
 }
 
-// The bits of the router-LSA that stands for a router. A transit network has none.
+// Returns the bits of the router-LSA that stands for a router. They are 0 for a transit network.
 fn flags_at(database: &Database, tree: &AreaTree, vertex: Vertex) -> u8
     requires { IsTreeIn database.now.lsas tree.now }
     ensures { HasFlags database.now.lsas vertex result }
@@ -69,7 +69,7 @@ fn flags_at(database: &Database, tree: &AreaTree, vertex: Vertex) -> u8
     }
 }
 
-// The roles that these bits say.
+// Returns the roles that these bits state.
 fn roles(flags: u8) -> Roles
     ensures { AreRoles flags result }
 {

@@ -18,15 +18,15 @@ use std::hash::RandomState;
 use std::marker::Model;
 use vertex_graph::{Graph, LinkChanges, Up};
 
-/// The graph of an area. After an error it is that of no database.
+/// The graph of an area. After an error it need not match any database.
 pub(crate) struct AreaGraph {
     graph: Graph,
     networks: Networks,
-    // Those of the last change, for the next to use their memory.
+    // The vertices of the last change, kept for their memory.
     vertices: Vec<Vertex>,
 }
 
-// proof: one call drops it, in place of a drop of each part wherever one is held.
+// proof: a value is dropped by one call, not part by part at each exit of a function.
 impl Drop for AreaGraph {
     fn drop(self) {
         let AreaGraph {
@@ -52,7 +52,8 @@ impl Model for AreaGraph {
 }
 
 impl AreaGraph {
-    /// The graph of no LSAs and no interfaces.
+    /// Creates the graph of an empty database, without interfaces. `root` is the Router ID of the
+    /// calculating router.
     pub(crate) fn new(alloc: Global, root: u32, hashing: RandomState) -> AreaGraph
         ensures graph { result.graph ≡ record { root = root; ends = map.empty; interfaces = [] } }
         ensures right { IsGraphOf map.empty result }
@@ -64,16 +65,18 @@ impl AreaGraph {
         }
     }
 
-    /// The graph.
+    /// Returns the graph.
     pub(crate) fn graph(&self) -> &Graph
         ensures value { result.now ≡ self.now.graph }
         ensures ends { HasEnds self.now.graph }
     {
+        // proof: the graph's invariant, that ends are in order, follows from this call.
         let _ = self.graph.root();
         &self.graph
     }
 
-    /// Takes what the database says now of the LSAs under these keys, and answers the links that went and came.
+    /// Updates the graph with the present LSAs under the keys, and returns the links that were
+    /// removed and added. LSAs under other keys must be unchanged.
     pub(crate) fn follow(
         &mut self,
         alloc: Global,
@@ -88,7 +91,8 @@ impl AreaGraph {
         ensures interfaces { OnOk result (self.new.graph.interfaces ≡ self.old.graph.interfaces) }
         ensures exact { IfOk result (AreLinkChanges self.old.graph self.new.graph) }
     {
-        // By these calls it is known that the routers are few and which links a vertex has.
+        // proof: by these calls the number of routers is bounded, and the ends of each vertex are
+        // in order.
         let _ = (database.len(), self.graph.root());
         self.networks.follow(database, keys)?;
         list_vertices(keys, &mut self.vertices)?;
@@ -96,7 +100,7 @@ impl AreaGraph {
         self.graph.replace_all(lsas.as_slice())
     }
 
-    /// The LSA that stands for the vertex in the database, none if it is not there.
+    /// Returns the LSA that describes the vertex, or `None` if there is none.
     pub(crate) fn standing<'a>(&self, database: &'a Database, vertex: Vertex) -> Option<&'a Checked>
         requires { IsGraphOf database.now.lsas self.now }
         ensures body { IsStanding database.now.lsas vertex (option_map (λ l. l.now.body) result) }
@@ -106,7 +110,8 @@ impl AreaGraph {
         lsa_of(database, &self.networks, vertex)
     }
 
-    /// Takes these as the area's interfaces that are up, and answers the links that went and came.
+    /// Sets the interfaces of the area that are up, and returns the links that were removed and
+    /// added.
     pub(crate) fn interfaces(&mut self, ups: &[Up]) -> Result<LinkChanges, Memory>
         ensures ends { HasEnds self.old.graph }
         ensures right { OnOk result ((d : Lsas) → IsGraphOf d self.old → IsGraphOf d self.new) }
@@ -114,6 +119,7 @@ impl AreaGraph {
         ensures interfaces { OnOk result (self.new.graph.interfaces ≡ ups.now) }
         ensures exact { IfOk result (AreLinkChanges self.old.graph self.new.graph) }
     {
+        // proof: the graph's invariant, that ends are in order, follows from this call.
         let _ = self.graph.root();
         self.graph.interfaces(ups)
     }

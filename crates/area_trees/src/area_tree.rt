@@ -1,4 +1,4 @@
-//! The graph of an area and its shortest-path tree, which stay together.
+//! The graph of an area and its shortest-path tree, updated together.
 ghost use Rattle.std.specs.Prelude.{◌≡◌, ◌≢◌, ◌≤◌, ◌<◌, [], Some, true, OnOk, OnErr, IfOk, IfSome, option_map};
 ghost use Rattle.std.specs.FinMap as map;
 ghost use Rattle.std.specs.List.{AllPairs};
@@ -26,13 +26,16 @@ use vertex_graph::{Link, LinkChanges, Up};
 use vertex_map::HintedVertex;
 
 /// The graph of an area and its shortest-path tree.
+///
+/// It is *spent* after an update ran out of memory. Its results may then be wrong, and only `build`
+/// makes another.
 pub struct AreaTree {
     area: AreaGraph,
     tree: Tree,
     spent: bool,
 }
 
-// proof: one call drops it, in place of a drop of each part wherever one is held.
+// proof: a value is dropped by one call, not part by part at each exit of a function.
 impl Drop for AreaTree {
     fn drop(self) {
         let AreaTree {
@@ -62,7 +65,12 @@ impl Model for AreaTree {
 }
 
 impl AreaTree {
-    /// The tree of an area's database and of its interfaces that are up, and the work of building it.
+    /// Builds the graph and tree of an area, from its database and its interfaces that are up.
+    /// Returns them with the work. `root` is the Router ID of the calculating router.
+    ///
+    /// # Errors
+    ///
+    /// Returns `Memory` if memory runs out.
     pub fn build(
         alloc: Global,
         root: u32,
@@ -83,8 +91,12 @@ impl AreaTree {
         Ok((AreaTree { area, tree, spent }, touched))
     }
 
-    /// Takes what the database says now of the LSAs under these keys, and answers the work. If memory runs out, all is
-    /// spent, and only `build` makes another.
+    /// Updates the graph and tree with the present LSAs under the keys, and returns the work. LSAs
+    /// under other keys must be unchanged since the last update.
+    ///
+    /// # Errors
+    ///
+    /// Returns `Memory` if memory runs out. The tree is then spent.
     pub fn follow(
         &mut self,
         alloc: Global,
@@ -105,7 +117,11 @@ impl AreaTree {
         touched
     }
 
-    /// Takes these as the area's interfaces that are up, and answers the work. If memory runs out, all is spent.
+    /// Sets the interfaces of the area that are up, and returns the work of updating the tree.
+    ///
+    /// # Errors
+    ///
+    /// Returns `Memory` if memory runs out. The tree is then spent.
     pub fn interfaces(&mut self, alloc: Global, interfaces: &[Up]) -> Result<Touched, Memory>
         requires { IsTreeOfSome self.old }
         ensures right { OnOk result (FollowsInterfaces interfaces.now self.old self.new) }
@@ -120,8 +136,11 @@ impl AreaTree {
         touched
     }
 
-    /// The LSA that stands for the vertex in the area's database: a router's own router-LSA; for a transit network,
-    /// of its usable network-LSAs the one of the greatest Advertising Router. None if the vertex is not there.
+    /// Returns the LSA in the area's database that describes the vertex, or `None` if there is
+    /// none.
+    ///
+    /// For a router it is its own router-LSA. For a transit network it is the network-LSA with the
+    /// greatest Advertising Router. Only usable LSAs count.
     pub fn standing<'a>(&self, database: &'a Database, vertex: Vertex) -> Option<&'a Checked>
         requires { IsTreeIn database.now.lsas self.now }
         ensures body { IsStanding database.now.lsas vertex (option_map (λ l. l.now.body) result) }
@@ -131,14 +150,16 @@ impl AreaTree {
         self.area.standing(database, vertex)
     }
 
-    /// The vertex with the place that it has in the area's graph. Layers above keep it, and look it up without a hash.
+    /// Returns the vertex with a hint to its row in the area's graph. The layers of routes keep it,
+    /// so that they need not hash the vertex again.
     pub fn placed(&self, vertex: Vertex) -> HintedVertex
         ensures { result ≡ vertex }
     {
         self.area.graph().placed(vertex)
     }
 
-    /// The distance of a vertex, a sum of metrics; none if it is not reached.
+    /// Returns the distance of the vertex, a sum of metrics below 2^30, or `None` if it is not
+    /// reached.
     pub fn distance(&self, vertex: Vertex) -> Option<u32>
         ensures value { result ≡ map.get self.now.tree.distances vertex }
         ensures bounded { IfSome result (λ distance. distance < most_distance) }
@@ -146,7 +167,7 @@ impl AreaTree {
         self.tree.distance(vertex)
     }
 
-    /// The next hops of a vertex, ascending, each once.
+    /// Returns the next hops of the vertex, in ascending order.
     pub fn hops(&self, vertex: Vertex) -> &[NextHop]
         ensures value { result.now ≡ listed_hops (map.get self.now.tree.hops vertex) }
         ensures in_order { IsStrictlySortedBy hop_cmp result.now }
@@ -154,7 +175,8 @@ impl AreaTree {
         self.tree.hops(vertex)
     }
 
-    /// The distance of a vertex that comes with its place, as `placed` gives it. Mostly nothing is hashed.
+    /// Returns the distance of the vertex, as `distance` does. With the hint that `placed` gave it,
+    /// the vertex is usually found without hashing it.
     pub fn distance_at(&self, vertex: &HintedVertex) -> Option<u32>
         ensures value { result ≡ map.get self.now.tree.distances vertex.now }
         ensures bounded { IfSome result (λ distance. distance < most_distance) }
@@ -162,7 +184,8 @@ impl AreaTree {
         self.tree.distance_at(vertex)
     }
 
-    /// The next hops of a vertex that comes with its place, ascending, each once.
+    /// Returns the next hops of the vertex, as `hops` does. With the hint that `placed` gave it,
+    /// the vertex is usually found without hashing it.
     pub fn hops_at(&self, vertex: &HintedVertex) -> &[NextHop]
         ensures value { result.now ≡ listed_hops (map.get self.now.tree.hops vertex.now) }
         ensures in_order { IsStrictlySortedBy hop_cmp result.now }
@@ -170,7 +193,8 @@ impl AreaTree {
         self.tree.hops_at(vertex)
     }
 
-    /// The links out of a vertex that both ends have (RFC 2328, 16.1 (2b)), each once; none where it is not there.
+    /// Returns the links from the vertex that both sides list (RFC 2328, 16.1 (2b)), without
+    /// duplicates. The slice is empty if the graph does not have the vertex.
     pub fn links_from(&self, vertex: Vertex) -> &[Link]
         ensures exact { AreLinksFrom self.now.area.graph vertex result.now }
         ensures each_once { AllPairs (λ k l. k ≢ l) result.now }
@@ -178,8 +202,11 @@ impl AreaTree {
         self.area.graph().links_from(vertex)
     }
 
-    /// The links of a path of least cost from the root to the vertex, in their order, by which it has this next hop (RFC 2328,
-    /// 16.1 and 16.1.1); none where it has not. Of several such paths it is one.
+    /// Returns the links of a shortest path from the root to the vertex, in order, over which the
+    /// vertex gets this next hop (RFC 2328, 16.1 and 16.1.1). The list is empty if the vertex does
+    /// not have the next hop.
+    ///
+    /// If there are several such paths, it is one of them.
     pub fn links_of_path(
         &self,
         alloc: Global,
@@ -192,14 +219,15 @@ impl AreaTree {
         tree_paths::links_of_path(alloc, self.area.graph(), &self.tree, vertex, hop)
     }
 
-    /// The vertices whose distance or next hops the last change changed, ascending, each once.
+    /// Returns the vertices whose distance or next hops the last update changed, in ascending
+    /// order.
     pub fn changed(&self) -> &[Vertex]
         ensures { result.now ≡ self.now.tree.changed }
     {
         self.tree.changed()
     }
 
-    /// Whether memory ran out in a change.
+    /// Returns true if an update ran out of memory.
     pub fn spent(&self) -> bool
         ensures { result ≡ self.now.spent }
     {
@@ -208,8 +236,7 @@ impl AreaTree {
 }
 
 impl AreaTree {
-    // Takes what the database says now of the LSAs under these keys. After an error graph and tree are those of no
-    // database.
+    // Updates the graph and repairs the tree. After an error they need not match any database.
     fn follow_keys(
         &mut self,
         alloc: Global,
@@ -232,7 +259,7 @@ impl AreaTree {
         self.tree.repair(alloc, self.area.graph(), &changes)
     }
 
-    // Takes these as the area's interfaces that are up, and repairs the tree.
+    // Sets the interfaces that are up, and repairs the tree.
     fn follow_interfaces(&mut self, alloc: Global, interfaces: &[Up]) -> Result<Touched, Memory>
         requires { IsTreeOfSome self.old }
         ensures right { OnOk result (FollowsInterfaces interfaces.now self.old self.new) }

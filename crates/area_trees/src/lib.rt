@@ -1,5 +1,5 @@
-//! The graph and the shortest-path tree of an area, kept from event to event: they follow its link-state
-//! database and its interfaces, key by key (RFC 2328, 16.1).
+//! The graph and the shortest-path tree of an area (RFC 2328, 16.1), kept from event to event. They
+//! are updated with the changed LSAs of the area's database and with its interfaces.
 #![tactic(auto)]
 
 mod area_graph;

@@ -1,4 +1,4 @@
-//! The network-LSAs of an area by Link State ID.
+//! The usable network-LSAs of an area, in the order of Link State ID.
 ghost use Rattle.std.specs.Prelude.{◌≡◌, ◌<◌, ◌^◌, ℕ, IfSome, IfNone, OnOk, Contains};
 ghost use Rattle.area_trees.specs.Areas.{AreNetworksBut, AreNetworksOf, FollowsKey, IsGreatest, KeepsOthers};
 
@@ -11,7 +11,7 @@ use std::alloc::Global;
 use std::collections::BTreeSet;
 use std::marker::Model;
 
-// A usable network-LSA: its Link State ID and its Advertising Router.
+// A usable network-LSA, by its Link State ID and its Advertising Router.
 #[derive(Clone, Copy, PartialEq, Eq, PartialOrd, Ord)]
 struct NetworkLsa {
     id: u32,
@@ -27,13 +27,13 @@ impl NetworkLsa {
     }
 }
 
-/// The usable network-LSAs. Of several with one Link State ID that of the greatest Advertising Router stands for the
-/// network.
+/// The usable network-LSAs of an area. If several have one Link State ID, the one with the greatest
+/// Advertising Router describes the network.
 pub(crate) struct Networks {
     lsas: BTreeSet<NetworkLsa>,
 }
 
-// proof: one call drops it, in place of a drop of each part wherever one is held.
+// proof: a value is dropped by one call, not part by part at each exit of a function.
 impl Drop for Networks {
     fn drop(self) {
         let Networks { lsas: _lsas } = self;
@@ -60,7 +60,7 @@ impl Networks {
         }
     }
 
-    /// The greatest Advertising Router of a usable network-LSA with the Link State ID.
+    /// Returns the greatest Advertising Router of the usable network-LSAs with this Link State ID.
     pub(crate) fn greatest(&self, id: u32) -> Option<u32>
         ensures some { IfSome result (IsGreatest self.now id) }
         ensures none { IfNone result ((router : ℕ) → Contains self.now (id, router) → ⊥) }
@@ -74,7 +74,7 @@ impl Networks {
         Some(greatest.router)
     }
 
-    /// Takes what the database says now of the LSAs under these keys.
+    /// Updates the index with the present LSAs under the keys.
     pub(crate) fn follow(&mut self, database: &Database, keys: &[Key]) -> Result<(), Memory>
         requires { AreNetworksBut database.now.lsas keys.now self.old }
         ensures { OnOk result (AreNetworksOf database.now.lsas self.new) }
@@ -85,7 +85,7 @@ impl Networks {
         Ok(())
     }
 
-    // Takes what the database says now of the LSA under the key.
+    // Updates the index with the present LSA under the key.
     fn follow_key(&mut self, database: &Database, key: Key) -> Result<(), Memory>
         ensures own { OnOk result (FollowsKey database.now.lsas key self.new) }
         ensures others { OnOk result (KeepsOthers key self.old self.new) }

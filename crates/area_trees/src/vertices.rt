@@ -1,4 +1,4 @@
-//! The vertices that LSAs stand for, and the LSA of each.
+//! The vertices of an area, and the LSA that describes each.
 ghost use Rattle.std.specs.Prelude.{◌≡◌, ◌↔◌, Some, IsTrue, IfOk, IfSome, OnOk, option_map};
 ghost use Rattle.std.specs.List.{filter_map};
 ghost use Rattle.std.specs.List.Sorted.{IsStrictlySortedBy};
@@ -15,10 +15,11 @@ use ospf_types::lsa::{NETWORK_LSA, ROUTER_LSA};
 use ospf_types::memory::Memory;
 use std::alloc::Global;
 
-/// An LSA with the vertex that it stands for, or a vertex without one.
+/// A vertex with the LSA that describes it, or `None` if there is none.
 pub(crate) type Handed<'a> = (Vertex, Option<&'a Checked>);
 
-/// Makes the list that of the vertices that LSAs under these keys stand for, ascending, each once.
+/// Makes `vertices` the list of vertices that LSAs under these keys describe, in ascending order
+/// without duplicates.
 pub(crate) fn list_vertices(keys: &[Key], vertices: &mut Vec<Vertex>) -> Result<(), Memory>
     ensures in_order { OnOk result (IsStrictlySortedBy vertex_cmp vertices.new.items) }
     ensures exact { OnOk result (AreVerticesOf keys.now vertices.new.items) }
@@ -29,7 +30,7 @@ pub(crate) fn list_vertices(keys: &[Key], vertices: &mut Vec<Vertex>) -> Result<
     Ok(())
 }
 
-// Makes the list that of the vertices in the order of the keys.
+// Makes `vertices` the list of vertices in the order of the keys.
 fn list_named(keys: &[Key], vertices: &mut Vec<Vertex>) -> Result<(), Memory>
     ensures { OnOk result (vertices.new.items ≡ filter_map vertex_of_key keys.now) }
 {
@@ -40,7 +41,7 @@ fn list_named(keys: &[Key], vertices: &mut Vec<Vertex>) -> Result<(), Memory>
     Ok(())
 }
 
-// Adds the vertex of the key, if it has one.
+// Appends the vertex of the key, if it has one.
 fn push_named(key: Key, vertices: &mut Vec<Vertex>) -> Result<(), Memory>
     ensures { OnOk result (AddsVertexOf key vertices.old.items vertices.new.items) }
 {
@@ -50,8 +51,8 @@ fn push_named(key: Key, vertices: &mut Vec<Vertex>) -> Result<(), Memory>
     Ok(())
 }
 
-/// The vertex of an LSA with this key: a router by its router-LSA, a transit network by its network-LSA
-/// (RFC 2328, 16.1).
+/// Returns the vertex that an LSA with this key describes: a router for a router-LSA, a transit
+/// network for a network-LSA (RFC 2328, 16.1). It is `None` for other keys.
 pub fn vertex_of(key: Key) -> Option<Vertex>
     ensures { result ≡ vertex_of_key key }
 {
@@ -62,7 +63,7 @@ pub fn vertex_of(key: Key) -> Option<Vertex>
     }
 }
 
-/// Each vertex with the LSA that stands for it now.
+/// Returns each vertex with the LSA that describes it now.
 pub(crate) fn standing<'a>(
     alloc: Global,
     database: &'a Database,
@@ -79,8 +80,9 @@ pub(crate) fn standing<'a>(
     Ok(handed)
 }
 
-/// The LSA that stands for the vertex, none if it is not there.
-/// 16.1 (2) (b): an LSA at MaxAge counts for none.
+/// Returns the LSA that describes the vertex, or `None` if there is none.
+///
+/// RFC 2328, 16.1 (2) (b): an LSA at MaxAge is ignored.
 pub(crate) fn lsa_of<'a>(
     database: &'a Database,
     networks: &Networks,
@@ -108,7 +110,7 @@ pub(crate) fn lsa_of<'a>(
     }
 }
 
-/// Whether there is such an LSA.
+/// Returns true if the database has a usable LSA with this key.
 pub(crate) fn is_usable(database: &Database, key: Key) -> bool
     ensures { IsTrue result ↔ IsUsed database.now.lsas key }
 {

@@ -48,17 +48,18 @@ use std::hash::RandomState;
 use std::marker::Model;
 use summaries::{DueSummaries, Plan, SummaryInputs};
 
-/// What may differ since an event, by a calculation that has followed it.
+/// The results that an event may have changed, as returned by `Calculation::follow`.
 pub struct Changed {
-    /// Networks, ascending, each once: the table has another item for these alone, if for all.
+    /// The networks whose table item may differ, in ascending order without duplicates. All other
+    /// items are unchanged.
     pub networks: Vec<Prefix>,
-    /// Destinations: what is due to others rests on the same routes and ranges as before.
+    /// The destinations whose due summaries may differ. Those of all others are unchanged.
     pub dests: Vec<Dest>,
-    /// The work of repairing the trees.
+    /// The work of repairing the shortest-path trees.
     pub work: Touched,
 }
 
-// proof: one call drops it, in place of a drop of each part wherever one is held.
+// proof: a value is dropped by one call, not part by part at each exit of a function.
 impl Drop for Changed {
     fn drop(self) {
         let Changed {
@@ -69,7 +70,16 @@ impl Drop for Changed {
     }
 }
 
-/// What is kept of a state: the trees of its areas, and its routes, each layer by those below it.
+/// The results that the core keeps from event to event: a shortest-path tree for each area, and the
+/// routes, layer by layer (RFC 2328, 16). Each layer is calculated from the layers before it:
+///
+/// 1. `trees`: graphs and shortest-path trees (16.1, 16.1.1)
+/// 2. `intra`: intra-area routes, and the border routers reached in each area (16.1)
+/// 3. `active`: active address ranges (3.5)
+/// 4. `inter`: inter-area routes (16.2)
+/// 5. `external`: preferred routes to AS boundary routers, and AS external routes (16.4)
+///
+/// To see how an event passes through the layers, read `follow_layers` first.
 pub struct Calculation {
     trees: Vec<AreaTree>,
     intra: Intra,
@@ -78,7 +88,7 @@ pub struct Calculation {
     external: External,
 }
 
-// proof: one call drops it, in place of a drop of each part wherever one is held.
+// proof: a value is dropped by one call, not part by part at each exit of a function.
 impl Drop for Calculation {
     fn drop(self) {
         let Calculation {
@@ -108,7 +118,12 @@ impl Model for Calculation {
 }
 
 impl Calculation {
-    /// All that is kept of a state, from scratch, and the work of building its trees.
+    /// Calculates everything from scratch for the state, and returns it with the work of building
+    /// the trees.
+    ///
+    /// # Errors
+    ///
+    /// Returns `Memory` if memory runs out.
     pub fn build(
         alloc: Global,
         state: &State,
@@ -139,8 +154,16 @@ impl Calculation {
         Ok((calculation, work))
     }
 
-    /// Follows the state, which differs from the one before in these LSAs or in these interfaces, or in one range of an area,
-    /// which is named by its Area ID and its prefix. After an error what is kept is of no use any more.
+    /// Updates the results after an event.
+    ///
+    /// The event is a change of the LSAs under `keys`, of the interfaces `ids`, or of one address
+    /// range, given by its Area ID and prefix. `state` is the state after it, and must not differ
+    /// in anything else.
+    ///
+    /// # Errors
+    ///
+    /// Returns `Memory` if memory runs out. Some layers are then updated and others are not, so the
+    /// calculation has to be built again.
     pub fn follow(
         &mut self,
         alloc: Global,
@@ -181,7 +204,11 @@ impl Calculation {
         })
     }
 
-    /// What is due in the areas (RFC 2328, 12.4.3), from scratch.
+    /// Calculates the due summaries of all areas from scratch (RFC 2328, 12.4.3).
+    ///
+    /// # Errors
+    ///
+    /// Returns `Memory` if memory runs out.
     pub fn summaries(&self, alloc: Global, state: &State) -> Result<DueSummaries, Memory>
         ensures { IfOk result (AreSummariesFor state.now self.now) }
     {
@@ -189,9 +216,15 @@ impl Calculation {
         DueSummaries::build(alloc, &self.summary_inputs(state, &active))
     }
 
-    /// What is to change in due summaries that were those of routes which differ in no more than these destinations name,
-    /// and of the same configuration; or one range of it differs, and is named with the networks of its area that it covers.
-    /// Their lists stay, and get room for it.
+    /// Plans the update of the due summaries for the destinations in `dests`. `summaries` keeps its
+    /// lists and reserves the memory that carrying out the plan needs.
+    ///
+    /// `dests` lists every destination whose route may have changed. If an address range was set or
+    /// dropped, it also lists the prefix of the range, and the networks of its area that it covers.
+    ///
+    /// # Errors
+    ///
+    /// Returns `Memory` if memory runs out. The lists are then unchanged.
     pub fn plan_summaries(
         &self,
         alloc: Global,
@@ -213,42 +246,43 @@ impl Calculation {
         Ok(plan)
     }
 
-    /// The tree of each area, in the order of the configuration.
+    /// Returns the tree of each area, in the order of the configuration.
     pub fn trees(&self) -> &[AreaTree]
         ensures { result.now ≡ self.now.trees }
     {
         &self.trees
     }
 
-    /// The intra-area routes.
+    /// Returns the intra-area routes.
     pub fn intra(&self) -> &Intra
         ensures { result.now ≡ self.now.intra }
     {
         &self.intra
     }
 
-    /// The address ranges that are active.
+    /// Returns the active address ranges.
     pub fn active(&self) -> &ActiveRanges
         ensures { result.now ≡ self.now.active }
     {
         &self.active
     }
 
-    /// The inter-area routes.
+    /// Returns the inter-area routes.
     pub fn inter(&self) -> &Inter
         ensures { result.now ≡ self.now.inter }
     {
         &self.inter
     }
 
-    /// The external routes.
+    /// Returns the AS external routes.
     pub fn external(&self) -> &External
         ensures { result.now ≡ self.now.external }
     {
         &self.external
     }
 
-    /// The network's entry: intra-area, else inter-area, else external (RFC 2328, 11).
+    /// Returns the route to the network: intra-area, else inter-area, else AS external (RFC 2328,
+    /// 11).
     pub fn entry(&self, network: Prefix) -> Option<&Entry>
         ensures { option_copied result ≡ entry_at self.now network }
     {
@@ -258,7 +292,12 @@ impl Calculation {
         self.outer_entry(network)
     }
 
-    /// What the routing table has for the network.
+    /// Returns a copy of the table item for the network: its route, else a discard if it is the
+    /// prefix of an active range, else `None`.
+    ///
+    /// # Errors
+    ///
+    /// Returns `Memory` if memory runs out.
     pub fn item(&self, alloc: Global, network: Prefix) -> Result<Option<Item>, Memory>
         ensures { IfOk result (IsItemOf self.now network) }
     {
@@ -271,8 +310,14 @@ impl Calculation {
         Ok(None)
     }
 
-    /// What the table is to have for the network, where it has something else. Networks that are asked for in ascending
-    /// order hand the same `next` on, 0 at first: those that the last event changed are read where they are.
+    /// Returns the new table item for the network, or `None` if the table already has it.
+    ///
+    /// A caller that iterates over networks in ascending order passes the same `next` each time, 0
+    /// at first. It is a hint to where the last event left the intra-area routes that it changed.
+    ///
+    /// # Errors
+    ///
+    /// Returns `Memory` if memory runs out.
     pub fn new_item(
         &self,
         alloc: Global,
@@ -291,8 +336,12 @@ impl Calculation {
         Ok(table.new_item(network, None))
     }
 
-    /// The routing table, which follows so many events. Networks are hashed under keys that the random state
-    /// gives.
+    /// Builds the routing table (RFC 2328, 11) from scratch, with the given serial. `hashing`
+    /// supplies the keys of its hash map.
+    ///
+    /// # Errors
+    ///
+    /// Returns `Memory` if memory runs out.
     pub fn table(&self, alloc: Global, serial: u64, hashing: RandomState) -> Result<Table, Memory>
         ensures items { IfOk result (λ table. IsTableOf self.now table.items) }
         ensures serial { IfOk result (λ table. table.serial ≡ serial) }
@@ -308,10 +357,17 @@ impl Calculation {
 }
 
 impl Calculation {
-    // The layers of routes follow the state and the trees, from below. The answer is the networks for which one of them has
-    // another result, and the prefix of the range that may differ. The destinations for which that may matter to what is due
-    // stay as those that are dirty: no summary tells of an external route, but one tells of an AS boundary router, and a
-    // range hides the networks of its area that it covers.
+    // Updates the layers of routes in the order of RFC 2328, 16, once the trees are updated. Each
+    // layer returns the destinations whose result changed, and the layers after it look only at
+    // what depends on those.
+    //
+    // `dirty` holds the changed LSAs, interfaces and vertices, and grows by the changed
+    // destinations of each layer. At the end, `dirty.dests` is the list of destinations whose due
+    // summaries may differ. External networks are not in it, because no summary-LSA describes them;
+    // AS boundary routers are, and so are the networks covered by a range that was set or dropped.
+    //
+    // Returns the networks whose table item may differ: those of all changed destinations, and the
+    // prefix of that range.
     fn follow_layers(
         &mut self,
         alloc: Global,
@@ -328,9 +384,11 @@ impl Calculation {
         ensures named { OnOk result (IsRangeNamed range dirty.new.dests.items
             self.old.intra.entries) }
     {
+        // 3.5, C.2: the range that was set or dropped, if any.
         let areas = state.config().areas.as_slice();
         let active = &mut self.active;
         let within = follow_range(alloc, active, areas, &self.intra, &range)?;
+        // 16 (2), 16.1: intra-area routes, and the ranges that they make active or inactive.
         let mut dests = follow_intra(alloc, &mut self.intra, state, &self.trees, dirty)?;
         let ranges = self.active.update(alloc, areas, &self.intra, &dests)?;
         add_networks(&ranges, &mut dests)?;
@@ -341,8 +399,10 @@ impl Calculation {
             intra: &self.intra,
             active: &self.active,
         };
+        // 16 (3), 16.2: inter-area routes.
         let dests = below.follow_inter(alloc, &mut self.inter, dirty)?;
         dirty.dests.extend_from_slice(&dests)?;
+        // 16 (5), 16.4: preferred routes to AS boundary routers, and AS external routes.
         let (external, inter) = (&mut self.external, &self.inter);
         let mut all = below.follow_external(alloc, external, inter, dirty)?;
         push_routers(&all, &mut dirty.dests)?;
@@ -352,7 +412,7 @@ impl Calculation {
         Ok(networks)
     }
 
-    // What is due rests on this.
+    // Returns the inputs of the due summaries.
     fn summary_inputs<'a>(&'a self, state: &'a State, active: &'a [u32]) -> SummaryInputs<'a>
         ensures { result ≡ summary_inputs state.now active.now self.now }
     {
@@ -366,7 +426,7 @@ impl Calculation {
         }
     }
 
-    // The network's entry, read where the last event left it if `next` tells where.
+    // Returns the route to the network, as `entry` does, with `next` as a hint.
     fn entry_next(&self, network: Prefix, next: &mut usize) -> Option<&Entry>
         ensures { option_copied result ≡ entry_at self.now network }
     {
@@ -376,7 +436,7 @@ impl Calculation {
         self.outer_entry(network)
     }
 
-    // The network's entry of another area or from outside: inter-area, else external.
+    // Returns the inter-area route to the network, else its AS external route.
     fn outer_entry(&self, network: Prefix) -> Option<&Entry>
         ensures { option_copied result
             ≡ entry_else (map.get self.now.inter.entries (dest_value.Net network))
@@ -388,7 +448,8 @@ impl Calculation {
         self.external.get(network)
     }
 
-    // All networks that the table has something for, ascending, each once; and perhaps others.
+    // Returns every network that has a table item, in ascending order without duplicates. The list
+    // may contain other networks as well.
     fn networks(&self, alloc: Global) -> Result<Vec<Prefix>, Memory>
         ensures { IfOk result (λ networks. (p : PrefixValue)
             → (Contains networks.items p → ⊥) → IsItemOf self.now p None) }
@@ -401,7 +462,7 @@ impl Calculation {
     }
 }
 
-// The routes follow the state and the trees.
+// Updates the intra-area routes, and returns the destinations whose result changed.
 fn follow_intra(
     alloc: Global,
     intra: &mut Intra,
@@ -430,8 +491,8 @@ fn follow_intra(
     intra.update(alloc, &inputs, dirty)
 }
 
-// The active ranges follow the range that was set or dropped, if one was. The answer is the networks of its area that it
-// covers, as its members.
+// Updates the active ranges after a range was set or dropped, and returns the networks of its area
+// that it covers. Returns an empty list if no range changed.
 fn follow_range(
     alloc: Global,
     active: &mut ActiveRanges,
@@ -453,7 +514,7 @@ fn follow_range(
     }
 }
 
-// The routes of the state and the trees.
+// Builds the intra-area routes from scratch.
 fn build_intra(
     alloc: Global,
     state: &State,
@@ -475,7 +536,7 @@ fn build_intra(
     Intra::build(alloc, &inputs, hashing)
 }
 
-// Adds the prefix of the range, if there is one.
+// Appends the prefix of the range, if there is one.
 fn push_range(range: &Option<(u32, Prefix)>, dests: &mut Vec<Dest>) -> Result<(), Memory>
     ensures { OnOk result (dests.new.items ≡ dests.old.items ++ range_dests range.now) }
 {
@@ -485,7 +546,7 @@ fn push_range(range: &Option<(u32, Prefix)>, dests: &mut Vec<Dest>) -> Result<()
     Ok(())
 }
 
-// Adds the networks of the members.
+// Appends the networks of the members.
 fn push_members(members: &[RangeMember], dests: &mut Vec<Dest>) -> Result<(), Memory>
     ensures { OnOk result (dests.new.items
         ≡ dests.old.items ++ list_map (λ m. dest_value.Net m.network) members.now) }
@@ -496,7 +557,7 @@ fn push_members(members: &[RangeMember], dests: &mut Vec<Dest>) -> Result<(), Me
     Ok(())
 }
 
-// Adds the routers among the others.
+// Appends the routers among the destinations.
 fn push_routers(among: &[Dest], dests: &mut Vec<Dest>) -> Result<(), Memory>
     ensures { OnOk result (dests.new.items ≡ dests.old.items ++ routers_in among.now) }
 {
@@ -508,7 +569,7 @@ fn push_routers(among: &[Dest], dests: &mut Vec<Dest>) -> Result<(), Memory>
     Ok(())
 }
 
-// The networks among the destinations, ascending, each once.
+// Returns the networks among the destinations, in ascending order without duplicates.
 fn networks_of(alloc: Global, dests: &[Dest]) -> Result<Vec<Prefix>, Memory>
     ensures in_order { IfOk result (λ networks. IsStrictlySortedBy network_cmp networks.items) }
     ensures exact { IfOk result (λ networks. (p : PrefixValue)

@@ -1,5 +1,6 @@
-//! The routes of a state, kept from event to event (RFC 2328, 16): the graph and tree of each area, and what is
-//! calculated from them. An event is followed by what it touches.
+//! The results that are kept of a state from event to event (RFC 2328, 16): the graph and tree of
+//! each area, and the routes calculated from them. An update recomputes only what an event may
+//! change.
 #![tactic(auto)]
 
 mod calculation;

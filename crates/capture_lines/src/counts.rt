@@ -1,4 +1,4 @@
-//! How much was found in a capture.
+//! The counts of a capture.
 ghost use Rattle.std.specs.Prelude.{◌≡◌, count_by};
 ghost use Rattle.capture_lines.specs.Counts.{with_heard, with_taken, with_recorded, with_packet, with_fault, is_installed as is_installed_test, is_repeated as is_repeated_test, is_fault as is_fault_test, updates_of as updates_of_kind};
 
@@ -6,25 +6,26 @@ use crate::seconds::recorded_seconds;
 use captured_lsas::{Heard, Recorded, Taken};
 use packets::PacketKind;
 
-/// What was found in a capture. A number that no longer fits stays at the greatest.
+/// The numbers of what was found in a capture. A number that exceeds 64 bits stays at its greatest
+/// value.
 #[derive(Clone, Copy, Debug, Default, PartialEq, Eq)]
 pub struct Counts {
-    /// Captured packets of OSPF. Fragments and packets at fault are counted too.
+    /// Captured packets of OSPF. Fragments and faulty packets are counted too.
     pub packets: u64,
-    /// Link State Updates: packets of type 4 (RFC 2328, A.3.5), with LSAs or without.
+    /// Link State Updates: packets of type 4 (RFC 2328, A.3.5), with or without LSAs.
     pub updates: u64,
     /// LSAs that are installed.
     pub lsas: u64,
-    /// LSAs that are left out, as they are no newer than what was given of them.
+    /// LSAs that are left out, as they are not newer than the instance that was recorded.
     pub repeated: u64,
     /// Faults of datagrams, packets, updates and LSAs.
     pub faults: u64,
-    /// Seconds that stand in the recording: of each packet its `recorded_seconds`.
+    /// Seconds in the recording: the `recorded_seconds` of each packet.
     pub seconds: u64,
 }
 
 impl Counts {
-    /// Counts what a captured packet brings: a packet of OSPF, and the fault of a datagram.
+    /// Counts the content of a captured packet: a packet of OSPF, and the fault of a datagram.
     pub fn count_heard(&mut self, heard: &Heard<'_>)
         ensures { self.new ≡ with_heard self.old heard.now }
     {
@@ -80,7 +81,7 @@ impl Counts {
     }
 }
 
-// One for a Link State Update.
+// Returns 1 for a Link State Update, and 0 for other packets.
 fn updates_of(kind: PacketKind) -> u64
     ensures { result ≡ updates_of_kind kind }
 {

@@ -1,4 +1,4 @@
-//! The line that says how much was found in a capture.
+//! The line with the counts of a capture.
 ghost use Rattle.std.specs.Prelude.{◌≡◌, ◌++◌, Some, OnOk, codes, if◌then◌else◌, ◌==◌, string_bytes};
 ghost use Rattle.capture_lines.specs.Counts.{counted, found_text, counts_line};
 
@@ -6,8 +6,12 @@ use crate::counts::Counts;
 use ospf_types::memory::Memory;
 use std::fmt;
 
-/// Appends a line, as `abr: 14 packets, 5 updates, 9 LSAs, 1 repeated, 1 fault, 2 areas, 2 seconds`. The areas are those of
-/// the recording. If memory runs out, the text may have a part of the line.
+/// Appends a line, as `abr: 14 packets, 5 updates, 9 LSAs, 1 repeated, 1 fault, 2 areas, 2
+/// seconds`. `areas` is the number of areas.
+///
+/// # Errors
+///
+/// Returns `Memory` if memory runs out. The text may then have a part of the line.
 pub fn put_counts(counts: Counts, areas: usize, text: &mut String) -> Result<(), Memory>
     ensures { OnOk result (string_bytes text.new ≡ string_bytes text.old
         ++ counts_line counts areas) }
@@ -20,7 +24,7 @@ pub fn put_counts(counts: Counts, areas: usize, text: &mut String) -> Result<(),
     Ok(())
 }
 
-// What was found in the packets.
+// Appends the counts of packets, updates, LSAs and faults.
 fn put_found(counts: Counts, text: &mut String) -> Result<(), Memory>
     ensures { OnOk result (string_bytes text.new ≡ string_bytes text.old
         ++ found_text counts) }
@@ -43,7 +47,7 @@ struct Counted {
 }
 
 impl Counted {
-    // The first word is for one, the second for several.
+    // Chooses the word: `one` if the number is 1, or else `several`.
     fn new(number: u64, one: &'static str, several: &'static str) -> Counted
         ensures number { result.number ≡ number }
         ensures word { result.word.now ≡ if number == 1 then one.entry.now else several.entry.now }

@@ -12,9 +12,13 @@ use ospf_types::key::{Key, Scope};
 use ospf_types::memory::Memory;
 use recording::append_event;
 
-/// Appends the lines of a recording for the payload of a datagram: its seconds, and then an `install` line for each LSA
-/// that is not left out, with a `purge` line behind one that is at MaxAge. The seconds are `recorded_seconds`. If memory
-/// runs out, the text may have a part of the lines.
+/// Appends the lines of a recording for the payload of a datagram. They are its seconds
+/// (`recorded_seconds`), and then an `install` line for each LSA that is not left out. A `purge`
+/// line follows if the LSA is at MaxAge.
+///
+/// # Errors
+///
+/// Returns `Memory` if memory runs out. The text may then have some of the lines.
 pub fn put_taken(taken: Taken, text: &mut String) -> Result<(), Memory>
     ensures { OnOk result (GainsEvents text.old text.new (taken_events taken)) }
 {
@@ -57,7 +61,7 @@ fn put_each(recorded: Vec<Recorded>, text: &mut String) -> Result<(), Memory>
     Ok(())
 }
 
-// What a place in a Link State Update comes to.
+// Appends the lines for one place of a Link State Update.
 fn put_recorded(recorded: Recorded, text: &mut String) -> Result<(), Memory>
     ensures { OnOk result (GainsEvents text.old text.new (recorded_events recorded)) }
 {
@@ -70,7 +74,7 @@ fn put_recorded(recorded: Recorded, text: &mut String) -> Result<(), Memory>
     }
 }
 
-// An LSA is installed, and may be purged right behind that.
+// Appends the line that installs an LSA, and the line that purges it if `purges` is true.
 fn put_install(scope: Scope, lsa: Checked, purges: bool, text: &mut String) -> Result<(), Memory>
     ensures { OnOk result (GainsEvents text.old text.new (install_events scope lsa purges)) }
 {

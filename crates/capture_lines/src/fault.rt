@@ -6,20 +6,20 @@ use lsa_codec::WireFault;
 use packets::{PacketFault, UpdateFault};
 use std::fmt;
 
-/// A fault in a capture, by where it is.
+/// A fault in a capture, by its place.
 #[derive(Clone, Copy)]
 pub(crate) enum CaptureFault {
-    /// An IPv4 packet of OSPF is no datagram.
+    /// An IPv4 packet of OSPF is not a valid datagram.
     Datagram(DatagramFault),
-    /// A payload is no OSPF packet.
+    /// A payload is not a valid OSPF packet.
     Packet(PacketFault),
-    /// A Link State Update has no whole LSA where one is to stand.
+    /// A Link State Update has no whole LSA at the place of one.
     Update(UpdateFault),
-    /// The bytes in a Link State Update are no LSA.
+    /// Bytes in a Link State Update are not a valid LSA.
     Lsa(WireFault),
 }
 
-/// The number and the name, as `2 Checksum`.
+/// Prints the number and the name, as `2 Checksum`.
 impl fmt::Display for CaptureFault {
     ghost output = { λ fault. Some (capture_fault_text fault) };
 

@@ -1,5 +1,5 @@
-//! What is printed of a capture that is turned into a recording: the lines of the recording, a line for each fault, and
-//! a line that counts what was found. Each is appended to a text.
+//! The lines that are printed when a capture is turned into a recording: the lines of the
+//! recording, a line for each fault, and a line of counts. They are appended to a text.
 #![tactic(auto)]
 
 mod counts;

@@ -1,5 +1,5 @@
-//! The lines that tell of the faults in a capture, of time that goes back, of seconds that are not recorded, and of areas
-//! whose LSAs are left out.
+//! The lines about faults in a capture, about time that goes back, about seconds that are not
+//! recorded, and about areas whose LSAs are left out.
 ghost use Rattle.std.specs.Prelude.{◌≡◌, ◌++◌, Some, OnOk, string_bytes};
 ghost use Rattle.std.specs.List.{flat_map};
 ghost use Rattle.capture_lines.specs.Notes.{area_line, area_text, back_line, back_text, datagram_note, note_line, recorded_text, seconds_line, seconds_text, taken_text, time_notes};
@@ -12,15 +12,23 @@ use datagrams::DatagramFault;
 use ospf_types::address::Address;
 use ospf_types::memory::Memory;
 
-/// Appends a line for each fault in the payload of a datagram, as
-/// `abr: 1700000002.300000000 192.0.2.2: 2 Checksum`. The time is in nanoseconds since the beginning of 1970, UTC, and
-/// printed as seconds, or as a dash where there is none. If memory runs out, the text may have a part of the lines.
+/// Appends a line for each fault in the payload of a datagram, as `abr: 1700000002.300000000
+/// 192.0.2.2: 2 Checksum`. `when` is in nanoseconds since the beginning of 1970, UTC. It is printed
+/// in seconds, or as a dash if it is `None`. `sender` is an address in host order.
 ///
-/// Before these stands a line where not all of its seconds are recorded, as
-/// `abr: 1700009000.000000000 192.0.2.2: 9000 seconds pass, 3600 are recorded`; and before that one where time goes back,
-/// as `abr: 1700000000.000000000 192.0.2.2: the time is 9000 s before that of the last packet, and goes on from there`.
-/// Among them stands a line for the first LSA of each area that the recording does not have, as
-/// `abr: 1700000002.300000000 192.0.2.2: area 0.0.0.5 is not in the beginning: its LSAs are left out`.
+/// Other lines are, in this order:
+///
+/// - If time goes back: `abr: 1700000000.000000000 192.0.2.2: the time is 9000 s before that of the
+///   last packet, and goes on from there`.
+/// - If not all of the seconds are recorded: `abr: 1700009000.000000000 192.0.2.2: 9000 seconds
+///   pass, 3600 are recorded`.
+/// - Among the lines of faults, for the first LSA of each area that the recording does not have:
+///   `abr: 1700000002.300000000 192.0.2.2: area 0.0.0.5 is not in the beginning: its LSAs are left
+///   out`.
+///
+/// # Errors
+///
+/// Returns `Memory` if memory runs out. The text may then have some of the lines.
 pub fn put_notes(
     when: Option<u64>,
     sender: u32,
@@ -46,8 +54,12 @@ pub fn put_notes(
     }
 }
 
-/// Appends a line for the fault of a datagram, as `abr: 1700000002.300000000 -: 81 Length`, with a dash for the sender,
-/// who is not known. The time is that of `put_notes`. If memory runs out, the text may have a part of the line.
+/// Appends a line for the fault of a datagram, as `abr: 1700000002.300000000 -: 81 Length`. The
+/// dash is for the sender, which is not known. `when` is as for `put_notes`.
+///
+/// # Errors
+///
+/// Returns `Memory` if memory runs out. The text may then have a part of the line.
 pub fn put_fault_note(
     when: Option<u64>,
     fault: DatagramFault,
@@ -60,7 +72,7 @@ pub fn put_fault_note(
     put_note(Place { when, sender }, CaptureFault::Datagram(fault), text)
 }
 
-// A line where time goes back, and one where more seconds pass than are recorded.
+// Appends a line if time goes back, and one if more seconds pass than are recorded.
 fn put_time_notes(place: Place, back: u64, seconds: u64, text: &mut String) -> Result<(), Memory>
     ensures { OnOk result (string_bytes text.new ≡ string_bytes text.old
         ++ time_notes place.when place.sender back seconds) }
@@ -69,7 +81,7 @@ fn put_time_notes(place: Place, back: u64, seconds: u64, text: &mut String) -> R
     put_seconds_note(place, seconds, text)
 }
 
-// A line where time goes back.
+// Appends a line if time goes back.
 fn put_back_note(place: Place, back: u64, text: &mut String) -> Result<(), Memory>
     ensures { OnOk result (string_bytes text.new ≡ string_bytes text.old
         ++ back_text place.when place.sender back) }
@@ -91,7 +103,7 @@ fn put_back_line(place: Place, back: u64, text: &mut String) -> Result<(), Memor
     Ok(())
 }
 
-// A line where more seconds pass than are recorded.
+// Appends a line if more seconds pass than are recorded.
 fn put_seconds_note(place: Place, seconds: u64, text: &mut String) -> Result<(), Memory>
     ensures { OnOk result (string_bytes text.new ≡ string_bytes text.old
         ++ seconds_text place.when place.sender seconds) }
@@ -119,7 +131,7 @@ fn put_seconds_line(
     Ok(())
 }
 
-// The lines for the places of an update.
+// Appends the lines for the places of an update.
 fn put_each(place: Place, recorded: &[Recorded], text: &mut String) -> Result<(), Memory>
     ensures { OnOk result (string_bytes text.new ≡ string_bytes text.old
         ++ flat_map (recorded_text place.when place.sender) recorded.now) }
@@ -130,7 +142,7 @@ fn put_each(place: Place, recorded: &[Recorded], text: &mut String) -> Result<()
     Ok(())
 }
 
-// A line for the fault at a place of an update, or for its area, if there is one.
+// Appends a line for the fault at a place of an update, or for its area, if there is one.
 fn put_one(place: Place, recorded: &Recorded, text: &mut String) -> Result<(), Memory>
     ensures { OnOk result (string_bytes text.new ≡ string_bytes text.old
         ++ recorded_text place.when place.sender recorded.now) }
@@ -144,7 +156,7 @@ fn put_one(place: Place, recorded: &Recorded, text: &mut String) -> Result<(), M
     }
 }
 
-// A line for an area, at its first LSA.
+// Appends a line for an area, if it is for its first LSA.
 fn put_area_note(place: Place, area: u32, is_first: bool, text: &mut String) -> Result<(), Memory>
     ensures { OnOk result (string_bytes text.new ≡ string_bytes text.old
         ++ area_text place.when place.sender area is_first) }

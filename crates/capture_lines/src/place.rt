@@ -1,4 +1,4 @@
-//! Where a fault is: when its packet was captured, and who sent it.
+//! The place of a fault in a capture: the time and the sender of its packet.
 ghost use Rattle.std.specs.Prelude.{◌++◌, Some, codes};
 ghost use Rattle.capture_lines.specs.Notes.{time_text, when_text, sender_text};
 
@@ -8,16 +8,16 @@ use std::fmt;
 /// A second in nanoseconds.
 const SECOND: u64 = 1_000_000_000;
 
-/// A packet of a capture.
+/// The place of a packet in a capture.
 #[derive(Clone, Copy)]
 pub(crate) struct Place {
-    /// The time in nanoseconds since the beginning of 1970, UTC.
+    /// The time of the packet in nanoseconds since the beginning of 1970, UTC.
     pub(crate) when: Option<u64>,
-    /// The address of the sender.
+    /// The address of the sender, in host order.
     pub(crate) sender: Option<u32>,
 }
 
-/// The time and the sender, with a dash for what is not known.
+/// Prints the time and the sender, with a dash for each that is `None`.
 impl fmt::Display for Place {
     ghost output = { λ p. Some (when_text p.when ++ codes " " ++ sender_text p.sender) };
 
@@ -27,7 +27,7 @@ impl fmt::Display for Place {
     }
 }
 
-// The time of a packet, or a dash.
+// A time that is printed as seconds, or as a dash if it is `None`.
 #[derive(Clone, Copy)]
 struct WhenField(Option<u64>);
 
@@ -42,7 +42,7 @@ impl fmt::Display for WhenField {
     }
 }
 
-// The address of the sender, or a dash.
+// An address that is printed as a dash if it is `None`.
 #[derive(Clone, Copy)]
 struct SenderField(Option<u32>);
 
@@ -57,7 +57,7 @@ impl fmt::Display for SenderField {
     }
 }
 
-// A time in nanoseconds, as seconds with nine digits behind the point.
+// A time in nanoseconds, printed in seconds with nine digits after the point.
 #[derive(Clone, Copy)]
 struct TimeField(u64);
 

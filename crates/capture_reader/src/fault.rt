@@ -1,15 +1,16 @@
-//! Why no packet was read.
+//! The faults of reading a packet.
 ghost use Rattle.std.specs.Prelude.{◌≡◌};
 
 use captures::FaultKind;
 use input_reading::ReadFault;
 use std::alloc::AllocError;
 
-/// Why `PacketReader::next` read no packet.
+/// The reason why `PacketReader::next` read no packet.
 #[derive(Clone, Copy, Debug, PartialEq, Eq)]
 pub enum CaptureError {
-    /// The bytes are at fault. The place is counted in bytes from the first byte of the capture, which
-    /// is 0. It is where the part that is at fault begins, and for `CutOff` where the input ended.
+    /// The bytes are not valid. `place` is counted in bytes from the first byte of the capture,
+    /// which is 0. It is the place where the faulty part begins, or for `CutOff` where the input
+    /// ended.
     Fault { kind: FaultKind, place: u64 },
     /// The input could not be read.
     Read,

@@ -1,8 +1,8 @@
-//! The packets of a capture, a pcap or a pcapng, read from a file or a pipe, one at a time, in bounded
-//! memory.
+//! A reader of the packets of a capture, a pcap or a pcapng, from a file or a pipe. It reads one
+//! packet at a time, in bounded memory.
 //!
-//! `PacketReader::next` reads no further once the next packet is whole, and keeps no more than 1 MiB of
-//! the input.
+//! `PacketReader::next` stops reading when the next packet is whole, and keeps at most 1 MiB of the
+//! input.
 #![tactic(auto)]
 
 mod fault;

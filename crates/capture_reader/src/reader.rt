@@ -1,4 +1,4 @@
-//! Packets of a capture that is read from an input.
+//! The packets of a capture that is read from an input.
 ghost use Rattle.std.specs.Prelude.{◌≡◌, ◌<◌, ◌==◌, ◌&&◌, ℕ, List, IfOk, length, not};
 ghost use Rattle.captures.specs.Reading.{has_begun};
 ghost use Rattle.capture_reader.specs.Positions.{ReadsNext, beginning, further};
@@ -15,17 +15,18 @@ use std::alloc::{AllocError, Global};
 use std::io;
 use std::marker::Model;
 
-/// Packets of a capture. What was read of the input and not yet handed out is kept in a window.
+/// A reader of the packets of a capture. Bytes that were read and not yet consumed are kept in a
+/// window.
 pub struct PacketReader {
     window: Window,
     capture: Capture,
-    // How many bytes are to be read past before the next part.
+    // The number of bytes to consume before the next part.
     ahead: usize,
     // The place of the first pending byte in the capture.
     place: u64,
 }
 
-// proof: one call drops it, in place of a drop of each part wherever one is held.
+// proof: a value is dropped by one call, not part by part at each exit of a function.
 impl Drop for PacketReader {
     fn drop(self) {
         let PacketReader {
@@ -40,26 +41,27 @@ impl Drop for PacketReader {
 /// A packet without its bytes.
 #[derive(Clone, Copy, Debug, PartialEq, Eq)]
 pub struct PacketHead {
-    /// Nanoseconds since the beginning of 1970, UTC. A simple packet of a pcapng has no time.
+    /// The time of the packet in nanoseconds since the beginning of 1970, UTC. `None` for a simple
+    /// packet of a pcapng, which has no time.
     pub time: Option<u64>,
-    /// What the bytes begin with, by its LINKTYPE_ number: 1 for Ethernet.
+    /// The LINKTYPE_ number: the protocol that the bytes begin with, 1 for Ethernet.
     pub link: u16,
-    /// How many bytes the packet had on the wire.
+    /// The number of bytes that the packet had on the wire.
     pub wire_length: u32,
 }
 
-/// What a step has come to.
+/// The outcome of a step.
 #[derive(Clone, Copy)]
 pub(crate) enum Step {
     /// No packet yet.
     On,
     /// A packet.
     Packet(PacketHead),
-    /// The capture has ended.
+    /// The end of the capture.
     End,
 }
 
-/// Contracts see how far the capture is read.
+/// Contracts see how far the capture was read.
 impl Model for PacketReader {
     ghost use Rattle.std.specs.Prelude.{◌<◌, ◌^◌};
     ghost use Rattle.capture_reader.specs.Positions.{Position};
@@ -78,7 +80,11 @@ impl Model for PacketReader {
 }
 
 impl PacketReader {
-    /// A reader that has read nothing.
+    /// Creates a reader that has read nothing.
+    ///
+    /// # Errors
+    ///
+    /// Returns `AllocError` if memory runs out.
     pub fn new(alloc: Global) -> Result<PacketReader, AllocError>
         ensures { IfOk result (λ reader. reader ≡ beginning) }
     {
@@ -90,12 +96,20 @@ impl PacketReader {
         })
     }
 
-    /// Reads the next packet, and its bytes into `bytes`, in place of what is there. Answers `None` at the
-    /// end of the capture. Where the input can't be read, all packets of what was read of it before came.
+    /// Reads the next packet, and replaces `bytes` by its bytes. Returns `None` at the end of the
+    /// capture.
     ///
-    /// The input is read as far as the packet needs, in large pieces. An interrupted read is tried again.
-    /// No byte is lost by an error: if the input could not be read, or memory ran out, a further call goes
-    /// on from there. A further call after a fault finds it again, unless an input that had ended has more
+    /// The input is read as far as the packet needs, in large pieces. An interrupted read is
+    /// repeated.
+    ///
+    /// # Errors
+    ///
+    /// Returns `Fault` if the bytes are not valid or the input ended within a part. Returns `Read`
+    /// if the input could not be read; all packets in the bytes read before have then been
+    /// returned. Returns `Memory` if memory runs out.
+    ///
+    /// No bytes are lost by an error. After `Read` or `Memory`, another call continues from there.
+    /// After `Fault`, another call returns the same fault, unless an input that had ended has more
     /// bytes by then.
     pub fn next<R: io::Read>(
         &mut self,
@@ -112,19 +126,19 @@ impl PacketReader {
                 Step::End => return Ok(None),
             }
         }
-        // proof: no input has so many parts.
+        // proof: the loop ends earlier, as no input has `usize::MAX` parts.
         Err(CaptureError::Memory)
     }
 
-    /// Whether bytes were read of the input that are not read past yet. If not, the next call of `next`
-    /// begins with a read of the input.
+    /// Returns true if bytes of the input were read and not yet consumed. If not, the next call of
+    /// `next` begins with a read of the input.
     pub fn has_pending(&self) -> bool
         ensures { result ≡ not (length self.now.pending == 0) }
     {
         !self.window.as_slice().is_empty()
     }
 
-    // Takes a packet, goes past other bytes, or reads further.
+    // Takes a packet, consumes other bytes, or reads further.
     fn step<R: io::Read>(
         &mut self,
         input: &mut R,
@@ -162,7 +176,8 @@ impl PacketReader {
         }
     }
 
-    // Goes past pending bytes that are ahead of the next part. Reads further if there are more of them.
+    // Consumes the pending bytes before the next part. Reads further if they are not all pending
+    // yet.
     fn pass_ahead<R: io::Read>(&mut self, input: &mut R) -> Result<Step, CaptureError>
         requires { 0 < self.old.ahead }
         ensures { (bytes : List ℕ) → Steps self.old (R.remaining input.old)
@@ -178,7 +193,7 @@ impl PacketReader {
         Ok(Step::On)
     }
 
-    // Goes past the pending bytes that are ahead of the next part.
+    // Consumes the pending bytes before the next part.
     fn pass_pending(&mut self)
         ensures { Passes self.old self.new }
     {
@@ -188,7 +203,7 @@ impl PacketReader {
         self.place = self.place.saturating_add(count as u64);
     }
 
-    // Reads further, since less than a whole part is pending.
+    // Reads further, as less than a whole part is pending.
     fn read_further<R: io::Read>(&mut self, input: &mut R) -> Result<Step, CaptureError>
         requires short { IsShort self.old }
         requires room { length self.old.pending < LARGEST }
@@ -204,14 +219,14 @@ impl PacketReader {
         Err(self.cut_off())
     }
 
-    // Whether a capture that ends here has ended behind a part.
+    // Returns true if a capture that ends here has ended after a part.
     fn is_whole(&self) -> bool
         ensures { result ≡ (has_begun self.now.state && (length self.now.pending == 0)) }
     {
         self.capture.has_begun() && self.window.as_slice().is_empty()
     }
 
-    // Reads once, and answers how many bytes came.
+    // Reads once, and returns the number of bytes read.
     fn read_more<R: io::Read>(&mut self, input: &mut R) -> Result<usize, ReadFault>
         requires { length self.old.pending < LARGEST }
         ensures { Fills self.old (R.remaining input.old) self.new (R.remaining input.new) result }
@@ -219,7 +234,7 @@ impl PacketReader {
         self.window.fill(input)
     }
 
-    // The fault of an input that has ended within a part.
+    // Returns the fault of an input that has ended within a part.
     fn cut_off(&self) -> CaptureError
         ensures { result ≡ Fault FaultKind.CutOff
             (further self.now.place (length self.now.pending)) }

@@ -1,4 +1,4 @@
-//! What was read of an input and is not read past.
+//! The bytes of an input that were read and not yet consumed.
 ghost use Rattle.std.specs.Prelude.{◌≡◌, ◌≤◌, ◌<◌, ◌+◌, ◌++◌, ℕ, List, [], OnErr, OnOk, IfOk, length, drop, vec_len};
 ghost use Rattle.std.specs.Io.KnownBytes.{Consumes, IsAtEnd, Keeps};
 ghost use Rattle.capture_reader.specs.declared.window.TheConstants.{LARGEST};
@@ -7,13 +7,14 @@ use input_reading::{ReadFault, read_once};
 use std::alloc::{AllocError, Global};
 use std::io;
 
-/// How many bytes a window has at first.
+/// The number of bytes of a new window.
 const FIRST: usize = 65_536;
 
-/// How many bytes a window has at most: the longest part of a capture.
+/// The greatest number of bytes of a window: the length of the longest part of a capture.
 pub(crate) const LARGEST: usize = 1_048_576;
 
-/// Bytes of an input that were read and not read past, from `start` to `end`, and room behind them.
+/// The pending bytes of an input, which were read and not yet consumed, from `start` to `end`, and
+/// free space after them.
 #[derive(Drop)]
 pub(crate) struct Window {
     bytes: Vec<u8>,
@@ -28,7 +29,7 @@ pub(crate) struct Window {
 impl Window {
     ghost use Rattle.capture_reader.specs.Window.{pending, room};
 
-    /// A window of which nothing was read.
+    /// Creates a window with no pending bytes.
     pub(crate) fn new(alloc: Global) -> Result<Window, AllocError>
         ensures { IfOk result (λ window. pending window ≡ []) }
     {
@@ -41,14 +42,14 @@ impl Window {
         })
     }
 
-    /// What was read and not read past.
+    /// Returns the pending bytes.
     pub(crate) fn as_slice(&self) -> &[u8]
         ensures { result.now ≡ pending self.now }
     {
         &self.bytes[self.start..self.end]
     }
 
-    /// Goes past so many of the pending bytes.
+    /// Consumes the first `count` pending bytes.
     pub(crate) fn pass(&mut self, count: usize)
         requires { count ≤ length (pending self.old) }
         ensures { pending self.new ≡ drop count (pending self.old) }
@@ -56,8 +57,8 @@ impl Window {
         self.start += count;
     }
 
-    /// Reads once, behind what is pending. Answers how many bytes came, none only at the end of the input.
-    /// An error loses none.
+    /// Reads once, and appends to the pending bytes. Returns the number of bytes read, which is 0
+    /// only at the end of the input. An error loses no bytes.
     pub(crate) fn fill<R: io::Read>(&mut self, input: &mut R) -> Result<usize, ReadFault>
         requires { length (pending self.old) < LARGEST }
         ensures bytes { IfOk result (λ n. (more : List ℕ) × (length more ≡ n)
@@ -72,7 +73,7 @@ impl Window {
         Ok(self.read_behind(input)?)
     }
 
-    // Moves the pending bytes to the front of the window.
+    // Moves the pending bytes to the start of the window.
     fn move_to_front(&mut self)
         ensures same { pending self.new ≡ pending self.old }
         ensures front { self.new.end ≡ length (pending self.old) }
@@ -86,7 +87,7 @@ impl Window {
         self.end = end - start;
     }
 
-    // Grows the window if there is no room behind what is pending.
+    // Grows the window if it has no free space after the pending bytes.
     fn make_room(&mut self) -> Result<(), AllocError>
         requires { self.old.end < LARGEST }
         ensures same { pending self.new ≡ pending self.old }
@@ -99,7 +100,7 @@ impl Window {
         Ok(())
     }
 
-    // Reads once, behind what is pending.
+    // Reads once into the free space after the pending bytes.
     fn read_behind<R: io::Read>(&mut self, input: &mut R) -> io::Result<usize>
         requires { 0 < room self.old }
         ensures bytes { IfOk result (λ n. (more : List ℕ) × (length more ≡ n)

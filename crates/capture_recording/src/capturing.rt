@@ -1,4 +1,4 @@
-//! A capture, recorded.
+//! The recording of a capture.
 ghost use Rattle.std.specs.Prelude.{◌≡◌, IfOk};
 ghost use Rattle.recording.specs.Recordings.{IsText};
 ghost use Rattle.capture_recording.specs.declared.capturing.Preamble.TheVariants.{Given, Router};
@@ -15,31 +15,48 @@ use std::alloc::Global;
 use std::hash::RandomState;
 use std::io;
 
-/// How a capture is recorded.
+/// How to record a capture: the options, and the preamble of the recording.
 #[derive(Clone, Copy)]
 pub struct Capturing<'a> {
     pub options: Options,
     pub beginning: Preamble<'a>,
 }
 
-/// What a recording begins with.
+/// The preamble of a recording.
 #[derive(Clone, Copy)]
 pub enum Preamble<'a> {
-    /// These bytes, which are a recording.
+    /// These bytes, which have to be a recording. They may have lines after the preamble.
     Given(&'a [u8]),
-    /// What the capture tells of the router with this Router ID.
+    /// The preamble that the capture shows for the router with this Router ID, in host order.
     Router(u32),
 }
 
 /// Reads a capture, a pcap or a pcapng, and writes the recording of its OSPF LSAs.
 ///
-/// Behind a beginning that is given, LSAs of areas that it does not have are left out, and the lines of a packet are written as soon as it is taken; in large pieces where
-/// more packets are at hand. A beginning that the capture tells is written at its end, and all lines behind it. What is
-/// at fault, what the capture does not tell of the router, and at last how much was found, is said to `faults`. Where
-/// that cannot be written, no more is said, and the capture is still recorded; the answer is `Unsaid`, whether or not
-/// the capture or the configuration is at fault.
+/// If the preamble is given, LSAs of areas that it does not have are left out. The lines of a
+/// packet are then written as soon as it is taken, or in large pieces while more bytes of the
+/// capture are at hand. A preamble that the capture shows is written at the end of the capture, and
+/// all lines after it.
 ///
-/// What came before a fault of the capture is recorded, as is what came before a read that failed.
+/// Faults in packets, what the capture does not show of the router, and at last the counts are
+/// printed to `faults`. If that cannot be written, no more is printed, and the capture is still
+/// recorded.
+///
+/// # Errors
+///
+/// Returns `Line` if the given preamble is not a valid recording, or memory runs out while it is
+/// parsed. Nothing is then read or written.
+///
+/// Returns `Capture` or `Read` if the capture has a fault or cannot be read further. The packets
+/// before that are recorded, unless the configuration of the router has a fault.
+///
+/// Returns `Config` if only the configuration of the router has a fault. Nothing is then recorded.
+///
+/// Returns `Unsaid` in place of these three faults, or of success, if `faults` could not be
+/// written.
+///
+/// Returns `Write` or `Closed` if `out` cannot be written, or `Memory` if memory runs out. A part
+/// of the recording may then have been written.
 pub fn record_capture<R: io::Read, W: io::Write, F: io::Write>(
     alloc: Global,
     hashing: RandomState,
@@ -63,7 +80,7 @@ pub fn record_capture<R: io::Read, W: io::Write, F: io::Write>(
     }
 }
 
-// Records a capture behind these bytes, if they are a recording.
+// Records a capture after these bytes, if they are a recording.
 fn record_given<R: io::Read, W: io::Write, F: io::Write>(
     alloc: Global,
     start: Start,
@@ -82,7 +99,7 @@ fn record_given<R: io::Read, W: io::Write, F: io::Write>(
     }
 }
 
-// Records a capture behind these bytes, which are this recording.
+// Records a capture after these bytes, which are this recording.
 fn record_known<R: io::Read, W: io::Write, F: io::Write>(
     alloc: Global,
     start: Start,
@@ -103,7 +120,7 @@ fn record_known<R: io::Read, W: io::Write, F: io::Write>(
     }
 }
 
-// The Area IDs of the recording's configuration.
+// Returns the Area IDs of the recording's configuration.
 fn ids_of(alloc: Global, recording: &Recording) -> Result<Vec<u32>, Memory>
     ensures { IfOk result (λ ids. ids.items ≡ areas_in recording.now) }
 {
@@ -111,7 +128,7 @@ fn ids_of(alloc: Global, recording: &Recording) -> Result<Vec<u32>, Memory>
     Ok(areas.iter().map(|area| area.id).collect(alloc)?)
 }
 
-// Records a capture behind these bytes, which are a recording.
+// Records a capture after these bytes, which are a recording.
 fn record_behind<R: io::Read, W: io::Write, F: io::Write>(
     alloc: Global,
     start: Start,
@@ -134,7 +151,7 @@ fn record_behind<R: io::Read, W: io::Write, F: io::Write>(
     }
 }
 
-// Records a capture behind what it tells of the router.
+// Records a capture after the preamble that it shows for the router.
 fn record_router<R: io::Read, W: io::Write, F: io::Write>(
     alloc: Global,
     start: Start,

@@ -1,4 +1,4 @@
-//! How a capture ended.
+//! The end of a capture.
 ghost use Rattle.std.specs.Prelude.{◌≡◌};
 ghost use Rattle.capture_recording.specs.Ending.{fault_lacking, result_of};
 
@@ -6,19 +6,19 @@ use crate::fault::CapturingFault;
 use captures::FaultKind;
 use config_faults::ConfigFault;
 
-/// Why no packet comes any more.
+/// The reason why there are no more packets.
 #[derive(Clone, Copy)]
 pub(crate) enum Ending {
     /// The capture has ended.
     Whole,
-    /// The capture is at fault at this place.
+    /// The bytes of the capture are not valid at this place.
     Fault { kind: FaultKind, place: u64 },
     /// The capture could not be read further.
     Unread,
 }
 
 impl Ending {
-    /// What is answered where all that came is recorded.
+    /// Returns the result of recording the capture up to its end.
     pub(crate) fn result(self) -> Result<(), CapturingFault>
         ensures { result ≡ result_of self }
     {
@@ -29,7 +29,8 @@ impl Ending {
         }
     }
 
-    /// What is answered where the configuration of the router is at fault.
+    /// Returns the fault to report if the configuration of the router has a fault. A fault of the
+    /// capture comes first.
     pub(crate) fn fault_lacking(self, fault: ConfigFault) -> CapturingFault
         ensures { result ≡ fault_lacking self fault }
     {

@@ -3,25 +3,29 @@ use config_faults::ConfigFault;
 use ospf_types::memory::Memory;
 use recording::LineFault;
 
-/// Why a capture was not recorded whole, or what there was to say was not said whole.
+/// The reason why a capture was not recorded whole, or why not all was printed about it.
 #[derive(Clone, Copy, Debug, PartialEq, Eq)]
 pub enum CapturingFault {
-    /// The capture is at fault at this place, in bytes from its first byte. What came before is recorded.
+    /// The bytes of the capture are not valid at this place, counted in bytes from the first one.
+    /// The packets before it are recorded, unless the configuration of the router has a fault.
     Capture { kind: FaultKind, place: u64 },
-    /// The capture could not be read further. What came before is recorded.
+    /// The capture could not be read further. The packets before that are recorded, unless the
+    /// configuration of the router has a fault.
     Read,
-    /// The beginning that was given is no recording.
+    /// The given preamble is not a valid recording, or memory ran out while it was parsed. Nothing
+    /// was read or written.
     Line(LineFault),
-    /// What the capture tells of the router is no configuration.
+    /// The configuration that the capture shows for the router is not valid. Nothing is recorded.
     Config(ConfigFault),
-    /// What there was to say could not be said whole. The recording was written, or there is none for a fault of the
-    /// configuration.
+    /// Not everything could be printed about the capture. Its packets are recorded, unless the
+    /// configuration of the router has a fault.
     Unsaid,
-    /// The output could not be written.
+    /// The output could not be written. A part of the recording may have been written.
     Write,
-    /// The output is a pipe, and its reading end was closed.
+    /// The output is a pipe, and its reading end was closed. A part of the recording may have been
+    /// written.
     Closed,
-    /// Memory ran out.
+    /// Memory ran out. A part of the recording may have been written.
     Memory,
 }
 

@@ -1,4 +1,4 @@
-//! What is written and said once a capture was gone through.
+//! The output after a capture was read.
 ghost use Rattle.std.specs.Prelude.{◌≡◌, ◌++◌, ℕ, List, Option, Some, OnOk, IfOk, IfErr, length, string_bytes};
 ghost use Rattle.std.specs.Io.KnownBytes.{Appends};
 ghost use Rattle.captured_config.specs.Facts.{facts_of};
@@ -26,7 +26,7 @@ use std::alloc::Global;
 use std::io;
 
 impl Kept {
-    /// Writes what the capture tells of the router, and behind it the lines.
+    /// Writes the preamble that the capture shows for the router, and then the lines.
     pub(crate) fn finish_router<W: io::Write, F: io::Write>(
         self,
         alloc: Global,
@@ -46,7 +46,7 @@ impl Kept {
         }
     }
 
-    // Writes the front, and behind it the lines.
+    // Writes the preamble, and then the lines.
     fn finish_behind<W: io::Write, F: io::Write>(
         self,
         front: &str,
@@ -86,7 +86,7 @@ impl Kept {
 }
 
 impl Ended {
-    /// Writes the lines that are left, and says what there is to say at the end.
+    /// Writes the lines that are left, and prints the notes and counts at the end.
     pub(crate) fn finish<W: io::Write, F: io::Write>(
         self,
         out: &mut W,
@@ -105,7 +105,7 @@ impl Ended {
         }
     }
 
-    // Says what the capture does not tell of the router, and how much was found.
+    // Prints what the capture does not show of the router, and the counts.
     fn say_end<F: io::Write>(mut self, faults: &mut F) -> Result<(), CapturingFault>
         ensures { (rules : Rules) (beginning : Preamble)
             (before after first new told : Option (List ℕ))
@@ -124,7 +124,7 @@ impl Ended {
         }
     }
 
-    // Says how much was found, where the configuration is at fault.
+    // Prints the counts if the configuration has a fault.
     fn finish_without<F: io::Write>(
         mut self,
         fault: ConfigFault,
@@ -147,7 +147,8 @@ impl Ended {
     }
 }
 
-// What a recording begins with, by what is known of the router.
+// Returns the preamble that the capture shows for the router, or an empty text if it is not asked
+// for.
 fn front_of(alloc: Global, gathered: &Gathered) -> Result<String, PreambleFault>
     ensures ok { (known : Captured) → gathered.now.config ≡ Some (facts_of known)
         → IfOk result (λ front.
@@ -165,7 +166,7 @@ fn front_of(alloc: Global, gathered: &Gathered) -> Result<String, PreambleFault>
     }
 }
 
-// Appends what is said at the end.
+// Appends the text that is printed at the end.
 fn put_end(gathered: &Gathered, text: &mut String) -> Result<(), Memory>
     ensures { (known : Option Captured) → AreFactsOf known gathered.now.config
         → OnOk result (string_bytes text.new ≡ string_bytes text.old
@@ -176,7 +177,7 @@ fn put_end(gathered: &Gathered, text: &mut String) -> Result<(), Memory>
     put_counted(gathered, text)
 }
 
-// Appends what the capture does not tell of the router, if the recording begins with that.
+// Appends what the capture does not show of the router, if its preamble is asked for.
 fn put_unknown_of(gathered: &Gathered, text: &mut String) -> Result<(), Memory>
     ensures { (known : Option Captured) → AreFactsOf known gathered.now.config
         → OnOk result (string_bytes text.new ≡ string_bytes text.old
@@ -188,7 +189,7 @@ fn put_unknown_of(gathered: &Gathered, text: &mut String) -> Result<(), Memory>
     }
 }
 
-// Appends how much was found.
+// Appends the counts. The areas are those that packets without a fault name.
 fn put_counted(gathered: &Gathered, text: &mut String) -> Result<(), Memory>
     ensures { OnOk result (string_bytes text.new ≡ string_bytes text.old
         ++ counts_line gathered.now.counts (length gathered.now.areas)) }

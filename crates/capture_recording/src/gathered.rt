@@ -1,4 +1,4 @@
-//! What is kept of the packets of a capture.
+//! The results that are kept of the packets of a capture.
 ghost use Rattle.std.specs.Prelude.{◌≡◌, ℕ, OnOk, IfOk, Option, option_map};
 ghost use Rattle.std.specs.List.{fold};
 ghost use Rattle.captured_config.specs.Facts.{AreFacts};
@@ -16,17 +16,17 @@ use captures::Packet;
 use ospf_types::memory::Memory;
 use std::alloc::Global;
 
-/// What is kept of the packets so far.
+/// The results that are kept of the packets so far.
 pub(crate) struct Gathered {
     pub(crate) listener: Listener,
     pub(crate) recorder: Recorder,
     pub(crate) counts: Counts,
     pub(crate) areas: SeenAreas,
-    /// What is known of the router, if the recording is to begin with that.
+    /// The facts about the router so far, if the recording begins with its configuration.
     pub(crate) config: Option<CapturedConfig>,
 }
 
-// proof: one call drops it, in place of a drop of each part wherever one is held.
+// proof: a value is dropped by one call, not part by part at each exit of a function.
 impl Drop for Gathered {
     fn drop(self) {
         let Gathered {
@@ -40,7 +40,7 @@ impl Drop for Gathered {
 }
 
 impl Gathered {
-    /// No packet came.
+    /// Creates the results of no packets.
     pub(crate) fn new(alloc: Global, start: Start, router: Option<u32>) -> Gathered
         ensures { result ≡ first_gathered start router }
     {
@@ -58,7 +58,7 @@ impl Gathered {
         }
     }
 
-    /// Hears a captured packet, and counts what it brings.
+    /// Takes a captured packet, and counts its content.
     pub(crate) fn hear<'a>(
         &mut self,
         alloc: Global,
@@ -93,7 +93,7 @@ impl Gathered {
     }
 }
 
-// Notes LSAs that are installed in the area, if a router is to be known.
+// Notes the LSAs that are installed in the area, if the configuration of a router is asked for.
 fn note_lsas(
     config: &mut Option<CapturedConfig>,
     alloc: Global,

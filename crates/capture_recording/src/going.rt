@@ -1,4 +1,4 @@
-//! A capture that is gone through, from its first packet to its last.
+//! Reading a capture from its first packet to its last.
 ghost use Rattle.std.specs.Prelude.{ℕ, List, [], Some, None, IfOk, IfErr, OnErr};
 ghost use Rattle.std.specs.Io.KnownBytes.{Appends};
 ghost use Rattle.capture_recording.specs.Going.{GoesThrough};
@@ -15,21 +15,22 @@ use ospf_types::memory::Memory;
 use std::alloc::Global;
 use std::io;
 
-/// A capture that was gone through.
+/// A capture that was read, and how it ended.
 #[derive(Drop)]
 pub(crate) struct Ended {
     pub(crate) session: Session,
     pub(crate) ending: Ending,
 }
 
-/// A capture that was gone through, with the lines that were packed. Those of the session come behind them.
+/// A capture that was read, with the lines that were packed. The lines of the session come after
+/// them.
 #[derive(Drop)]
 pub(crate) struct Kept {
     pub(crate) ended: Ended,
     pub(crate) packed: PackedText,
 }
 
-/// Goes through a capture, and keeps the lines of its packets.
+/// Reads a capture, and keeps the lines of its packets.
 pub(crate) fn gather<R: io::Read, F: io::Write>(
     alloc: Global,
     start: Start,
@@ -55,12 +56,12 @@ pub(crate) fn gather<R: io::Read, F: io::Write>(
             }
         }
     }
-    // proof: no input has so many packets.
+    // proof: the loop ends earlier, as no input has `u64::MAX` packets.
     Err(Memory)
 }
 
-/// Goes through a capture, and writes the lines of its packets: behind each packet, and in large pieces where the
-/// next one is at hand. Lines may be left at the end.
+/// Reads a capture, and writes the lines of its packets: after each packet, or in large pieces
+/// while the next one is at hand. Lines may be left at the end.
 pub(crate) fn stream<R: io::Read, W: io::Write, F: io::Write>(
     alloc: Global,
     start: Start,
@@ -84,6 +85,6 @@ pub(crate) fn stream<R: io::Read, W: io::Write, F: io::Write>(
             Some(ending) => return Ok(Ended { session, ending }),
         }
     }
-    // proof: no input has so many packets.
+    // proof: the loop ends earlier, as no input has `u64::MAX` packets.
     Err(CapturingFault::Memory)
 }

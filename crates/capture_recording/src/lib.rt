@@ -1,4 +1,4 @@
-//! A capture of a network becomes the recording of its OSPF LSAs.
+//! The conversion of a capture of a network into a recording of its OSPF LSAs.
 #![tactic(auto)]
 
 mod capturing;

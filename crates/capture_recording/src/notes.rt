@@ -1,4 +1,4 @@
-//! What is said of a capture while it is recorded.
+//! The lines that are printed about a capture while it is recorded.
 ghost use Rattle.std.specs.Prelude.{◌≡◌, ◌++◌, ℕ, List, Option, [], Bool, false, string_bytes};
 ghost use Rattle.capture_recording.specs.Ending.{unless_silent};
 ghost use Rattle.capture_recording.specs.Said.{HasSaid};
@@ -8,12 +8,12 @@ use replay::write_whole;
 use std::alloc::Global;
 use std::io;
 
-/// Lines that tell of faults.
+/// The lines that are printed about a capture, such as faults.
 #[derive(Drop)]
 pub(crate) struct Notes {
-    /// Those that are not written yet.
+    /// The lines that are not written yet.
     pub(crate) text: String,
-    /// They could not be written. No more are.
+    /// True if a line could not be written. No more lines are written then.
     pub(crate) is_silent: bool,
 }
 
@@ -28,7 +28,7 @@ impl Notes {
         }
     }
 
-    /// Writes the text, unless an earlier one could not be written, and forgets it.
+    /// Writes the text, unless an earlier text could not be written, and clears it.
     pub(crate) fn say<F: io::Write>(&mut self, faults: &mut F)
         ensures none { string_bytes self.new.text ≡ [] }
         ensures said { (first : Option (List ℕ)) (text : List ℕ)
@@ -40,7 +40,7 @@ impl Notes {
         self.text.clear();
     }
 
-    /// The answer at the end, unless something could not be written.
+    /// Returns the result at the end, or `Unsaid` if a text could not be written.
     pub(crate) fn unless_silent(
         &self,
         answer: Result<(), CapturingFault>,
@@ -54,8 +54,8 @@ impl Notes {
     }
 }
 
-// Writes the text, unless an earlier one could not be written. Answers whether this one or an earlier one
-// could not.
+// Writes the text, unless an earlier text could not be written. Returns true if this text or an
+// earlier one could not be written.
 fn is_silent_behind<F: io::Write>(is_silent: bool, text: &str, faults: &mut F) -> bool
     ensures { (first : Option (List ℕ)) (before : List ℕ)
         → HasSaid first (F.contents faults.old) is_silent before

@@ -1,4 +1,4 @@
-//! Text in less memory.
+//! A text in less memory.
 
 ghost use Rattle.std.specs.Prelude.{◌≡◌, ◌≤◌, ◌<◌, ◌%◌, ◌++◌, [], length, take, ℕ, List, IfOk, IfSome, OnOk, OnErr};
 ghost use Rattle.capture_recording.specs.Digits.{AreDigits};
@@ -10,16 +10,19 @@ use crate::runs::{run_of, seconds_in};
 use std::alloc::{AllocError, Global};
 use std::marker::Model;
 
-/// Text in which many lines begin alike and have many digits of hexadecimal numbers, and others only tell of a second. It is
-/// kept in parts: of each, some characters, which are kept once where the part before begins with them too, and then digits
-/// by two in a byte; or how many seconds there are.
+/// A text of lines of a recording, in less memory. Many of them begin alike and have many
+/// hexadecimal digits; others are only `second`.
+///
+/// It is kept in parts. A part is some characters and then hexadecimal digits, or a number of
+/// `second` lines. Characters are kept once if the part before has the same ones. Digits are kept
+/// by two in a byte.
 pub(crate) struct PackedText {
     pub(crate) alloc: Global,
     pub(crate) bytes: Vec<u8>,
     pub(crate) parts: Vec<Part>,
 }
 
-// proof: one call drops it, in place of a drop of each part wherever one is held.
+// proof: a value is dropped by one call, not part by part at each exit of a function.
 impl Drop for PackedText {
     fn drop(self) {
         let PackedText {
@@ -43,7 +46,7 @@ impl Model for PackedText {
 }
 
 impl PackedText {
-    /// No text. It takes no memory yet.
+    /// Creates an empty text, which uses no memory yet.
     pub(crate) fn new(alloc: Global) -> PackedText
         ensures { result ≡ [] }
     {
@@ -54,7 +57,7 @@ impl PackedText {
         }
     }
 
-    /// Appends the text. If memory runs out, a part of it may be there.
+    /// Appends the text. If memory runs out, a part of it may have been appended.
     pub(crate) fn push(&mut self, text: &[u8]) -> Result<(), AllocError>
         ensures { OnOk result (self.new ≡ self.old ++ text.now) }
     {
@@ -66,7 +69,7 @@ impl PackedText {
         Ok(())
     }
 
-    // Appends a front of the text, and returns how long it is.
+    // Appends a first part of the text, and returns its length.
     fn push_front(&mut self, text: &[u8]) -> Result<usize, AllocError>
         requires { 0 < length text.now }
         ensures some { IfOk result (λ size. 0 < size) }
@@ -81,7 +84,7 @@ impl PackedText {
         self.push_run(text)
     }
 
-    // Appends so many lines of seconds. If memory runs out, nothing changes.
+    // Appends `second` lines. If memory runs out, nothing changes.
     fn push_seconds(&mut self, seconds: u16) -> Result<(), AllocError>
         ensures pushed { OnOk result (self.new ≡ self.old ++ second_lines seconds) }
         ensures unchanged { OnErr result (self.new ≡ self.old) }
@@ -90,7 +93,7 @@ impl PackedText {
         Ok(())
     }
 
-    // Appends the characters and the digits that the text begins with, and returns how many.
+    // Appends the characters and the digits at the start of the text, and returns their number.
     fn push_run(&mut self, text: &[u8]) -> Result<usize, AllocError>
         requires { 0 < length text.now }
         ensures some { IfOk result (λ size. 0 < size) }
@@ -130,7 +133,7 @@ impl PackedText {
     }
 }
 
-// The last part, if it is characters and digits.
+// Returns the last part, if it is characters and digits.
 fn last_piece(parts: &[Part]) -> Option<Piece>
     ensures { (bytes : List ℕ) → AreWithin bytes parts.now → IfSome result (IsWithin bytes) }
 {

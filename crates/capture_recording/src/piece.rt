@@ -3,17 +3,17 @@
 pub(crate) enum Part {
     /// Characters, and then digits.
     Text(Piece),
-    /// So many lines that each tell of a second.
+    /// A number of `second` lines.
     Seconds(u16),
 }
 
-/// Where the characters and the digits of a part stand.
+/// The places of the characters and the digits of a part.
 #[derive(Clone, Copy)]
 pub(crate) struct Piece {
     pub(crate) plain_start: u32,
     pub(crate) digits_start: u32,
-    /// How many characters.
+    /// The number of characters.
     pub(crate) plain: u16,
-    /// How many pairs of digits.
+    /// The number of pairs of digits.
     pub(crate) pairs: u16,
 }

@@ -1,4 +1,4 @@
-//! What a piece of a packed text needs, appended to its bytes.
+//! The bytes of the pieces of a packed text.
 
 ghost use Rattle.std.specs.Prelude.{◌≡◌, ◌≤◌, ◌<◌, ◌+◌, ◌/◌, ◌%◌, length, drop, IfOk, IfSome, OnOk, true, slice_index};
 ghost use Rattle.hex.specs.Hex.{encode_lower, lower_digits};
@@ -8,7 +8,8 @@ ghost use Rattle.capture_recording.specs.Packed.{Gains, IsWithin, IsPiece, IsPar
 use crate::piece::Piece;
 use std::alloc::AllocError;
 
-/// Appends what the piece of these characters and digits needs behind the last piece, and answers the piece.
+/// Appends the bytes for a piece with these characters and digits, and returns the piece. `last` is
+/// the piece before it.
 pub(crate) fn append_piece(
     bytes: &mut Vec<u8>,
     last: Option<Piece>,
@@ -37,7 +38,7 @@ pub(crate) fn append_piece(
     }
 }
 
-// Appends the characters, unless the last piece begins with them. Answers where they stand.
+// Appends the characters, unless the last piece has the same ones. Returns their index.
 fn append_plain(bytes: &mut Vec<u8>, last: Option<Piece>, plain: &[u8]) -> Result<usize, AllocError>
     requires last { IfSome last (IsWithin bytes.old.items) }
     ensures gains { Gains bytes.old.items bytes.new.items }
@@ -70,7 +71,7 @@ fn append_digits(bytes: &mut Vec<u8>, digits: &[u8]) -> Result<(), AllocError>
     Ok(())
 }
 
-// The value of a digit.
+// Returns the value of a digit.
 fn value_of(digit: u8) -> u8
     requires { is_digit digit ≡ true }
     ensures value { result < 16 }

@@ -1,28 +1,28 @@
-//! How a text goes on: characters, and digits of hexadecimal numbers.
+//! The runs of a text: characters, and hexadecimal digits.
 
 ghost use Rattle.std.specs.Prelude.{◌≡◌, ◌≤◌, ◌<◌, ◌+◌, ◌*◌, ◌%◌, drop, length, take, true};
 ghost use Rattle.capture_recording.specs.Digits.{is_digit as is_digit_test, AreDigits};
 ghost use Rattle.capture_recording.specs.Packed.{second_line, second_lines};
 
-/// So many digits in a row are kept by two in a byte.
+/// The least number of digits in a row that are kept by two in a byte.
 const FEWEST_DIGITS: usize = 16;
 
-/// No more characters, and no more pairs of digits, stand in one piece.
+/// The greatest number of characters, and of pairs of digits, in one piece.
 const MOST: usize = 65_535;
 
-/// No more seconds stand in one part: some 64 KiB of text.
+/// The greatest number of seconds in one part: 63,000 bytes of text.
 const MOST_SECONDS: usize = 9_000;
 
-/// What a text begins with: characters, and then digits.
+/// The start of a text: characters, and then digits.
 #[derive(Clone, Copy)]
 pub(crate) struct Run {
-    /// How many characters.
+    /// The number of characters.
     pub(crate) plain: usize,
-    /// How many digits, an even number.
+    /// The number of digits, which is even.
     pub(crate) digits: usize,
 }
 
-/// What a text that is not empty begins with.
+/// Returns the run at the start of a text that is not empty.
 pub(crate) fn run_of(text: &[u8]) -> Run
     requires { 0 < length text.now }
     ensures within { result.plain + result.digits ≤ length text.now }
@@ -43,7 +43,7 @@ pub(crate) fn run_of(text: &[u8]) -> Run
     Run { plain, digits }
 }
 
-/// How many lines of seconds stand in front.
+/// Returns the number of `second` lines at the start of the text, up to `MOST_SECONDS`.
 pub(crate) fn seconds_in(text: &[u8]) -> u16
     ensures within { 7 * result ≤ length text.now }
     ensures lines { take (7 * result) text.now ≡ second_lines result }
@@ -57,14 +57,14 @@ pub(crate) fn seconds_in(text: &[u8]) -> u16
     most as u16
 }
 
-// Returns true if the line of a second stands in front.
+// Returns true if the text begins with a `second` line.
 fn is_second(text: &[u8]) -> bool
     ensures { result ≡ true → take 7 text.now ≡ second_line }
 {
     text.starts_with(b"second\n")
 }
 
-// How many characters stand before many digits in a row, or before the line of a second.
+// Returns the number of characters before many digits in a row or a `second` line, up to `MOST`.
 fn plain_in(text: &[u8]) -> usize
     ensures within { result ≤ length text.now }
     ensures few { result ≤ 65535 }
@@ -78,7 +78,8 @@ fn plain_in(text: &[u8]) -> usize
     most
 }
 
-// How many digits stand in front, an even number.
+// Returns the number of digits at the start of the text, in pairs: an even number, up to twice
+// `MOST`.
 fn digits_in(text: &[u8]) -> usize
     ensures within { result ≤ length text.now }
     ensures few { result ≤ 131070 }
@@ -94,7 +95,7 @@ fn digits_in(text: &[u8]) -> usize
     2 * most
 }
 
-// Whether the byte is a digit of a hexadecimal number, as lines have them: no capital letter.
+// Returns true if the byte is a hexadecimal digit as lines have them, with a lower-case letter.
 fn is_digit(byte: u8) -> bool
     ensures { result ≡ is_digit_test byte }
 {

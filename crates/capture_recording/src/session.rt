@@ -12,7 +12,7 @@ use captures::Packet;
 use ospf_types::memory::Memory;
 use std::alloc::Global;
 
-/// What came of the packets so far.
+/// The results of the packets so far.
 pub(crate) struct Session {
     pub(crate) gathered: Gathered,
     /// The lines of the recording that are not written yet.
@@ -20,7 +20,7 @@ pub(crate) struct Session {
     pub(crate) notes: Notes,
 }
 
-// proof: one call drops it, in place of a drop of each part wherever one is held.
+// proof: a value is dropped by one call, not part by part at each exit of a function.
 impl Drop for Session {
     fn drop(self) {
         let Session {
@@ -32,7 +32,7 @@ impl Drop for Session {
 }
 
 impl Session {
-    /// No packet came.
+    /// Creates a session that has taken no packet.
     pub(crate) fn new(alloc: Global, start: Start, router: Option<u32>) -> Session
         ensures { IsFirstSession start router result }
     {
@@ -43,7 +43,8 @@ impl Session {
         }
     }
 
-    /// Takes a captured packet: what is recorded of it comes to the lines, its faults to the notes.
+    /// Takes a captured packet. Appends what is recorded of it to the lines, and its faults to the
+    /// notes.
     pub(crate) fn take(&mut self, alloc: Global, packet: &Packet<'_>) -> Result<(), Memory>
         ensures { OnOk result (TakesPacket self.old self.new (shown_packet packet.now)) }
     {

@@ -1,4 +1,4 @@
-//! Where the packets come from.
+//! The source of the packets.
 ghost use Rattle.std.specs.Prelude.{◌≡◌, IfOk, OnErr};
 ghost use Rattle.capture_recording.specs.Ending.{first_position};
 ghost use Rattle.capture_recording.specs.Going.{HandsNext, IsDue};
@@ -18,7 +18,7 @@ pub(crate) struct Source {
     pub(crate) bytes: Vec<u8>,
 }
 
-// proof: one call drops it, in place of a drop of each part wherever one is held.
+// proof: a value is dropped by one call, not part by part at each exit of a function.
 impl Drop for Source {
     fn drop(self) {
         let Source {
@@ -29,7 +29,7 @@ impl Drop for Source {
 }
 
 impl Source {
-    /// Nothing was read.
+    /// Creates a source of which nothing was read.
     pub(crate) fn new(alloc: Global) -> Result<Source, Memory>
         ensures { IfOk result (λ source. source.reader ≡ first_position) }
     {
@@ -39,8 +39,8 @@ impl Source {
         })
     }
 
-    /// Reads the next packet, has it taken, and says what there is to say of it. Answers how the capture has ended, if
-    /// no packet comes.
+    /// Reads the next packet, lets the session take it, and writes the notes about it. Returns how
+    /// the capture has ended if there is no next packet.
     pub(crate) fn hand_next<R: io::Read, F: io::Write>(
         &mut self,
         alloc: Global,
@@ -48,7 +48,7 @@ impl Source {
         session: &mut Session,
         faults: &mut F,
     ) -> Result<Option<Ending>, Memory>
-        // No line is held back where the input has to be read for the next packet.
+        // No line is held back if the input has to be read for the next packet.
         requires due { IsDue self.old.reader session.old }
         ensures ok { IfOk result (HandsNext self.old.reader (R.remaining input.old)
             self.new.reader (R.remaining input.new)

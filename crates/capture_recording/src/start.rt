@@ -4,13 +4,13 @@ use captured_lsas::Options;
 use std::hash::RandomState;
 use std::marker::Model;
 
-/// What a recording starts with.
+/// The settings that a recording starts with.
 #[derive(Drop)]
 pub(crate) struct Start {
-    /// The key of its maps.
+    /// The key of the hash function of its maps.
     pub(crate) hashing: RandomState,
     pub(crate) options: Options,
-    /// The areas of the beginning, if it is given.
+    /// The areas of the preamble, if it is given.
     pub(crate) areas: Option<Vec<u32>>,
 }
 
@@ -25,7 +25,7 @@ impl Model for Start {
 }
 
 impl Start {
-    /// With these for the areas of the beginning.
+    /// Returns the settings with these areas of the preamble.
     pub(crate) fn with_areas(self, areas: Vec<u32>) -> Start
         ensures { result ≡ record self { areas = Some areas.items } }
     {

@@ -1,4 +1,4 @@
-//! Packed text, written.
+//! The output of packed text.
 ghost use Rattle.std.specs.Prelude.{◌≡◌, ◌++◌, OnOk, IfErr};
 ghost use Rattle.std.specs.Io.KnownBytes.{Appends};
 ghost use Rattle.capture_recording.specs.Packed.{part_text, piece_text, second_lines, text_of, IsPartWithin, IsWithin, AreWithin};
@@ -65,7 +65,7 @@ fn put_part(alloc: Global, bytes: &[u8], part: &Part, text: &mut Vec<u8>) -> Res
     }
 }
 
-// Appends so many lines of seconds.
+// Appends `count` lines of seconds.
 fn put_seconds(count: u16, text: &mut Vec<u8>) -> Result<(), Memory>
     ensures { OnOk result (text.new.items ≡ text.old.items ++ second_lines count) }
 {

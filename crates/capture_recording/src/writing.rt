@@ -1,4 +1,4 @@
-//! The recording, as it is written.
+//! The output of the recording.
 ghost use Rattle.std.specs.Prelude.{◌≡◌, ◌⊎◌, [], false, OnOk, OnErr, IfErr, string_bytes};
 ghost use Rattle.std.specs.Io.KnownBytes.{Appends};
 ghost use Rattle.replay.specs.Writing.{AppendsPart};
@@ -11,7 +11,7 @@ use ospf_types::memory::Memory;
 use replay::{WriteError, write_whole};
 use std::io;
 
-/// So many bytes of lines are written even where the next packet is at hand.
+/// The number of bytes of lines that are written even if the next packet is at hand.
 const MANY: usize = 65_536;
 
 /// Writes the bytes.
@@ -28,7 +28,8 @@ pub(crate) fn write_out<W: io::Write>(bytes: &[u8], out: &mut W) -> Result<(), C
     }
 }
 
-/// Writes the lines and forgets them, unless the next packet is at hand and they are few.
+/// Writes the lines and clears them, unless the next packet is at hand and they have fewer than
+/// `MANY` bytes.
 pub(crate) fn write_due<W: io::Write>(
     lines: &mut String,
     is_at_hand: bool,
@@ -36,7 +37,7 @@ pub(crate) fn write_due<W: io::Write>(
 ) -> Result<(), CapturingFault>
     ensures ok { OnOk result (WritesSome (W.contents out.old) (W.contents out.new)
         (string_bytes lines.old) (string_bytes lines.new)) }
-    // No line is held back while no packet is at hand.
+    // If no packet is at hand, no line is held back.
     ensures due { OnOk result (is_at_hand ≡ false → string_bytes lines.new ≡ []) }
     ensures err { OnErr result (AppendsPart (W.contents out.old) (W.contents out.new)
         (string_bytes lines.old)) }
@@ -55,7 +56,7 @@ pub(crate) fn write_due<W: io::Write>(
     }
 }
 
-/// Writes the text and forgets it, unless it is short.
+/// Writes the text and clears it, unless it has fewer than `MANY` bytes.
 pub(crate) fn write_many<W: io::Write>(
     text: &mut Vec<u8>,
     out: &mut W,
@@ -79,7 +80,8 @@ pub(crate) fn write_many<W: io::Write>(
     }
 }
 
-/// Packs the lines and forgets them, unless they are few. If memory runs out, a part of them may be packed.
+/// Packs the lines and clears them, unless they have fewer than `MANY` bytes. If memory runs out,
+/// some of the lines may be packed.
 pub(crate) fn pack_many(lines: &mut String, packed: &mut PackedText) -> Result<(), Memory>
     ensures { OnOk result (Packs packed.old packed.new
         (string_bytes lines.old) (string_bytes lines.new)) }

@@ -1,4 +1,4 @@
-//! What the facts tell of one area.
+//! The facts about one area.
 ghost use Rattle.std.specs.Prelude.{◌≡◌};
 ghost use Rattle.std.specs.List.{list_any};
 ghost use Rattle.captured_config.specs.Finding.{default_cost_by, is_cost_unknown_by, is_stub_area_by, stub_by, tells_default as tells_default_of, tells_no_externals as tells_no_externals_test, tells_other, tells_own};
@@ -8,20 +8,20 @@ use ospf_types::config::Stub;
 
 const BACKBONE: u32 = 0;
 
-/// The default cost of a stub area of which the capture has none.
+/// The default cost of a stub area if the capture has none.
 const ASSUMED_COST: u32 = 1;
 
-/// What LSAs tell beside their links, and of which area it is to be known.
+/// The facts that LSAs give, their links aside, and the area that is asked about.
 #[derive(Clone, Copy)]
 pub(crate) struct AreaFacts<'a> {
-    /// The Area ID.
+    /// Area ID.
     pub(crate) area: u32,
-    /// That of the LSAs of all areas.
+    /// The facts of the LSAs of all areas.
     pub(crate) told: &'a [Told],
 }
 
 impl<'a> AreaFacts<'a> {
-    /// Whether the router has a router-LSA in the area.
+    /// Returns true if the router has a router-LSA in the area.
     pub(crate) fn has_router_lsa(&self) -> bool
         ensures { result ≡ list_any (tells_own self.now.area) self.now.told.now }
     {
@@ -31,7 +31,7 @@ impl<'a> AreaFacts<'a> {
             .any(|told| told.area == area && told.is_own)
     }
 
-    /// What the area is sent if it is a stub area.
+    /// Returns the stub area settings of the area, or `None` if it is not a stub area.
     pub(crate) fn stub(&self) -> Option<Stub>
         ensures { result ≡ stub_by self.now.area self.now.told.now }
     {
@@ -44,14 +44,15 @@ impl<'a> AreaFacts<'a> {
         })
     }
 
-    /// Whether it is a stub area whose default cost the capture does not have.
+    /// Returns true if it is a stub area whose default cost is not in the capture.
     pub(crate) fn is_cost_unknown(&self) -> bool
         ensures { result ≡ is_cost_unknown_by self.now.area self.now.told.now }
     {
         self.is_stub_area() && self.default_cost().is_none()
     }
 
-    // Whether a router of the area has the E-bit clear. The backbone is no stub area (RFC 2328, 3.6).
+    // Returns true if a router of the area clears the E-bit. The backbone cannot be a stub area
+    // (RFC 2328, 3.6).
     fn is_stub_area(&self) -> bool
         ensures { result ≡ is_stub_area_by self.now.area self.now.told.now }
     {
@@ -67,7 +68,7 @@ impl<'a> AreaFacts<'a> {
             .any(|told| told.area == area && told.lacks_externals)
     }
 
-    // The last metric at which the router advertised a default route into the area.
+    // Returns the last metric at which the router advertised a default route into the area.
     fn default_cost(&self) -> Option<u32>
         ensures { result ≡ default_cost_by self.now.area self.now.told.now }
     {
@@ -78,7 +79,7 @@ impl<'a> AreaFacts<'a> {
         cost
     }
 
-    // Whether the router sends summaries for networks into the area, beside a default route.
+    // Returns true if the router advertises another network than the default route into the area.
     fn has_other_summary(&self) -> bool
         ensures { result ≡ list_any (tells_other self.now.area) self.now.told.now }
     {

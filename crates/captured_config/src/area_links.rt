@@ -13,20 +13,20 @@ use ospf_types::lsa::Link;
 use ospf_types::memory::Memory;
 use std::alloc::Global;
 
-/// The links of an area that tell of the router's interfaces.
+/// The links of an area that show the router's interfaces.
 pub(crate) struct AreaLinks {
-    /// The Area ID.
+    /// Area ID.
     pub(crate) area: u32,
-    /// Those of the router.
+    /// The links of the router.
     pub(crate) own: Vec<Link>,
-    /// Those that lead to the router.
+    /// The links of neighbours that lead to the router.
     back: Vec<LinkBack>,
     /// The hosts that stub links of the router lead to.
     hosts: Hosts,
     ghost led_to: { AreHosts own.items hosts },
 }
 
-// proof: one call drops it, in place of a drop of each part wherever one is held.
+// proof: a value is dropped by one call, not part by part at each exit of a function.
 impl Drop for AreaLinks {
     fn drop(self) {
         let AreaLinks {
@@ -39,7 +39,7 @@ impl Drop for AreaLinks {
 }
 
 impl AreaLinks {
-    /// The links of this area.
+    /// Collects the links of this area.
     pub(crate) fn of(alloc: Global, lists: &FactLists, area: u32) -> Result<AreaLinks, Memory>
         ensures area { IfOk result (λ links. links.area ≡ area) }
         ensures own { IfOk result (λ links. links.own.items ≡ own_in_area area lists.now.own) }
@@ -56,7 +56,8 @@ impl AreaLinks {
         })
     }
 
-    /// The address of the neighbour at the other end of a point-to-point link, or 0 for none.
+    /// Returns the address of the neighbour at the other end of a point-to-point link, or 0 if it
+    /// is not found.
     pub(crate) fn peer_of(&self, alloc: Global, link: Link) -> Result<u32, Memory>
         ensures { IfOk result (λ peer. peer
             ≡ peer_by self.now.own.items self.now.back.items link) }
@@ -68,7 +69,8 @@ impl AreaLinks {
         Ok(self.first_back(link, &masks))
     }
 
-    // The address that the neighbour's first link back begins at, or 0 for none.
+    // Returns the address at which the neighbour's first link back begins, or 0 if there is no link
+    // back.
     fn first_back(&self, link: Link, masks: &[u32]) -> u32
         requires { masks.now ≡ masks_around_in link.detail self.now.own.items }
         ensures { result ≡ first_back self.now.own.items link.detail link.id self.now.back.items }
@@ -81,7 +83,8 @@ impl AreaLinks {
         0
     }
 
-    // Whether it is a link back of the neighbour, from an address that one of the router's stub links joins with this end.
+    // Returns true if `back` is a link of the neighbour from an address that a stub link of the
+    // router joins with this end.
     fn leads_back(&self, link: Link, masks: &[u32], back: LinkBack) -> bool
         requires { masks.now ≡ masks_around_in link.detail self.now.own.items }
         ensures { result ≡ leads_back_test self.now.own.items link.detail link.id back }
@@ -89,8 +92,8 @@ impl AreaLinks {
         back.router == link.id && self.is_joined(link.detail, masks, back.address)
     }
 
-    // Whether one of the router's stub links is for a point-to-point link with these ends: it leads to the host at the other
-    // end, or to a network that both lie in.
+    // Returns true if a stub link of the router is for a point-to-point link with these ends. It
+    // leads to the host at the other end, or to a network that contains both ends.
     fn is_joined(&self, address: u32, masks: &[u32], peer: u32) -> bool
         requires { masks.now ≡ masks_around_in address self.now.own.items }
         ensures { result ≡ list_any (joins address peer) self.now.own.items }
@@ -99,14 +102,15 @@ impl AreaLinks {
     }
 }
 
-// Whether both addresses lie in one network with one of these masks.
+// Returns true if both addresses are in one network with one of these masks.
 fn is_in_one(address: u32, peer: u32, masks: &[u32]) -> bool
     ensures { result ≡ list_any (agree_test address peer) masks.now }
 {
     masks.iter().any(|mask| peer & *mask == address & *mask)
 }
 
-// The masks of the networks that the address lies in, each once. They are 33 at most, since an LSA has no other masks.
+// Returns the masks of the networks that contain the address, without duplicates. There are at most
+// 33, since an LSA has no other masks.
 fn masks_around(alloc: Global, address: u32, own: &[Link]) -> Result<Vec<u32>, Memory>
     ensures { IfOk result (λ masks. masks.items ≡ masks_around_in address own.now) }
 {
@@ -127,14 +131,14 @@ fn put_mask_if(address: u32, link: Link, masks: &mut Vec<u32>) -> Result<(), Mem
     Ok(())
 }
 
-// Whether it is a stub link to a network that the address lies in.
+// Returns true if it is a stub link to a network that contains the address.
 fn leads_around(address: u32, link: Link) -> bool
     ensures { result ≡ leads_around_test address link }
 {
     is_stub(link.kind) && lies_in(address, link)
 }
 
-// The links of the router in the area.
+// Returns the links of the router in the area.
 fn own_in(alloc: Global, area: u32, own: &[OwnLink]) -> Result<Vec<Link>, Memory>
     ensures { IfOk result (λ links. links.items ≡ own_in_area area own.now) }
 {
@@ -147,7 +151,7 @@ fn own_in(alloc: Global, area: u32, own: &[OwnLink]) -> Result<Vec<Link>, Memory
     Ok(links)
 }
 
-// The links that lead to the router in the area.
+// Returns the links that lead to the router in the area.
 fn back_in(alloc: Global, area: u32, back: &[LinkBack]) -> Result<Vec<LinkBack>, Memory>
     ensures { IfOk result (λ links. links.items ≡ back_in_area area back.now) }
 {

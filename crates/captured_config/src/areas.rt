@@ -1,4 +1,4 @@
-//! Which areas the packets name.
+//! The areas of the packets of a capture.
 ghost use Rattle.std.specs.Prelude.{◌≡◌, [], length, IfOk, OnOk, OnErr};
 ghost use Rattle.captured_config.specs.Areas.{with_area, ascending as ascending_of};
 
@@ -8,13 +8,13 @@ use std::alloc::Global;
 use std::hash::RandomState;
 use std::marker::Model;
 
-/// The Area IDs of the packets.
+/// The Area IDs of the packets of a capture.
 #[derive(Drop)]
 pub struct SeenAreas {
     ids: IndexSet<u32, RandomState>,
 }
 
-/// Contracts see each once, in the order in which they were first seen.
+/// Contracts see them without duplicates, in the order in which they were first seen.
 impl Model for SeenAreas {
     ghost use Rattle.std.specs.Prelude.{List, ℕ};
 
@@ -24,7 +24,7 @@ impl Model for SeenAreas {
 }
 
 impl SeenAreas {
-    /// No area was seen.
+    /// Creates an empty set of areas.
     pub fn new(alloc: Global, hashing: RandomState) -> SeenAreas
         ensures { result ≡ [] }
     {
@@ -33,7 +33,7 @@ impl SeenAreas {
         }
     }
 
-    /// Notes the Area ID of a packet.
+    /// Notes the Area ID (in host order) of a packet.
     pub fn note(&mut self, area: u32) -> Result<(), Memory>
         ensures ok { OnOk result (self.new ≡ with_area self.old area) }
         ensures err { OnErr result (self.new ≡ self.old) }
@@ -42,21 +42,21 @@ impl SeenAreas {
         Ok(())
     }
 
-    /// How many areas were seen.
+    /// Returns the number of areas.
     pub fn count(&self) -> usize
         ensures { result ≡ length self.now }
     {
         self.ids.len()
     }
 
-    /// The Area IDs, each once, in the order in which they were first seen.
+    /// Returns the Area IDs without duplicates, in the order in which they were first seen.
     pub fn as_slice(&self) -> &[u32]
         ensures { result.now ≡ self.now }
     {
         self.ids.as_slice()
     }
 
-    /// The Area IDs, ascending.
+    /// Returns the Area IDs in ascending order.
     pub(crate) fn ascending(&self, alloc: Global) -> Result<Vec<u32>, Memory>
         ensures { IfOk result (λ ids. ids.items ≡ ascending_of self.now) }
     {

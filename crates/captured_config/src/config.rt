@@ -1,4 +1,4 @@
-//! What is known of a router.
+//! The configuration of a router, as far as a capture shows it.
 ghost use Rattle.std.specs.Prelude.{◌≡◌, [], None, IfOk, IfErr, OnOk, OnErr};
 ghost use Rattle.config_faults.specs.Configs.{config_fault_of};
 ghost use Rattle.captured_config.specs.Lsas.{Captured, with_lsa};
@@ -20,14 +20,14 @@ use ospf_types::memory::Memory;
 use std::alloc::Global;
 use std::marker::Model;
 
-/// What the LSAs of a capture tell of the configuration of one router.
+/// The configuration of one router, as the LSAs of a capture show it.
 pub struct CapturedConfig {
-    /// The Router ID.
+    /// Router ID.
     router: u32,
     lists: FactLists,
 }
 
-// proof: one call drops it, in place of a drop of each part wherever one is held.
+// proof: a value is dropped by one call, not part by part at each exit of a function.
 impl Drop for CapturedConfig {
     fn drop(self) {
         let CapturedConfig {
@@ -37,7 +37,7 @@ impl Drop for CapturedConfig {
     }
 }
 
-/// Contracts see the Router ID and the facts that are kept of the LSAs that count: `AreFacts`.
+/// Contracts see the Router ID, and the facts that are kept of the LSAs that count: `AreFacts`.
 impl Model for CapturedConfig {
     ghost use Rattle.captured_config.specs.Facts.{Facts};
 
@@ -47,7 +47,8 @@ impl Model for CapturedConfig {
 }
 
 impl CapturedConfig {
-    /// Nothing is known of the router.
+    /// Creates the configuration of a router (its Router ID in host order) of which nothing is
+    /// known.
     pub fn new(alloc: Global, router: u32) -> CapturedConfig
         ensures { result ≡ facts_of (record { router = router; lsas = [] }) }
     {
@@ -57,8 +58,8 @@ impl CapturedConfig {
         }
     }
 
-    /// Notes what an LSA that is installed in the area tells, if it counts: a router-LSA, or a summary-LSA of the router
-    /// for a network.
+    /// Notes the facts of an LSA that is installed in the area, if it counts. Router-LSAs count,
+    /// and the router's summary-LSAs for networks.
     pub fn note(&mut self, alloc: Global, area: u32, lsa: &Checked) -> Result<(), Memory>
         ensures ok { OnOk result ((c : Captured)
             → AreFacts c self.old → AreFacts (with_lsa c area lsa.now) self.new) }
@@ -70,13 +71,13 @@ impl CapturedConfig {
         self.lists.note(alloc, self.router, area, lsa)
     }
 
-    /// The configuration with these areas, if it has no fault.
+    /// Returns the configuration with these areas, if it has no fault.
     pub(crate) fn config(&self, alloc: Global, ids: &[u32]) -> Result<Config, PreambleFault>
         ensures config { IfOk result (λ config. config ≡ config_by self.now ids.now) }
         ensures sound { OnOk result (config_fault_of (config_by self.now ids.now) ≡ None) }
         ensures fault { IfErr result (IsFaultIn (config_by self.now ids.now)) }
     {
-        // (a capture may name so many areas that each is better not looked at)
+        // A capture may name very many areas: their number is checked before any of them.
         if has_wrong_count(ids) {
             return Err(PreambleFault::Config(ConfigFault::Areas));
         }
@@ -111,14 +112,14 @@ impl CapturedConfig {
         }
     }
 
-    /// The interfaces in these areas.
+    /// Returns the interfaces in these areas.
     pub(crate) fn interfaces(&self, alloc: Global, ids: &[u32]) -> Result<Found, Memory>
         ensures { IfOk result (λ found. found ≡ interfaces_by self.now.lists ids.now) }
     {
         find_interfaces(alloc, &self.lists, ids)
     }
 
-    /// The facts, as they tell of an area.
+    /// Returns the facts about an area.
     pub(crate) fn in_area(&self, area: u32) -> AreaFacts<'_>
         ensures area { result.area ≡ area }
         ensures told { result.told.now ≡ self.now.lists.told }
@@ -129,7 +130,7 @@ impl CapturedConfig {
         }
     }
 
-    /// The Router ID.
+    /// Returns the Router ID.
     pub(crate) fn router(&self) -> u32
         ensures { result ≡ self.now.router }
     {

@@ -1,4 +1,4 @@
-//! What is kept of LSAs: what they tell of the router, and no LSA.
+//! The facts that are kept of LSAs about the router. The LSAs themselves are not kept.
 ghost use Rattle.std.specs.Prelude.{◌≡◌, ◌++◌, [], OnOk, OnErr};
 ghost use Rattle.std.specs.List.{cons_option};
 ghost use Rattle.captured_config.specs.Facts.{no_facts, with_facts, with_lists};
@@ -11,7 +11,7 @@ use ospf_types::memory::Memory;
 use std::alloc::Global;
 use std::marker::Model;
 
-/// What the LSAs tell of the router, in the order in which they came.
+/// The facts that LSAs give about the router, in the order in which the LSAs were noted.
 #[derive(Drop)]
 pub(crate) struct FactLists {
     own: Vec<OwnLink>,
@@ -29,7 +29,7 @@ impl Model for FactLists {
 }
 
 impl FactLists {
-    /// No LSA came.
+    /// Creates empty lists.
     pub(crate) fn new(alloc: Global) -> FactLists
         ensures { result ≡ no_facts }
     {
@@ -40,28 +40,28 @@ impl FactLists {
         }
     }
 
-    /// The links of the router's router-LSAs, of all areas.
+    /// Returns the links of the router's router-LSAs, of all areas.
     pub(crate) fn own(&self) -> &[OwnLink]
         ensures { result.now ≡ self.now.own }
     {
         self.own.as_slice()
     }
 
-    /// The links that lead to the router, of all areas.
+    /// Returns the links that lead to the router, of all areas.
     pub(crate) fn back(&self) -> &[LinkBack]
         ensures { result.now ≡ self.now.back }
     {
         self.back.as_slice()
     }
 
-    /// What the LSAs tell beside their links.
+    /// Returns the other facts of the LSAs, of all areas.
     pub(crate) fn told(&self) -> &[Told]
         ensures { result.now ≡ self.now.told }
     {
         self.told.as_slice()
     }
 
-    /// Notes what an LSA of the area tells of the router.
+    /// Notes the facts that an LSA of the area gives about the router.
     pub(crate) fn note(
         &mut self,
         alloc: Global,
@@ -77,7 +77,7 @@ impl FactLists {
         self.add(own, back, told_from(router, area, lsa))
     }
 
-    // Adds to each list. Room is made first, so that all of it is added, or nothing.
+    // Appends to each list. Memory is reserved first, so that all of it is appended, or nothing.
     fn add(
         &mut self,
         mut own: Vec<OwnLink>,

@@ -6,16 +6,16 @@ use ospf_types::memory::Memory;
 use std::fmt;
 use thiserror::Error;
 
-/// Why there is no beginning of a recording.
+/// The reason why the preamble of a recording was not written.
 #[derive(Clone, Copy, Debug, PartialEq, Eq, Error)]
 pub enum PreambleFault {
-    /// The areas are none, or too many.
+    /// There are no areas, or too many.
     Config(ConfigFault),
     /// Memory ran out.
     Memory,
 }
 
-/// The number and the name, as `40 Areas`.
+/// Prints the number and the name, as `40 Areas`.
 impl fmt::Display for PreambleFault {
     ghost output = { λ fault. Some (front_fault_text fault) };
 

@@ -11,7 +11,7 @@ use ospf_types::lsa::Link;
 use ospf_types::memory::Memory;
 use std::alloc::Global;
 
-/// The interfaces of the router in these areas.
+/// Finds the interfaces of the router in these areas.
 pub(crate) fn find_interfaces(
     alloc: Global,
     lists: &FactLists,
@@ -28,7 +28,8 @@ pub(crate) fn find_interfaces(
 }
 
 impl AreaLinks {
-    // Adds the interfaces of the area: those with an address of the router, and behind them those of stub links.
+    // Adds the interfaces of the area: first those with an address of the router, then those of
+    // stub links.
     fn add_interfaces(&self, alloc: Global, found: &mut Found) -> Result<(), Memory>
         ensures { OnOk result (found.new ≡ with_own self.now.area
             (peer_by self.now.own.items self.now.back.items) self.now.own.items found.old) }
@@ -47,7 +48,7 @@ impl AreaLinks {
         Ok(())
     }
 
-    // Adds an interface for the link, if it has an address that none of the area has yet.
+    // Adds an interface for the link, if it has an address that no interface of the area has yet.
     fn add_link(&self, alloc: Global, link: Link, found: &mut Found) -> Result<(), Memory>
         ensures { OnOk result (found.new ≡ with_link self.now.area
             (peer_by self.now.own.items self.now.back.items) found.old link) }

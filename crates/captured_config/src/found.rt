@@ -1,4 +1,4 @@
-//! The interfaces that are found, one after the other.
+//! The interfaces that were found, in order.
 ghost use Rattle.std.specs.Prelude.{◌≡◌, OnOk};
 ghost use Rattle.captured_config.specs.Interfaces.{none_found, with_interface, is_full as is_full_test, has_address as has_address_test, is_new as is_new_test, is_alone as is_alone_test, is_on as is_on_test, reaches as reaches_test, with_stub_link, with_stub_links};
 
@@ -9,15 +9,15 @@ use ospf_types::lsa::Link;
 use ospf_types::memory::Memory;
 use std::alloc::Global;
 
-/// The most interfaces that a recording may have.
+/// The greatest number of interfaces of a recording.
 const MOST: usize = 255;
 
 /// The interfaces of a router.
 #[derive(Drop)]
 pub(crate) struct Found {
-    /// Each with its number, from 1 on.
+    /// The interfaces with their numbers, from 1 on.
     pub(crate) interfaces: Listed<(u8, Interface)>,
-    /// There are more than 255.
+    /// True if there are more than 255, and the others were left out.
     pub(crate) left_out: bool,
 }
 
@@ -31,14 +31,14 @@ impl Found {
         }
     }
 
-    /// Whether one more would be left out.
+    /// Returns true if one more would be left out.
     pub(crate) fn is_full(&self) -> bool
         ensures { result ≡ is_full_test self.now }
     {
         self.interfaces.len() >= MOST
     }
 
-    /// Adds an interface with the next number.
+    /// Adds an interface with the next number. If all numbers are in use, it is left out.
     pub(crate) fn add(&mut self, interface: Interface) -> Result<(), Memory>
         ensures { OnOk result (self.new ≡ with_interface self.old interface) }
     {
@@ -50,7 +50,7 @@ impl Found {
         self.interfaces.push((count as u8 + 1, interface))
     }
 
-    /// Whether the link has an address that no interface of the area has yet.
+    /// Returns true if the link has an address that no interface of the area has yet.
     pub(crate) fn is_new(&self, area: u32, link: Link) -> bool
         ensures { result ≡ is_new_test area self.now link }
     {
@@ -64,7 +64,7 @@ impl Found {
             && interface.address == address)
     }
 
-    /// Adds an interface for each stub link to whose network none leads yet.
+    /// Adds an interface for each stub link to a network that no interface leads to yet.
     pub(crate) fn add_stub_links(&mut self, area: u32, own: &[Link]) -> Result<(), Memory>
         ensures { OnOk result (self.new ≡ with_stub_links area own.now self.old) }
     {
@@ -74,7 +74,8 @@ impl Found {
         Ok(())
     }
 
-    // An interface without neighbours: its network is known, and not its address.
+    // Adds an interface without neighbours. Its network is known, but its address is not: it gets
+    // the Link ID.
     fn add_stub_link(&mut self, area: u32, link: Link) -> Result<(), Memory>
         ensures { OnOk result (self.new ≡ with_stub_link area self.old link) }
     {
@@ -89,14 +90,14 @@ impl Found {
         })
     }
 
-    // Whether it is a stub link to whose network no interface leads yet.
+    // Returns true if it is a stub link to a network that no interface leads to yet.
     fn is_alone(&self, area: u32, link: Link) -> bool
         ensures { result ≡ is_alone_test area self.now link }
     {
         is_stub(link.kind) && !self.reaches(area, link)
     }
 
-    // Whether an interface leads to the network of the stub link.
+    // Returns true if an interface leads to the network of the stub link.
     fn reaches(&self, area: u32, link: Link) -> bool
         ensures { result ≡ reaches_test area link self.now }
     {
@@ -107,7 +108,7 @@ impl Found {
     }
 }
 
-// Whether the interface's address or its neighbour's lies in the network of the stub link.
+// Returns true if the interface's address or its neighbour's is in the network of the stub link.
 fn is_on(area: u32, link: Link, interface: Interface) -> bool
     ensures { result ≡ is_on_test area link interface }
 {

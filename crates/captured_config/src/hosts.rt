@@ -11,14 +11,14 @@ use std::collections::BTreeSet;
 /// The mask of a stub link to a host.
 const HOST_MASK: u32 = 0xffff_ffff;
 
-/// Addresses of hosts.
+/// A set of addresses of hosts.
 #[derive(Drop)]
 pub(crate) struct Hosts {
     addresses: BTreeSet<u32>,
 }
 
 impl Hosts {
-    /// The hosts that these links lead to.
+    /// Collects the hosts that these links lead to.
     pub(crate) fn of(alloc: Global, own: &[Link]) -> Result<Hosts, Memory>
         ensures { IfOk result (AreHosts own.now) }
     {
@@ -43,7 +43,7 @@ impl Hosts {
         Ok(())
     }
 
-    /// Whether a stub link leads to the host with the address.
+    /// Returns true if a stub link leads to the host with the address.
     pub(crate) fn has(&self, address: u32) -> bool
         ensures { result ≡ has_host self.now address }
     {

@@ -1,5 +1,8 @@
-//! What a captured network tells of the configuration of one of its routers: its areas, which of them are stub areas, and
-//! its interfaces. There is no input or output here: a caller reads the capture, and prints what is appended to a text.
+//! The configuration of one router of a captured network, as its LSAs show it: its areas, which of
+//! them are stub areas, and its interfaces.
+//!
+//! This crate does no input or output: a caller reads the capture, and prints the lines that are
+//! appended to a text.
 #![tactic(auto)]
 
 mod area_facts;

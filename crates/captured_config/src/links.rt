@@ -10,7 +10,7 @@ pub(crate) fn is_point_to_point(kind: LinkKind) -> bool
     matches!(kind, LinkKind::PointToPoint)
 }
 
-/// Whether its Link Data is the address of an interface that has neighbours.
+/// Returns true if the Link Data of such a link is the address of an interface that has neighbours.
 pub(crate) fn is_attached(kind: LinkKind) -> bool
     ensures { result ≡ is_attached_test kind }
 {
@@ -23,7 +23,8 @@ pub(crate) fn is_stub(kind: LinkKind) -> bool
     matches!(kind, LinkKind::Stub)
 }
 
-/// Whether the address lies in the network of the stub link: its Link ID, and its Link Data as the mask.
+/// Returns true if the address is in the network of the stub link: its Link ID, with its Link Data
+/// as the mask.
 pub(crate) fn lies_in(address: u32, stub: Link) -> bool
     ensures { result ≡ lies_in_test address stub }
 {

@@ -1,4 +1,4 @@
-//! The beginning of a recording.
+//! The preamble of a recording.
 ghost use Rattle.std.specs.Prelude.{◌≡◌, All, IfErr, None, OnOk};
 ghost use Rattle.config_faults.specs.Configs.{config_fault_of};
 ghost use Rattle.recording.specs.Forms.{IsForm};
@@ -20,9 +20,14 @@ use recording::{Version, append_event, append_preamble};
 use std::alloc::Global;
 
 impl CapturedConfig {
-    /// Appends the beginning of a recording: the version, the Router ID, a line for each area, and an `interface` line for
-    /// each interface, all of them up. Address ranges are not in a capture, and there are none. If memory runs out, the text
-    /// may have a part of the lines.
+    /// Appends the preamble of a recording, and an `interface` line for each interface, all of them
+    /// up. The preamble is the version, the Router ID, and a line for each area. Address ranges are
+    /// not in a capture, so there are none.
+    ///
+    /// # Errors
+    ///
+    /// Returns `Config` if there are no areas or too many; the text is then unchanged. Returns
+    /// `Memory` if memory runs out; the text may then have some of the lines.
     pub fn put_preamble(
         &self,
         alloc: Global,
@@ -31,7 +36,7 @@ impl CapturedConfig {
     ) -> Result<(), PreambleFault>
         ensures text { (c : Captured) → AreFacts c self.now → OnOk result
             (GainsLines text.old text.new (forms_of (captured_recording c areas.now))) }
-        // What is appended is the text of this recording, so that it is read as it.
+        // The appended lines are the text of this recording, so they are read back as it.
         ensures recording { (c : Captured) → AreFacts c self.now → OnOk result
             (HasText (captured_recording c areas.now)) }
         ensures fault { (c : Captured) → AreFacts c self.now → IfErr result
@@ -56,7 +61,7 @@ impl CapturedConfig {
     }
 }
 
-// Appends a configuration, and behind it its interfaces.
+// Appends the preamble with a configuration, and then its interfaces.
 fn put_lines(
     alloc: Global,
     config: Config,
@@ -87,7 +92,7 @@ fn put_interfaces(
     Ok(())
 }
 
-// The line of an interface that comes.
+// Appends the line that sets an interface.
 fn put_interface(alloc: Global, listed: (u8, Interface), text: &mut String) -> Result<(), Memory>
     ensures text { OnOk result
         (GainsLine text.old text.new (form_of (interface_event listed))) }

@@ -1,4 +1,4 @@
-//! What one LSA tells of the router.
+//! The facts that one LSA gives about the router.
 ghost use Rattle.std.specs.Prelude.{◌≡◌, ◌++◌, ◌∷◌, [], IfOk, OnOk};
 ghost use Rattle.std.specs.List.{filter_map};
 ghost use Rattle.captured_config.specs.Facts.{back_from, link_back_at, own_from, own_link, tells as tells_anything, told_from as told_from_lsa, told_of as told_of_lsa};
@@ -16,7 +16,7 @@ use std::alloc::Global;
 /// The E-bit of Options: AS-external-LSAs are flooded into the area (RFC 2328, A.2).
 const EXTERNALS: u8 = 0x02;
 
-/// Whether the LSA counts: a router-LSA, or a summary-LSA of the router for a network.
+/// Returns true if the LSA counts: a router-LSA, or a summary-LSA of the router for a network.
 pub(crate) fn is_counted(router: u32, lsa: &Checked) -> bool
     ensures { result ≡ is_counted_test router lsa.now }
 {
@@ -24,7 +24,7 @@ pub(crate) fn is_counted(router: u32, lsa: &Checked) -> bool
     key.kind == ROUTER_LSA || key.kind == SUMMARY_LSA && key.router == router
 }
 
-/// The links of a router-LSA of the router.
+/// Returns the links of a router-LSA of the router.
 pub(crate) fn own_links_of(
     alloc: Global,
     router: u32,
@@ -43,7 +43,7 @@ pub(crate) fn own_links_of(
     Ok(own)
 }
 
-/// The links of a router-LSA that lead to the router.
+/// Returns the links of a router-LSA that lead to the router.
 pub(crate) fn links_back_of(
     alloc: Global,
     router: u32,
@@ -84,7 +84,7 @@ fn put_if_back(
     Ok(())
 }
 
-/// What the LSA tells beside its links, if that is anything.
+/// Returns the facts that the LSA gives, its links aside, or `None` if it gives none.
 pub(crate) fn told_from(router: u32, area: u32, lsa: &Checked) -> Option<Told>
     ensures { result ≡ told_from_lsa router (lsa_in area lsa.now) }
 {
@@ -120,7 +120,7 @@ fn is_own_router_lsa(router: u32, lsa: &Checked) -> bool
     key.kind == ROUTER_LSA && key.router == router
 }
 
-// Whether it is a router-LSA with the E-bit clear, as in a stub area (RFC 2328, 12.1.2).
+// Returns true if it is a router-LSA with the E-bit clear, as in a stub area (RFC 2328, 12.1.2).
 fn lacks_externals(lsa: &Checked) -> bool
     ensures { result ≡ lacks_externals_test lsa.now }
 {
@@ -128,7 +128,7 @@ fn lacks_externals(lsa: &Checked) -> bool
     header.kind == ROUTER_LSA && header.options & EXTERNALS == 0
 }
 
-// The metric at which the router advertises a default route (RFC 2328, 12.4.3).
+// Returns the metric at which the router advertises a default route (RFC 2328, 12.4.3).
 fn default_route(router: u32, lsa: &Checked) -> Option<u32>
     ensures { result ≡ default_route_of router lsa.now }
 {
@@ -138,7 +138,7 @@ fn default_route(router: u32, lsa: &Checked) -> Option<u32>
     advertised_metric(router, lsa)
 }
 
-// The metric at which the router advertises another network.
+// Returns the metric at which the router advertises another network.
 fn other_network(router: u32, lsa: &Checked) -> Option<u32>
     ensures { result ≡ other_network_of router lsa.now }
 {
@@ -148,7 +148,7 @@ fn other_network(router: u32, lsa: &Checked) -> Option<u32>
     advertised_metric(router, lsa)
 }
 
-// The metric at which the router advertises a network.
+// Returns the metric at which the router advertises a network.
 fn advertised_metric(router: u32, lsa: &Checked) -> Option<u32>
     ensures { result ≡ advertised_metric_of router lsa.now }
 {
@@ -165,7 +165,7 @@ fn is_own_summary(router: u32, lsa: &Checked) -> bool
     key.kind == SUMMARY_LSA && key.router == router
 }
 
-// Whether it is the default route, 0.0.0.0/0.
+// Returns true if it is the default route, 0.0.0.0/0.
 fn is_default(network: Option<Prefix>) -> bool
     ensures { result ≡ is_default_test network }
 {
@@ -175,7 +175,7 @@ fn is_default(network: Option<Prefix>) -> bool
     }
 }
 
-// The metric, if it is below LSInfinity.
+// Returns the metric if it is below LSInfinity.
 fn reachable(metric: Option<u32>) -> Option<u32>
     ensures { result ≡ reachable_of metric }
 {

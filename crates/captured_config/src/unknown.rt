@@ -1,4 +1,4 @@
-//! What a capture does not tell of a configuration.
+//! The parts of a configuration that a capture does not show.
 ghost use Rattle.std.specs.Prelude.{◌≡◌, ◌++◌, OnOk, string_bytes};
 ghost use Rattle.std.specs.List.{flat_map};
 ghost use Rattle.captured_config.specs.Facts.{AreFacts};
@@ -12,9 +12,13 @@ use ospf_types::address::Address;
 use ospf_types::memory::Memory;
 
 impl CapturedConfig {
-    /// Appends the lines for standard error on what the capture does not tell: areas in which the router has no router-LSA,
-    /// stub areas without a default cost, address ranges, and interfaces that a recording has no number for. If memory
-    /// runs out, the text may have a part of the lines.
+    /// Appends the lines for standard error about what the capture does not show. These are areas
+    /// in which the router has no router-LSA, stub areas without a default cost, address ranges,
+    /// and interfaces without a number in a recording.
+    ///
+    /// # Errors
+    ///
+    /// Returns `Memory` if memory runs out. The text may then have some of the lines.
     pub fn put_unknown(&self, areas: &SeenAreas, text: &mut String) -> Result<(), Memory>
         ensures { (c : Captured) → AreFacts c self.now → OnOk result
             (string_bytes text.new ≡ string_bytes text.old ++ unknown_text c areas.now) }
@@ -52,7 +56,8 @@ impl CapturedConfig {
     }
 }
 
-// The lines of the router as a whole. Only one with several areas has address ranges (RFC 2328, 3.5).
+// Appends the lines about the router as a whole. Only a router with several areas has address
+// ranges (RFC 2328, 3.5).
 fn put_router(ids: &[u32], found: &Found, text: &mut String) -> Result<(), Memory>
     ensures { OnOk result (string_bytes text.new ≡ string_bytes text.old
         ++ router_lines ids.now found.now) }
@@ -66,7 +71,7 @@ const NO_RANGES: &str =
 
 const LEFT_OUT: &str = "abr: more than 255 interfaces: the others are left out\n";
 
-// The line, if it is told.
+// Appends the line if `told` is true.
 fn put_if(told: bool, line: &str, text: &mut String) -> Result<(), Memory>
     ensures { OnOk result (string_bytes text.new ≡ string_bytes text.old
         ++ line_if told line.now) }

@@ -3,18 +3,18 @@ ghost use Rattle.captured_lsas.specs.Payloads.{bytes_of};
 
 use datagrams::DatagramFault;
 
-/// What a captured packet brings.
+/// The content of a captured packet.
 #[derive(Debug, Drop)]
 pub enum Heard<'a> {
-    /// No IPv4 packet of OSPF's protocol, 89, or one of a link type that is not known.
+    /// No IPv4 packet of OSPF's protocol, 89, or a packet of an unknown link type.
     Other,
-    /// No IPv4 datagram: its header or a length is wrong.
+    /// An IPv4 datagram that is not valid: its header or a length is wrong.
     Fault(DatagramFault),
-    /// A fragment, with which its datagram is not whole.
+    /// A fragment that does not complete its datagram.
     Part,
     /// The payload of a whole datagram.
     Whole {
-        /// The address of the sender.
+        /// The source address of the datagram, in host order.
         sender: u32,
         payload: Payload<'a>,
     },
@@ -23,14 +23,14 @@ pub enum Heard<'a> {
 /// The payload of a datagram.
 #[derive(Debug, Drop)]
 pub enum Payload<'a> {
-    /// Of one that was captured whole.
+    /// The payload of a datagram that was captured whole.
     Lent(&'a [u8]),
-    /// Of one that was put together.
+    /// The payload of a datagram that was put together from fragments.
     Joined(Vec<u8>),
 }
 
 impl<'a> Payload<'a> {
-    /// Its bytes.
+    /// Returns the bytes of the payload.
     pub fn bytes(&self) -> &[u8]
         ensures { result.now ≡ bytes_of self.now }
     {

@@ -1,5 +1,6 @@
-//! The OSPF packets that a capture has, and what their LSAs come to as events of a recording. There is no
-//! input or output here: a caller reads the capture, and prints the recording.
+//! The OSPF packets of a capture, and the events of a recording that their LSAs become.
+//!
+//! This crate does no input or output: a caller reads the capture, and prints the recording.
 #![tactic(auto)]
 
 mod heard;

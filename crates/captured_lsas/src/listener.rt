@@ -1,4 +1,4 @@
-//! The payloads of OSPF's datagrams, whole.
+//! The payloads of OSPF's datagrams.
 
 ghost use Rattle.std.specs.Prelude.{◌≡◌, [], IfOk, OnErr};
 ghost use Rattle.datagrams.specs.Frames.{Finds};
@@ -14,14 +14,14 @@ use std::marker::Model;
 /// OSPF's number among the protocols of IPv4 (RFC 2328, A.1).
 const OSPF: u8 = 89;
 
-/// Takes the packets of a capture, in their order. It keeps the fragments whose datagrams are not whole
-/// yet, no more of them than `Fragments` does.
+/// A collector of OSPF's datagrams, which is given the packets of a capture in order. It keeps the
+/// fragments of datagrams that are not whole yet, within the limits of `Fragments`.
 #[derive(Drop)]
 pub struct Listener {
     fragments: Fragments,
 }
 
-/// Contracts see what is kept of the datagrams that are not whole.
+/// Contracts see the fragments kept of the datagrams that are not whole.
 impl Model for Listener {
     ghost use Rattle.std.specs.Prelude.{List};
     ghost use Rattle.datagrams.specs.Kept.{Kept};
@@ -32,7 +32,7 @@ impl Model for Listener {
 }
 
 impl Listener {
-    /// No packet was heard.
+    /// Creates a listener that keeps no fragments.
     pub fn new(alloc: Global) -> Listener
         ensures { result ≡ [] }
     {
@@ -41,10 +41,14 @@ impl Listener {
         }
     }
 
-    /// Takes a captured packet, and answers what it brings.
+    /// Takes a captured packet, and returns its content.
+    ///
+    /// # Errors
+    ///
+    /// Returns `Memory` if memory runs out. The listener is then unchanged.
     pub fn hear<'a>(&mut self, alloc: Global, packet: &Packet<'a>) -> Result<Heard<'a>, Memory>
         ensures heard { IfOk result (IsHeard packet.now.link packet.now.bytes.now self.old self.new) }
-        // Where memory runs out, nothing changes.
+        // If memory runs out, nothing changes.
         ensures unchanged { OnErr result (self.new ≡ self.old) }
     {
         let Some(bytes) = ospf_in(packet) else {
@@ -76,7 +80,7 @@ impl Listener {
     }
 }
 
-// The IPv4 packet of OSPF that a captured packet carries.
+// Returns the IPv4 packet of OSPF that a captured packet carries.
 fn ospf_in<'a>(packet: &Packet<'a>) -> Option<&'a [u8]>
     ensures { Finds result (CarriesOspf packet.now.link packet.now.bytes.now) }
 {
@@ -87,7 +91,7 @@ fn ospf_in<'a>(packet: &Packet<'a>) -> Option<&'a [u8]>
     Some(bytes)
 }
 
-// Whether the protocol is there, and is another than OSPF.
+// Returns true if the bytes have a protocol that is not OSPF.
 fn is_of_other_protocol(bytes: &[u8]) -> bool
     ensures { result ≡ is_of_other_protocol_test bytes.now }
 {

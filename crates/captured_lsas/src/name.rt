@@ -1,6 +1,6 @@
 use ospf_types::key::{Key, Scope};
 
-/// Which LSA of which database.
+/// The identity of an LSA: its database and its key.
 #[derive(Clone, Copy, PartialEq, Eq, Hash)]
 pub(crate) struct LsaName {
     pub(crate) scope: Scope,

@@ -13,13 +13,13 @@ use std::alloc::Global;
 use std::hash::RandomState;
 use std::marker::Model;
 
-/// The header of the newest instance of each LSA, in some sixty bytes an LSA.
+/// The header of the newest instance of each LSA, in about sixty bytes for an LSA.
 #[derive(Drop)]
 pub(crate) struct NewestLsas {
     headers: IndexMap<LsaName, Header, RandomState>,
 }
 
-/// Contracts see the instances, in the order in which their LSAs first came.
+/// Contracts see the instances, in the order of the first instance of each LSA.
 impl Model for NewestLsas {
     ghost use Rattle.captured_lsas.specs.Newest.{Newest};
 
@@ -29,7 +29,7 @@ impl Model for NewestLsas {
 }
 
 impl NewestLsas {
-    /// No LSA was recorded.
+    /// Creates an empty list of instances.
     pub(crate) fn new(alloc: Global, hashing: RandomState) -> NewestLsas
         ensures { result ≡ [] }
     {
@@ -38,7 +38,7 @@ impl NewestLsas {
         }
     }
 
-    /// Notes an instance, unless a router would discard it. Returns whether it would.
+    /// Notes an instance, unless a router would discard it. Returns true if it would.
     pub(crate) fn note(&mut self, name: LsaName, header: Header) -> Result<bool, Memory>
         ensures answer { IfOk result (λ b.
             b ≡ is_old (record { name = name; header = header }) self.old) }
@@ -53,7 +53,7 @@ impl NewestLsas {
         Ok(false)
     }
 
-    // The newest instance of the LSA.
+    // Returns the newest instance of the LSA.
     fn last(&self, name: &LsaName) -> Option<Header>
         ensures { result ≡ newest_of name.now self.now }
     {
@@ -61,7 +61,7 @@ impl NewestLsas {
     }
 }
 
-// Whether a router discards an instance that comes behind this one (RFC 2328, 13).
+// Returns true if a router that has the `last` instance discards the `new` one (RFC 2328, 13).
 fn is_discarded(new: &Header, last: Option<Header>) -> bool
     ensures { result ≡ is_discarded_test new.now last }
 {
@@ -71,19 +71,19 @@ fn is_discarded(new: &Header, last: Option<Header>) -> bool
     }
 }
 
-// Whether a router installs an instance that comes behind this one.
+// Returns true if a router that has the `last` instance installs the `new` one (RFC 2328, 13).
 fn is_installed(new: &Header, last: &Header) -> bool
     ensures { result ≡ is_installed_test new.now last.now }
 {
-    // 13 (5): where the last one was flushed, there is no database copy.
+    // 13 (5): if the last instance was flushed, there is no database copy.
     if is_max_age(last) && !is_max_age(new) {
         return true;
     }
-    // 13 (5), (7), (8)
+    // 13 (5), (7), (8): a newer instance is installed, and any other is discarded.
     matches!(newer(new, last), Newer::First)
 }
 
-/// Whether the instance is at MaxAge.
+/// Returns true if the instance is at MaxAge.
 pub(crate) fn is_max_age(header: &Header) -> bool
     ensures { result ≡ is_max_age_test header.now }
 {

@@ -1,8 +1,8 @@
-/// What a recording leaves out.
+/// Options of a recording.
 #[derive(Clone, Copy, Debug, PartialEq, Eq)]
 pub struct Options {
-    /// Each LSA is given, also one that a router would discard.
+    /// True if LSAs that a router would discard are recorded too.
     pub keeps_all: bool,
-    /// No seconds are given.
+    /// True if no seconds are recorded.
     pub without_seconds: bool,
 }

@@ -6,7 +6,7 @@ use lsa_codec::{Checked, WireFault, read};
 use ospf_types::memory::Memory;
 use std::alloc::Global;
 
-/// Bytes as an LSA, or why they are none.
+/// The LSA in some bytes, or the reason why they are not a valid LSA.
 pub(crate) type Reading = Result<Checked, WireFault>;
 
 /// Reads an LSA.

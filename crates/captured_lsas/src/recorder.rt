@@ -1,4 +1,4 @@
-//! Which events come of the packets, one after the other.
+//! The events that the packets of a capture become, packet by packet.
 
 ghost use Rattle.std.specs.Prelude.{◌≡◌, ◌≤◌, length, IfOk, OnOk, OnErr, option_map};
 ghost use Rattle.captured_lsas.specs.Seconds.{passed as passed_test, is_without_seconds as is_without_seconds_test, seconds_back, seconds_due, waiting_at, with_time};
@@ -29,23 +29,23 @@ use std::marker::Model;
 /// A second in nanoseconds.
 const SECOND: u64 = 1_000_000_000;
 
-/// What was recorded of the packets so far.
+/// The state of a recording: what was recorded of the packets so far.
 pub struct Recorder {
     options: Options,
-    /// The areas of the recording, if only their LSAs are given.
+    /// The areas of the recording, if LSAs of other areas are left out.
     areas: Option<Vec<u32>>,
     /// The time of the last packet that has one, in nanoseconds since the beginning of 1970, UTC.
     last_time: Option<u64>,
-    /// How many nanoseconds passed that were not given as seconds.
+    /// The number of nanoseconds that passed and were not recorded as seconds.
     waiting: u64,
-    /// An LSA was given.
+    /// True if an LSA was recorded.
     has_begun: bool,
     newest: NewestLsas,
-    /// The other areas of which there were LSAs.
+    /// The other areas of which LSAs were left out.
     strange: IndexSet<u32, RandomState>,
 }
 
-// proof: one call drops it, in place of a drop of each part wherever one is held.
+// proof: a value is dropped by one call, not part by part at each exit of a function.
 impl Drop for Recorder {
     fn drop(self) {
         let Recorder {
@@ -60,7 +60,7 @@ impl Drop for Recorder {
     }
 }
 
-/// Contracts see these as they are.
+/// Contracts see these fields.
 impl Model for Recorder {
     ghost use Rattle.std.specs.Prelude.{option_map};
     ghost use Rattle.captured_lsas.specs.Progress.{Progress};
@@ -71,7 +71,8 @@ impl Model for Recorder {
 }
 
 impl Recorder {
-    /// Nothing was recorded. Where these are the areas of the recording, LSAs of other areas are left out.
+    /// Creates a recorder that has recorded nothing. If `areas` is given, it lists the areas of the
+    /// recording, and LSAs of other areas are left out.
     pub fn new(
         alloc: Global,
         hashing: RandomState,
@@ -79,8 +80,8 @@ impl Recorder {
         areas: Option<Vec<u32>>,
     ) -> Recorder
         ensures start { result ≡ start options (option_map (λ v. v.items) areas) }
-        // From here, whichever packets are taken, the newest instance of each LSA is known, by its own instances in
-        // them alone.
+        // Unless all LSAs are kept, the newest instance of each LSA depends only on its own
+        // instances in the packets, whatever the packets are.
         ensures history { HasHistory options (option_map (λ v. v.items) areas) result }
     {
         Recorder {
@@ -94,18 +95,25 @@ impl Recorder {
         }
     }
 
-    /// Takes the payload of a datagram, which was captured at the time, in nanoseconds since the beginning
-    /// of 1970, UTC. Answers what is recorded of it.
+    /// Takes the payload of a datagram, and returns what is recorded of it. `time` is the time of
+    /// its capture, in nanoseconds since the beginning of 1970, UTC.
     ///
-    /// Once an LSA was given, seconds come before the LSAs of a packet: the whole ones that passed from packet to
-    /// packet and were not given. Where the time of a packet is before that of the last one, nothing passes, and
-    /// seconds go on from it.
+    /// Once an LSA was recorded, seconds are recorded before the LSAs of a packet. They are the
+    /// whole seconds that passed from packet to packet and were not yet recorded. If the time of a
+    /// packet is before the time of the last one, no time passes, and time is counted on from the
+    /// earlier time.
     ///
-    /// Each LSA is installed, and purged too if it is at MaxAge, unless it is at fault, or repeated. It is repeated if
-    /// a router that has what was given would discard it: it is no newer (RFC 2328, 13.1) than the newest instance
-    /// of it that was given (13 (7) and (8)). Where that one was at MaxAge, it was purged, and one below MaxAge is
-    /// given whatever its sequence number: its router originates it anew (12.1.6). An LSA of an area that the
-    /// recording does not have is left out too.
+    /// An LSA is installed, and then purged if it is at MaxAge. It is left out if it is not valid,
+    /// if the recording does not have its area, or if it is repeated. It is *repeated* if a router
+    /// that has the recorded LSAs would discard it. That is so if it is not newer (RFC 2328, 13.1)
+    /// than the newest recorded instance of it (13 (7) and (8)). An instance at MaxAge was purged.
+    /// One below MaxAge is then recorded whatever its sequence number, as its router originates the
+    /// LSA again (12.1.6).
+    ///
+    /// # Errors
+    ///
+    /// Returns `Memory` if memory runs out. The time and some LSAs of the packet may then have been
+    /// taken.
     pub fn take(
         &mut self,
         alloc: Global,
@@ -114,7 +122,7 @@ impl Recorder {
     ) -> Result<Taken, Memory>
         ensures taken { IfOk result (IsTaken self.old time payload.now) }
         ensures noted { OnOk result (self.new ≡ with_packet self.old time payload.now) }
-        // Where memory runs out, some of its LSAs were taken.
+        // If memory runs out, the time and some of the LSAs were taken.
         ensures stopped { OnErr result (StopsWithin self.old self.new time payload.now) }
     {
         match read_packet(payload) {
@@ -195,7 +203,7 @@ impl Recorder {
         Ok(all)
     }
 
-    // Takes an LSA of an update, or the fault where one is to stand.
+    // Takes an LSA of an update, or the fault that is found in its place.
     fn take_piece(
         &mut self,
         alloc: Global,
@@ -212,7 +220,8 @@ impl Recorder {
         }
     }
 
-    // By how many whole seconds the time goes back, if seconds are given.
+    // Returns by how many whole seconds the time is before the last one, or 0 if no seconds are
+    // recorded.
     fn seconds_back(&self, time: Option<u64>) -> u64
         ensures { result ≡ seconds_back self.now time }
     {
@@ -222,7 +231,7 @@ impl Recorder {
         passed(time, self.last_time) / SECOND
     }
 
-    // Takes the time of a packet. Returns how many seconds are given before it.
+    // Takes the time of a packet. Returns the number of seconds to record before it.
     fn take_time(&mut self, time: Option<u64>) -> u64
         ensures seconds { result ≡ seconds_due self.old time }
         ensures noted { self.new ≡ with_time self.old time }
@@ -237,21 +246,21 @@ impl Recorder {
         waiting / SECOND
     }
 
-    // How many nanoseconds wait to be given as seconds, at a packet with the time.
+    // Returns the nanoseconds that passed and were not recorded, at a packet with this time.
     fn waiting_at(&self, time: Option<u64>) -> u64
         ensures { result ≡ waiting_at self.now time }
     {
         self.waiting.saturating_add(passed(self.last_time, time))
     }
 
-    // Returns true if no seconds are given yet, or at all.
+    // Returns true if seconds are not recorded, or not yet.
     fn is_without_seconds(&self) -> bool
         ensures { result ≡ is_without_seconds_test self.now }
     {
         self.options.without_seconds || !self.has_begun
     }
 
-    // Takes the bytes of an LSA that stands in a Link State Update of the area.
+    // Takes the bytes of an LSA in a Link State Update of the area.
     fn take_lsa(&mut self, alloc: Global, area: u32, bytes: &[u8]) -> Result<Recorded, Memory>
         ensures recorded { IfOk result (IsRecorded self.old area bytes.now) }
         ensures noted { OnOk result (self.new ≡ with_lsa self.old area bytes.now) }
@@ -313,7 +322,7 @@ impl Recorder {
         }
     }
 
-    // Notes that an instance is given. Returns true if it is left out, as it is repeated.
+    // Notes that an instance is recorded. Returns true if it is left out because it is repeated.
     fn note(&mut self, name: LsaName, header: Header) -> Result<bool, Memory>
         ensures answer { IfOk result (λ b.
             b ≡ is_repeated self.old (record { name = name; header = header })) }
@@ -327,7 +336,8 @@ impl Recorder {
     }
 }
 
-// The nanoseconds that pass from one time to the next; none if that is earlier, or one is not known.
+// Returns the nanoseconds from one time to the next: 0 if the next is earlier, or if either is
+// `None`.
 fn passed(last: Option<u64>, time: Option<u64>) -> u64
     ensures { result ≡ passed_test last time }
 {
@@ -337,7 +347,7 @@ fn passed(last: Option<u64>, time: Option<u64>) -> u64
     }
 }
 
-// The scope of an LSA that comes in a packet of the area (RFC 2328, 13).
+// Returns the scope of an LSA in a packet of the area (RFC 2328, 13).
 fn scope_of(area: u32, lsa: &[u8]) -> Scope
     requires { 20 ≤ length lsa.now }
     ensures { result ≡ scope_of_test area lsa.now }

@@ -1,23 +1,24 @@
 use crate::recorded::Recorded;
 use packets::{PacketFault, PacketKind};
 
-/// What the payload of a datagram comes to.
+/// The result of taking the payload of a datagram.
 #[derive(Debug, Drop)]
 pub enum Taken {
     /// An OSPF packet.
     Packet {
         kind: PacketKind,
-        /// Router ID of the packet's source.
+        /// Router ID of the packet's source, in host order.
         router: u32,
-        /// Area ID.
+        /// Area ID, in host order.
         area: u32,
-        /// By how many whole seconds its time is before that of the packet before it.
+        /// The number of whole seconds by which its time is before the time of the last packet with
+        /// one. It is 0 if no seconds are recorded.
         back: u64,
-        /// How many seconds are given before its LSAs.
+        /// The number of seconds recorded before its LSAs.
         seconds: u64,
-        /// What its LSAs come to, in their order. Only a Link State Update has any.
+        /// The results for its LSAs, in order. Only a Link State Update has any.
         recorded: Vec<Recorded>,
     },
-    /// No OSPF packet. Nothing is recorded.
+    /// Not a valid OSPF packet. Nothing is recorded.
     Fault(PacketFault),
 }

@@ -12,7 +12,7 @@ use crate::interface::{Interface, interface_front_in};
 use crate::order::Order;
 use crate::packets::{simple_front_in, timed_front_in};
 
-/// The block in front, in a section of this byte order.
+/// Reads the block at the start of the bytes, in a section of this byte order.
 pub(crate) fn block_front_in(
     order: Order,
     interfaces: &[Interface],
@@ -28,7 +28,7 @@ pub(crate) fn block_front_in(
     framed_front_in(frame, interfaces, bytes)
 }
 
-// The block in front, of which the frame is known.
+// Reads the block at the start of the bytes, whose frame is known.
 fn framed_front_in(frame: Frame, interfaces: &[Interface], bytes: &[u8]) -> Result<Front, FaultKind>
     requires { IsFrame frame }
     ensures front { result ≡ framed_front frame interfaces.now bytes.now }
@@ -51,7 +51,7 @@ fn framed_front_in(frame: Frame, interfaces: &[Interface], bytes: &[u8]) -> Resu
     content_front_in(frame, interfaces, &bytes[..length])
 }
 
-// What a whole block says.
+// Reads the content of a whole block.
 fn content_front_in(
     frame: Frame,
     interfaces: &[Interface],
@@ -81,7 +81,7 @@ fn content_front_in(
     }
 }
 
-// The section that a whole block begins.
+// Reads the header of a section from a whole block.
 fn section_front_in(order: Order, block: &[u8]) -> Result<Front, FaultKind>
     requires { 28 ≤ length block.now }
     ensures front { result ≡ section_front order block.now }

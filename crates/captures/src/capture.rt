@@ -1,4 +1,4 @@
-//! A capture, as far as it was read.
+//! The state of a capture that is being read.
 
 ghost use Rattle.std.specs.Prelude.{◌≡◌, ◌≢◌, ◌↔◌, ◌+◌, ◌≤◌, IsTrue, IfOk, length};
 ghost use Rattle.captures.specs.Reading.{unread, front_of, Answers, IsPartInReach, IsSteady, IsPacketOf, has_begun};
@@ -17,13 +17,14 @@ use crate::pcap::packet_front_in;
 use std::alloc::Global;
 use std::marker::Model;
 
-/// How far a capture was read, and what its headers said.
+/// The format of a capture, as far as it was read, and the interfaces that its section has
+/// declared.
 pub struct Capture {
     format: Format,
     interfaces: Vec<Interface>,
 }
 
-// proof: one call drops it, in place of a drop of each part wherever one is held.
+// proof: a value is dropped by one call, not part by part at each exit of a function.
 impl Drop for Capture {
     fn drop(self) {
         let Capture {
@@ -33,33 +34,34 @@ impl Drop for Capture {
     }
 }
 
-/// What stands at the front of the bytes that were handed in.
+/// The part at the start of the unread bytes.
 #[derive(Clone, Copy, Debug, PartialEq, Eq)]
 pub enum Part<'a> {
-    /// Less than a whole part. So many bytes are needed, counted from the front; that is more than were
-    /// handed in, and at most 1 MiB.
+    /// Less than a whole part. The number is the bytes needed, counted from the start of the part.
+    /// It is greater than the number of bytes passed, and at most 1 MiB.
     More(usize),
-    /// A header, or a block that is no packet. The next part begins so many bytes behind the front,
-    /// which may be behind all that was handed in.
+    /// A header, or a block without a packet. The next part begins this number of bytes after the
+    /// start of this one, which may be past the bytes that were passed.
     Skip(usize),
-    /// A packet. The next part begins `length` bytes behind the front.
+    /// A packet. The next part begins `length` bytes after the start of this one.
     Packet { packet: Packet<'a>, length: usize },
 }
 
-/// A packet that was captured.
+/// A captured packet.
 #[derive(Clone, Copy, Debug, PartialEq, Eq)]
 pub struct Packet<'a> {
-    /// Nanoseconds since the beginning of 1970, UTC. A simple packet of a pcapng has no time.
+    /// The time of the packet in nanoseconds since the beginning of 1970, UTC. `None` for a simple
+    /// packet of a pcapng, which has no time.
     pub time: Option<u64>,
-    /// What the bytes begin with, by its LINKTYPE_ number: 1 for Ethernet.
+    /// The LINKTYPE_ number: the protocol that the bytes begin with, 1 for Ethernet.
     pub link: u16,
-    /// How many bytes the packet had on the wire.
+    /// The number of bytes that the packet had on the wire.
     pub wire_length: u32,
     /// The bytes that were captured.
     pub bytes: &'a [u8],
 }
 
-/// Contracts see the format as it is known, and the interfaces in their order.
+/// Contracts see the format, as far as the headers give it, and the interfaces in their order.
 impl Model for Capture {
     ghost use Rattle.captures.specs.Reading.{State};
 
@@ -69,10 +71,10 @@ impl Model for Capture {
 }
 
 impl Capture {
-    /// A capture of which nothing was read yet.
+    /// Creates the state of a capture of which nothing was read.
     pub fn new(alloc: Global) -> Capture
         ensures unread { result ≡ unread }
-        // From here, a whole pcap is read as its packets, and so is a whole pcapng.
+        // From this state, a whole pcap is read as its packets, and so is a whole pcapng.
         ensures files { ReadsFiles result }
         ensures sections { ReadsSections result }
     {
@@ -82,26 +84,30 @@ impl Capture {
         }
     }
 
-    /// Whether a header was read. If the input ends before that, it is cut off, even if it is empty.
+    /// Returns true if a header was read. An input that ends before that is cut off, even if it is
+    /// empty.
     pub fn has_begun(&self) -> bool
         ensures { result ≡ has_begun self.now }
     {
         !matches!(self.format, Format::Unread)
     }
 
-    /// Reads the part in front of the bytes, which begin where the last part ended.
+    /// Reads the part at the start of `bytes`, which begin where the last part ended.
     ///
-    /// The caller knows where its input ends, and these calls do not. If it has ended, `bytes` are empty
-    /// and a header was read (`has_begun`), this is the end of the capture. If it has ended and `More` or
-    /// a `Skip` past its end comes otherwise, the capture is cut off.
+    /// Only the caller knows where its input ends. If it has ended, `bytes` is empty and
+    /// `has_begun` is true, the capture has ended. If it has ended otherwise, and the part is a
+    /// `More` or a `Skip` past its end, the capture is cut off.
     ///
-    /// After an error the capture is as it was. Memory runs out only at an interface of a pcapng.
+    /// # Errors
+    ///
+    /// Returns the fault of the bytes (62 to 68), or `Memory` if memory runs out for an interface
+    /// of a pcapng. The capture is then unchanged.
     pub fn read_part<'a>(&mut self, bytes: &'a [u8]) -> Result<Part<'a>, ReadError>
         ensures answer { Answers (front_of self.old bytes.now) bytes.now self.old self.new result }
         ensures reach { IfOk result (IsPartInReach bytes.now) }
-        // It does not matter how many bytes come at once.
+        // How many bytes are passed at once does not change how the part is read.
         ensures steady { IsSteady self.old bytes.now }
-        // What is written by the formats, field behind field, is read as it.
+        // A header, packet or block that is written as its format says is read as what was written.
         ensures written { ReadsWritten self.old bytes.now }
         // No other bytes are read as a packet or an interface.
         ensures only { WasWritten self.old bytes.now }
@@ -125,7 +131,7 @@ impl Capture {
         }
     }
 
-    // What stands at the front of the bytes.
+    // Reads the item at the start of the bytes.
     fn front(&self, bytes: &[u8]) -> Result<Front, FaultKind>
         ensures front { result ≡ front_of self.now bytes.now }
         ensures reach { IfOk result (IsInReach bytes.now) }
@@ -138,7 +144,7 @@ impl Capture {
     }
 }
 
-// The packet with its bytes.
+// Returns the packet of the header, with its bytes.
 fn packet_in(header: PacketHeader, bytes: &[u8]) -> Packet<'_>
     requires { header.start + header.captured ≤ length bytes.now }
     ensures { IsPacketOf header bytes.now result }

@@ -5,31 +5,33 @@ use std::alloc::AllocFailed;
 use std::fmt;
 use thiserror::Error;
 
-/// Why bytes are no capture, or no part of one.
+/// The reason why bytes are not a valid capture, or not a valid part of one.
 #[derive(Clone, Copy, Debug, PartialEq, Eq, Error)]
 pub enum FaultKind {
-    /// The first bytes are the magic number of neither format, or the byte-order magic of a section is
-    /// none.
+    /// The first bytes are not the magic number of a pcap or the type of a section, or a section
+    /// has no byte-order magic.
     NoCapture,
     /// The major version is not 2 in a pcap, or not 1 in a section of a pcapng.
     Version,
-    /// The total length of a block is no multiple of 4, below the least of its type, not repeated at its
-    /// end, or above 1 MiB in a block that is read.
+    /// The total length of a block is not a multiple of 4, or is below the least length of its
+    /// type. In a block that is read, also: it is above 1 MiB, or the end of the block does not
+    /// repeat it.
     BlockLength,
-    /// A packet has more captured bytes than its block, or more than 262,144.
+    /// A packet has more captured bytes than its block has room for, or more than 262,144.
     PacketLength,
-    /// A packet is of an interface that the section has not declared.
+    /// A packet belongs to an interface that the section has not declared.
     NoInterface,
-    /// An option of an interface goes past the end of its block, or is of a wrong length.
+    /// An option of an interface extends past the end of its block, or an option for times has the
+    /// wrong length.
     Options,
-    /// The time of a packet is before 1970, or 2^64 nanoseconds or more after it.
+    /// The time of a packet is before 1970, or 2^64 nanoseconds or more after its beginning.
     Resolution,
-    /// The input ended within a part, or before the first header. It is for callers, who know where their
-    /// input ends.
+    /// The input ended within a part, or before the first header. Only callers return it, as they
+    /// know where their input ends.
     CutOff,
 }
 
-/// The number and the name, as `62 NoCapture`.
+/// Prints the number and the name, as `62 NoCapture`.
 impl fmt::Display for FaultKind {
     ghost output = { λ fault. Some (fault_text fault) };
 
@@ -47,16 +49,16 @@ impl fmt::Display for FaultKind {
     }
 }
 
-/// Why no part was read.
+/// The reason why a part was not read.
 #[derive(Clone, Copy, Debug, PartialEq, Eq, Error)]
 pub enum ReadError {
-    /// The bytes are at fault.
+    /// The bytes are not valid.
     Fault(FaultKind),
     /// Memory ran out.
     Memory,
 }
 
-/// The text of the fault, or `30 Memory`.
+/// Prints the text of the fault, or `30 Memory`.
 impl fmt::Display for ReadError {
     ghost output = { λ error. Some (error_text error) };
 

@@ -6,28 +6,28 @@ ghost use Rattle.captures.specs.Frames.{kind_of_number, least_length, most_lengt
 use crate::fault::FaultKind;
 use crate::order::Order;
 
-/// How many bytes of a block are needed to know its frame. No block is shorter.
+/// The number of bytes of a block that determine its frame. No block is shorter.
 pub(crate) const FRAME: usize = 12;
 
-/// The type of the block that begins a section. It is this number in either byte order.
+/// The type of the block that begins a section. It is the same number in either byte order.
 pub(crate) const SECTION: u32 = 0x0A0D_0D0A;
 
-/// How many bytes a block may have that is read.
+/// The greatest length, in bytes, of a block that is read.
 const LONGEST_READ: usize = 1_048_576;
 
-/// The number by which a section tells its byte order.
+/// The number that shows the byte order of a section.
 const BYTE_ORDER_MAGIC: u32 = 0x1A2B_3C4D;
 
-/// What a block is, by its type.
+/// The kind of a block, by its type.
 #[derive(Clone, Copy)]
 pub(crate) enum BlockKind {
     /// The header of a section.
     Section,
     /// The declaration of an interface, type 1.
     Interface,
-    /// A packet as it was written before the enhanced one, type 2.
+    /// A packet in the form that was used before the enhanced packet, type 2.
     Obsolete,
-    /// A packet with no more than its length on the wire, type 3.
+    /// A packet with its length on the wire and no other fields, type 3.
     Simple,
     /// A packet with its interface and time, type 6.
     Enhanced,
@@ -39,13 +39,13 @@ pub(crate) enum BlockKind {
 #[derive(Clone, Copy)]
 pub(crate) struct Frame {
     pub(crate) kind: BlockKind,
-    /// The byte order, of a section the one that it begins.
+    /// The byte order of the block. The header of a section has that of the section.
     pub(crate) order: Order,
-    /// How many bytes the whole block has.
+    /// The number of bytes of the whole block.
     pub(crate) length: usize,
 }
 
-/// The frame of the block in front, in a section of this byte order.
+/// Returns the frame of the block at the start of the bytes, in a section of this byte order.
 pub(crate) fn frame_in(order: Order, bytes: &[u8]) -> Result<Frame, FaultKind>
     requires { 12 ≤ length bytes.now }
     ensures frame { result ≡ frame_of order bytes.now }
@@ -77,7 +77,7 @@ fn block_kind(number: u32) -> BlockKind
     }
 }
 
-// The byte order of a block: a section has its own.
+// Returns the byte order of the block: for the header of a section, the order of its own magic.
 fn block_order(kind: BlockKind, order: Order, bytes: &[u8]) -> Result<Order, FaultKind>
     requires { 12 ≤ length bytes.now }
     ensures { result ≡ order_of kind order bytes.now }
@@ -101,14 +101,14 @@ fn order_of_section(bytes: &[u8]) -> Result<Order, FaultKind>
     Err(FaultKind::NoCapture)
 }
 
-// Whether no block of the kind has such a length.
+// Returns true if blocks of the kind cannot have this length.
 fn is_wrong(kind: BlockKind, length: usize) -> bool
     ensures { result ≡ is_wrong_length kind length }
 {
     length % 4 != 0 || length < least(kind) || length > most(kind)
 }
 
-// The length of a block of the kind that has no options and no bytes of a packet.
+// Returns the length of a block of the kind without options and without bytes of a packet.
 fn least(kind: BlockKind) -> usize
     ensures { result ≡ least_length kind }
 {
@@ -122,7 +122,7 @@ fn least(kind: BlockKind) -> usize
     }
 }
 
-// How long a block of the kind may be; any length will do of one that is not read.
+// Returns the greatest length of a block of the kind. A block that is not read has no limit.
 fn most(kind: BlockKind) -> usize
     ensures { result ≡ most_length kind }
 {

@@ -1,49 +1,49 @@
-//! What stands at the front of the bytes that are to be read next.
+//! The item at the start of the unread bytes.
 
 use crate::interface::Interface;
 use crate::order::Order;
 use crate::pcap::PcapFile;
 
-/// How many bytes of a packet may be captured.
+/// The greatest number of captured bytes of a packet.
 pub(crate) const MOST_CAPTURED: usize = 262_144;
 
-/// What a capture is, as far as it was read.
+/// The format of a capture, as far as it was read.
 #[derive(Clone, Copy)]
 pub(crate) enum Format {
     /// Nothing was read yet.
     Unread,
-    /// A pcap, whose header was read.
+    /// A pcap whose header was read.
     Pcap(PcapFile),
     /// A pcapng, in a section of this byte order.
     Section(Order),
 }
 
-/// A packet by its header, and where its bytes are.
+/// A packet by its header, and the place of its bytes.
 #[derive(Clone, Copy)]
 pub(crate) struct PacketHeader {
-    /// Nanoseconds since 1970, if the capture has a time.
+    /// The time in nanoseconds since 1970, if the packet has one.
     pub(crate) time: Option<u64>,
     /// The LINKTYPE_ number.
     pub(crate) link: u16,
-    /// How many bytes were on the wire.
+    /// The number of bytes on the wire.
     pub(crate) wire_length: u32,
-    /// Where its bytes begin.
+    /// The index of the first byte of the packet.
     pub(crate) start: usize,
-    /// How many bytes were captured.
+    /// The number of captured bytes.
     pub(crate) captured: usize,
 }
 
-/// What stands at the front of bytes.
+/// The item at the start of the unread bytes.
 #[derive(Clone, Copy)]
 pub(crate) enum Front {
-    /// Less than a whole part: so many bytes are needed.
+    /// Less than a whole part, with the number of bytes needed.
     Short(usize),
-    /// A header of so many bytes, behind which the capture is of this format and has no interface.
+    /// A header, with its length. After it, the capture has this format and no interfaces.
     Header(Format, usize),
-    /// A further interface, in so many bytes.
+    /// A declaration of one more interface, with its length.
     Declared(Interface, usize),
-    /// So many bytes that say nothing of packets.
+    /// A block that is not read, with its length.
     Other(usize),
-    /// A packet, and so many bytes to the next part.
+    /// A packet, with the distance from the start to the next part, in bytes.
     Captured(PacketHeader, usize),
 }

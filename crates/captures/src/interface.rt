@@ -10,17 +10,17 @@ use crate::options::timing_in;
 use crate::order::Order;
 use crate::time::Timing;
 
-/// What a section declares of an interface.
+/// An interface that a section has declared.
 #[derive(Clone, Copy)]
 pub(crate) struct Interface {
     /// The LINKTYPE_ number of its packets.
     pub(crate) link: u16,
-    /// How many bytes of a packet are captured at most; 0 for no limit.
+    /// The greatest number of bytes of a packet that are captured, or 0 for no limit.
     pub(crate) snap_length: u32,
     pub(crate) timing: Timing,
 }
 
-/// The interface that a whole block declares.
+/// Reads the declaration of an interface from a whole block.
 pub(crate) fn interface_front_in(order: Order, block: &[u8]) -> Result<Front, FaultKind>
     requires { 20 ≤ length block.now }
     ensures front { result ≡ interface_front order block.now }

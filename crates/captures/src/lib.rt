@@ -1,9 +1,9 @@
-//! The packets of a capture, a pcap or a pcapng, read part by part as its bytes come. There is no input
-//! or output here: a caller reads a file or a pipe, and hands in what it has.
+//! A reader of the packets of a capture, a pcap or a pcapng, part by part. It does no input or
+//! output: a caller reads a file or a pipe, and passes the bytes.
 //!
-//! A caller keeps the bytes that are not read yet, and calls `Capture::read_part` with them. It reads
-//! further input for `More`, leaves out the length of a `Skip` or a `Packet`, and calls again. No call
-//! needs more than 1 MiB at once, and blocks that are passed over need not be kept at all.
+//! A caller keeps the unread bytes, and calls `Capture::read_part` with them. For `More` it reads
+//! further input; for a `Skip` or a `Packet` it drops the bytes of the part. Then it calls again.
+//! No call needs more than 1 MiB at once, and blocks that are not read need not be kept.
 #![tactic(auto)]
 
 mod block;

@@ -14,7 +14,7 @@ use crate::pcap::{file_front_in, magic_in};
 /// The length of the magic number of a pcap, or of the type of a block.
 const MAGIC: usize = 4;
 
-/// The first header of a capture.
+/// Reads the first header of a capture.
 pub(crate) fn opening_front_in(bytes: &[u8]) -> Result<Front, FaultKind>
     ensures front { result ≡ opening_front bytes.now }
     ensures reach { IfOk result (IsInReach bytes.now) }
@@ -31,7 +31,7 @@ pub(crate) fn opening_front_in(bytes: &[u8]) -> Result<Front, FaultKind>
     }
 }
 
-// Whether the first block of a pcapng is in front.
+// Returns true if the bytes begin with the first block of a pcapng.
 fn begins_section(bytes: &[u8]) -> bool
     requires { 4 ≤ length bytes.now }
     ensures { result ≡ is_section bytes.now }

@@ -7,13 +7,13 @@ use crate::fault::FaultKind;
 use crate::order::Order;
 use crate::time::{Timing, USUAL_TIMING, offset_in, resolution_in};
 
-/// The code of the option that has the resolution of times, of 1 byte.
+/// The code of the option for the resolution of times. Its value has 1 byte.
 const RESOLUTION: u16 = 9;
 
-/// The code of the option that has the offset of times, of 8 bytes.
+/// The code of the option for the offset of times. Its value has 8 bytes.
 const OFFSET: u16 = 14;
 
-/// What the options say of times. Where one stands twice, the last counts.
+/// Reads the timing from the options. If an option occurs twice, the last one counts.
 pub(crate) fn timing_in(order: Order, options: &[u8]) -> Result<Timing, FaultKind>
     ensures { result ≡ timing_of order options.now }
 {
@@ -32,22 +32,22 @@ pub(crate) fn timing_in(order: Order, options: &[u8]) -> Result<Timing, FaultKin
     Ok(timing)
 }
 
-// Whether no option is in front, or the one that ends them.
+// Returns true if no option is left, or if the next one ends the options.
 fn is_last(order: Order, rest: &[u8]) -> bool
     ensures { result ≡ is_end order rest.now }
 {
     rest.is_empty() || (rest.len() >= 4 && order.u16_at(rest, 0) == 0)
 }
 
-// Whether the option in front goes past the end.
+// Returns true if the next option extends past the end.
 fn is_cut_off(order: Order, rest: &[u8]) -> bool
     ensures { result ≡ is_cut order rest.now }
 {
     rest.len() < 4 || rest.len() < size(order, rest)
 }
 
-// The length of the option in front, with its code and its length, and what fills it up to a multiple of
-// 4 bytes.
+// Returns the size of the next option: its code and length, and its value padded to a multiple of 4
+// bytes.
 fn size(order: Order, rest: &[u8]) -> usize
     requires { 4 ≤ length rest.now }
     ensures { result ≡ size_of order rest.now }
@@ -55,7 +55,7 @@ fn size(order: Order, rest: &[u8]) -> usize
     4 + usize::from(order.u16_at(rest, 2)).div_ceil(4) * 4
 }
 
-// The timing with what the option in front says of it.
+// Returns the timing, changed as the next option says.
 fn timing_with(order: Order, rest: &[u8], timing: Timing) -> Result<Timing, FaultKind>
     requires { is_cut order rest.now ≡ false }
     ensures { result ≡ with_option order rest.now timing }

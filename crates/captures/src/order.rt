@@ -5,17 +5,17 @@ ghost use Rattle.captures.specs.Numbers.{number_at};
 
 use byteorder::{BigEndian, ByteOrder, LittleEndian};
 
-/// Which byte of a number comes first.
+/// A byte order.
 #[derive(Clone, Copy, Debug, PartialEq, Eq)]
 pub(crate) enum Order {
-    /// The highest.
+    /// The highest byte comes first.
     Big,
-    /// The lowest.
+    /// The lowest byte comes first.
     Little,
 }
 
 impl Order {
-    /// The number of 2 bytes at a place.
+    /// Returns the number in the 2 bytes at the index.
     pub(crate) fn u16_at(self, bytes: &[u8], place: usize) -> u16
         requires { place + 2 ≤ length bytes.now }
         ensures { result ≡ number_at self 2 place bytes.now }
@@ -26,7 +26,7 @@ impl Order {
         }
     }
 
-    /// The number of 4 bytes at a place.
+    /// Returns the number in the 4 bytes at the index.
     pub(crate) fn u32_at(self, bytes: &[u8], place: usize) -> u32
         requires { place + 4 ≤ length bytes.now }
         ensures { result ≡ number_at self 4 place bytes.now }
@@ -37,7 +37,7 @@ impl Order {
         }
     }
 
-    /// The number of 8 bytes at a place.
+    /// Returns the number in the 8 bytes at the index.
     pub(crate) fn u64_at(self, bytes: &[u8], place: usize) -> u64
         requires { place + 8 ≤ length bytes.now }
         ensures { result ≡ number_at self 8 place bytes.now }

@@ -10,27 +10,27 @@ use crate::front::{Front, MOST_CAPTURED, PacketHeader};
 use crate::interface::Interface;
 use crate::order::Order;
 
-/// The length of an enhanced packet, or an obsolete one, that has no bytes and no options.
+/// The length of an enhanced or obsolete packet without bytes and without options.
 const EMPTY_TIMED: usize = 32;
 
-/// The length of a simple packet that has no bytes.
+/// The length of a simple packet without bytes.
 const EMPTY_SIMPLE: usize = 16;
 
-// The interface of this number.
+// Returns the interface with this number.
 fn interface_at(interfaces: &[Interface], number: usize) -> Option<Interface>
     ensures { result ≡ slice_get interfaces.now number }
 {
     interfaces.get(number).copied()
 }
 
-// Whether a packet has more bytes than there is room for in its block, or than any packet may have.
+// Returns true if a packet has more bytes than its block has room for, or than any packet may have.
 fn is_past(captured: usize, room: usize) -> bool
     ensures { result ≡ is_too_long captured room }
 {
     captured > room || captured > MOST_CAPTURED
 }
 
-/// The packet of a whole enhanced or obsolete block, of the interface of this number.
+/// Reads the packet of a whole enhanced or obsolete block. `number` is its interface.
 pub(crate) fn timed_front_in(
     order: Order,
     number: usize,
@@ -47,7 +47,8 @@ pub(crate) fn timed_front_in(
     }
 }
 
-// The packet of a whole enhanced or obsolete block. What stands before the time says its interface.
+// Reads the packet of a whole enhanced or obsolete block. The fields before the time give its
+// interface.
 fn timed_packet(order: Order, interface: Interface, block: &[u8]) -> Result<Front, FaultKind>
     requires { 32 ≤ length block.now }
     ensures front { result ≡ timed_in order interface block.now }
@@ -70,7 +71,7 @@ fn timed_packet(order: Order, interface: Interface, block: &[u8]) -> Result<Fron
     Ok(Front::Captured(header, block.len()))
 }
 
-// The time in units of the interface, of which the high 4 bytes come first in either byte order.
+// Returns the time in units of the interface. Its high 4 bytes come first in either byte order.
 fn time_units(order: Order, block: &[u8]) -> u64
     requires { 32 ≤ length block.now }
     ensures { result ≡ units_in order block.now }
@@ -78,7 +79,7 @@ fn time_units(order: Order, block: &[u8]) -> u64
     u64::from(order.u32_at(block, 12)) * 0x1_0000_0000 + u64::from(order.u32_at(block, 16))
 }
 
-/// The packet of a whole simple block, which is of the first interface.
+/// Reads the packet of a whole simple block, which belongs to the first interface.
 pub(crate) fn simple_front_in(
     order: Order,
     interfaces: &[Interface],
@@ -94,7 +95,7 @@ pub(crate) fn simple_front_in(
     }
 }
 
-// The packet of a whole simple block, cut to the snap length of its interface.
+// Reads the packet of a whole simple block, cut to the snap length of its interface.
 fn simple_packet(order: Order, interface: Interface, block: &[u8]) -> Result<Front, FaultKind>
     requires { 16 ≤ length block.now }
     ensures front { result ≡ simple_in order interface block.now }
@@ -115,7 +116,7 @@ fn simple_packet(order: Order, interface: Interface, block: &[u8]) -> Result<Fro
     Ok(Front::Captured(header, block.len()))
 }
 
-// How many bytes are captured of so many on the wire.
+// Returns the number of bytes that are captured of a packet.
 fn cut_to(snap_length: u32, wire_length: u32) -> u32
     ensures { result ≡ snapped snap_length wire_length }
 {

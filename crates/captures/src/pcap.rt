@@ -11,10 +11,10 @@ use crate::order::Order;
 /// The length of the header of a pcap.
 const FILE_HEADER: usize = 24;
 
-/// The length of the header in front of each packet.
+/// The length of the header before each packet.
 const PACKET_HEADER: usize = 16;
 
-/// What the fraction of a second counts.
+/// The unit of the fraction of a second.
 #[derive(Clone, Copy)]
 pub(crate) enum Fraction {
     /// Microseconds.
@@ -23,14 +23,14 @@ pub(crate) enum Fraction {
     Nano,
 }
 
-/// What the first 4 bytes of a pcap say.
+/// The meaning of the magic number of a pcap.
 #[derive(Clone, Copy)]
 pub(crate) struct Magic {
     pub(crate) order: Order,
     pub(crate) fraction: Fraction,
 }
 
-/// What the header of a pcap says.
+/// The fields of the header of a pcap that are used.
 #[derive(Clone, Copy)]
 pub(crate) struct PcapFile {
     pub(crate) magic: Magic,
@@ -38,7 +38,7 @@ pub(crate) struct PcapFile {
     pub(crate) link: u16,
 }
 
-// What a magic number says in the byte order, if it is one.
+// Returns the unit of the magic number in this byte order, or `None` if it is not one.
 fn fraction_in(order: Order, bytes: &[u8]) -> Option<Fraction>
     requires { 4 ≤ length bytes.now }
     ensures { result ≡ fraction_of order bytes.now }
@@ -50,7 +50,7 @@ fn fraction_in(order: Order, bytes: &[u8]) -> Option<Fraction>
     }
 }
 
-/// What the magic number in front says, if it is that of a pcap.
+/// Reads the magic number of a pcap, or returns `None` if the bytes do not begin with one.
 pub(crate) fn magic_in(bytes: &[u8]) -> Option<Magic>
     requires { 4 ≤ length bytes.now }
     ensures { result ≡ magic_of bytes.now }
@@ -70,7 +70,7 @@ pub(crate) fn magic_in(bytes: &[u8]) -> Option<Magic>
     None
 }
 
-/// The header of a pcap in front, of which the magic number is known.
+/// Reads the header of a pcap, whose magic number is known.
 pub(crate) fn file_front_in(magic: Magic, bytes: &[u8]) -> Result<Front, FaultKind>
     ensures front { result ≡ file_front magic bytes.now }
     ensures reach { IfOk result (IsInReach bytes.now) }
@@ -86,14 +86,14 @@ pub(crate) fn file_front_in(magic: Magic, bytes: &[u8]) -> Result<Front, FaultKi
     Ok(Front::Header(Format::Pcap(file), FILE_HEADER))
 }
 
-// The LINKTYPE_ number in the field for it, whose high 16 bits say other things.
+// Returns the LINKTYPE_ number, which is the low 16 bits of its field.
 fn link_in(field: u32) -> u16
     ensures { result ≡ link_of field }
 {
     (field % 0x1_0000) as u16
 }
 
-/// The packet in front.
+/// Reads the packet at the start of the bytes.
 pub(crate) fn packet_front_in(file: PcapFile, bytes: &[u8]) -> Result<Front, FaultKind>
     ensures front { result ≡ packet_front file bytes.now }
     ensures reach { IfOk result (IsInReach bytes.now) }
@@ -124,7 +124,7 @@ pub(crate) fn packet_front_in(file: PcapFile, bytes: &[u8]) -> Result<Front, Fau
     Ok(Front::Captured(header, length))
 }
 
-// Nanoseconds of seconds and a fraction.
+// Returns the seconds and the fraction in nanoseconds.
 fn nanoseconds(unit: Fraction, seconds: u32, fraction: u32) -> u64
     ensures { result ≡ nanoseconds_of unit seconds fraction }
 {

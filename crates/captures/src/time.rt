@@ -4,10 +4,10 @@ ghost use Rattle.std.specs.Prelude.{◌≡◌, ◌*◌, ◌/◌, ◌^◌, ◌<�
 ghost use Rattle.std.specs.Option.{SomeIff};
 ghost use Rattle.captures.specs.Times.{units_of, moved_by, held, time_of, resolution_of, offset_of};
 
-/// How many nanoseconds a second has.
+/// The number of nanoseconds in a second.
 const SECOND: u128 = 1_000_000_000;
 
-/// How many units a second has by which an interface counts the time.
+/// The number of units in a second, in which an interface counts time.
 #[derive(Clone, Copy)]
 pub(crate) enum Resolution {
     /// 10 to this power.
@@ -16,29 +16,29 @@ pub(crate) enum Resolution {
     Binary(u8),
 }
 
-/// What is to be added to the times of an interface.
+/// The number of seconds to add to the times of an interface.
 #[derive(Clone, Copy)]
 pub(crate) enum Offset {
-    /// So many seconds.
+    /// This number of seconds is added.
     Later(u64),
-    /// So many seconds are to be taken away.
+    /// This number of seconds is subtracted.
     Earlier(u64),
 }
 
-/// How an interface tells times.
+/// The resolution and the offset of the times of an interface.
 #[derive(Clone, Copy)]
 pub(crate) struct Timing {
     pub(crate) resolution: Resolution,
     pub(crate) offset: Offset,
 }
 
-/// How an interface tells times if it says nothing of it: in microseconds since 1970.
+/// The timing of an interface that states none: microseconds since 1970.
 pub(crate) const USUAL_TIMING: Timing = Timing {
     resolution: Resolution::Decimal(6),
     offset: Offset::Later(0),
 };
 
-/// The resolution by the byte of its option: the highest bit tells the base.
+/// Returns the resolution for the byte of its option. The highest bit is set for a power of 2.
 pub(crate) fn resolution_in(byte: u8) -> Resolution
     ensures { result ≡ resolution_of byte }
 {
@@ -49,7 +49,7 @@ pub(crate) fn resolution_in(byte: u8) -> Resolution
     }
 }
 
-/// The offset by the number of its option, which is in two's complement.
+/// Returns the offset for the number of its option, which is in two's complement.
 pub(crate) fn offset_in(number: u64) -> Offset
     ensures { result ≡ offset_of number }
 {
@@ -61,7 +61,7 @@ pub(crate) fn offset_in(number: u64) -> Offset
 }
 
 impl Resolution {
-    // How many units a second has, if that fits.
+    // Returns the number of units in a second, or `None` if it is 2^128 or more.
     fn units(self) -> Option<u128>
         ensures { SomeIff result (units_of self < 2 ^ 128) (units_of self) }
     {
@@ -71,21 +71,21 @@ impl Resolution {
         }
     }
 
-    // So many units in whole nanoseconds.
+    // Converts units to whole nanoseconds, rounded down.
     fn nanoseconds(self, units: u64) -> u128
         ensures value { result ≡ units * 1000000000 / units_of self }
         ensures bound { result < 2 ^ 94 }
     {
         match self.units() {
             Some(second) => u128::from(units) * SECOND / second,
-            // There are more units in a second than that.
+            // With 2^128 units or more in a second, the quotient is below 1.
             None => 0,
         }
     }
 }
 
 impl Offset {
-    // The time with what is to be added; `None` if it is before 1970.
+    // Adds the offset to a time. Returns `None` if the result is before 1970.
     fn moved(self, nanoseconds: u128) -> Option<u128>
         requires { nanoseconds < 2 ^ 94 }
         ensures { result ≡ moved_by self nanoseconds }
@@ -98,7 +98,8 @@ impl Offset {
 }
 
 impl Timing {
-    /// A time of so many units, in nanoseconds since 1970; `None` if that is less than 0, or 2^64 or more.
+    /// Returns the time of `units` in nanoseconds since 1970, or `None` if it is negative or is
+    /// 2^64 or more.
     pub(crate) fn time(self, units: u64) -> Option<u64>
         ensures { result ≡ time_of self units }
     {
@@ -109,7 +110,7 @@ impl Timing {
     }
 }
 
-// The number, if it fits into 64 bits.
+// Returns the number if it fits into 64 bits.
 fn held_in(number: u128) -> Option<u64>
     ensures { result ≡ held number }
 {

@@ -1,4 +1,4 @@
-//! Lines that are taken as they come.
+//! Lines that are run as they come.
 ghost use Rattle.std.specs.Prelude.{◌++◌, ◌∷◌, List, [], OnOk, IfOk, IfErr, string_bytes};
 ghost use Rattle.event_core.specs.Cores.{IsCore, IsCurrent};
 ghost use Rattle.replay.specs.Pages.{Adds, AddsPart};
@@ -23,28 +23,29 @@ use replay::{WriteError, Progress, ReplayFault, PrintError, fault_of, flush_if_f
 use std::alloc::Global;
 use std::io;
 
-// So many events are a long journal.
+// The number of events from which on a journal is long.
 const LONG_JOURNAL: u64 = 65_536;
 
-/// A recording whose front was read. Its lines are taken as they come.
+/// A recording whose preamble was read, and whose lines are run as they come.
 pub(crate) struct Run {
     pub(crate) alloc: Global,
     pub(crate) version: Version,
     pub(crate) core: Core,
-    /// The place of the line that comes next.
+    /// The context of the next line.
     pub(crate) at: LineContext,
-    /// Whether a line at fault is told of and skipped.
+    /// True if a line with a fault is reported and skipped.
     pub(crate) skips_faults: bool,
-    /// How much is done, where that is shown.
+    /// The progress that is shown.
     pub(crate) progress: Progress,
-    /// What is not yet written of what was told.
+    /// The output that is not written yet.
     pub(crate) buffer: String,
-    /// The line that came, and the bytes of its LSA.
+    /// The line that was read last.
     pub(crate) line: Vec<u8>,
+    /// The bytes of the LSA of that line.
     pub(crate) room: Vec<u8>,
 }
 
-// proof: one call drops it, in place of a drop of each part wherever one is held.
+// proof: a value is dropped by one call, not part by part at each exit of a function.
 impl Drop for Run {
     fn drop(self) {
         let Run {
@@ -61,20 +62,20 @@ impl Drop for Run {
     }
 }
 
-/// Why no more lines are taken.
+/// The reason why no more lines are run.
 #[derive(Clone, Copy)]
 pub(crate) enum End {
-    /// None comes any more.
+    /// The end of the input.
     Over,
-    /// The input could not be read.
+    /// An input that could not be read.
     Unread,
-    /// The next line is at fault.
+    /// A fault of the next line.
     AtFault(Fault),
 }
 
 impl Run {
-    /// Takes the line that ended the front, if there is one, and then lines for as long as any come. What is told of each is
-    /// printed.
+    /// Runs the line that ended the preamble, if there is one, and then each line of the input.
+    /// Prints the report of each.
     pub(crate) fn go_on<R: io::Read, W: io::Write, F: io::Write>(
         &mut self,
         front: PreambleEnd,
@@ -106,7 +107,7 @@ impl Run {
         }
     }
 
-    // Takes lines for as long as any come, and prints what is told of each.
+    // Runs each line of the input as it comes, and prints its report.
     fn follow<R: io::Read, W: io::Write, F: io::Write>(
         &mut self,
         lines: &mut LineReader,
@@ -143,7 +144,8 @@ impl Run {
         Err(PrintError::Memory)
     }
 
-    // Takes the line that came, and prints what is told of it. What is returned is a fault behind which no line is taken.
+    // Runs the line that was read last, and prints its report. Returns a fault after which no line
+    // is run.
     fn take<W: io::Write>(&mut self, out: &mut W) -> Result<Option<Fault>, PrintError>
         requires kept { IsCore self.old.core }
         requires current { IsCurrent self.old.core }
@@ -163,7 +165,8 @@ impl Run {
         Ok(None)
     }
 
-    // Runs the line that came and prints what is told of it, or its fault. What is returned is a fault that is not skipped.
+    // Runs the line that was read last, and prints its report, or its fault if that is skipped.
+    // Returns a fault that is not skipped.
     fn tell<W: io::Write>(&mut self, out: &mut W) -> Result<Option<Fault>, PrintError>
         requires kept { IsCore self.old.core }
         requires current { IsCurrent self.old.core }
@@ -192,7 +195,7 @@ impl Run {
         Ok(None)
     }
 
-    /// Writes what is left of what was told, and tells how it ends.
+    /// Writes the rest of the output, and returns how the run ended.
     pub(crate) fn close<W: io::Write>(&mut self, end: End, out: &mut W) -> Result<(), ReplayFault>
         ensures { Closes self.old end result (W.contents out.old) (W.contents out.new) }
     {
@@ -210,7 +213,7 @@ impl Run {
     }
 }
 
-// Writes what was told, where answers are asked for.
+// Writes the output, if answers are wanted.
 fn hand_on<W: io::Write>(at: &LineContext, out: &mut W, buffer: &mut String) -> Result<(), WriteError>
     ensures ok { OnOk result (Adds (W.contents out.old) (W.contents out.new) (string_bytes buffer.old)
         (string_bytes buffer.new) []) }
@@ -223,7 +226,7 @@ fn hand_on<W: io::Write>(at: &LineContext, out: &mut W, buffer: &mut String) -> 
     flush_buffer(out, buffer)
 }
 
-// What the line says behind the base. A line that is too long to be read whole is at fault.
+// Parses a line after the base. A line that is too long to be read whole has a fault.
 fn take_line(
     alloc: Global,
     version: Version,
@@ -243,7 +246,7 @@ fn take_line(
     }
 }
 
-// Rolls a long journal, and then runs the line and prints what is told of it.
+// Rolls a long journal, then runs the line and prints its report.
 fn tell_next<W: io::Write>(
     core: &mut Core,
     at: &LineContext,
@@ -264,7 +267,8 @@ fn tell_next<W: io::Write>(
     tell_line(core, at, line, out, buffer)
 }
 
-// Rolls a long journal. If memory runs out for that, a journal that has room for an event stays long.
+// Rolls a long journal. If memory runs out for the roll, a journal with room for an event stays
+// long.
 fn shorten_journal(core: &mut Core) -> Result<(), Memory>
     requires current { IsCurrent core.old }
     ensures short { OnOk result (KeepsShort core.old core.new) }
@@ -276,7 +280,7 @@ fn shorten_journal(core: &mut Core) -> Result<(), Memory>
         return Ok(());
     }
     let rolled = core.roll();
-    // proof: what holds of every core.
+    // proof: this read of the core gives what holds of every core.
     let _ = core.table();
     match rolled {
         Ok(_) => Ok(()),
@@ -285,7 +289,7 @@ fn shorten_journal(core: &mut Core) -> Result<(), Memory>
     }
 }
 
-// Prints that the line is at fault.
+// Prints the fault of an invalid line.
 fn tell_fault<W: io::Write>(
     at: &LineContext,
     fault: Fault,

@@ -1,4 +1,5 @@
-//! What each event of a recording changed in the routing table and in the summaries that are due, printed.
+//! Reports of the changes that each event of a recording makes: in the routing table, and in the
+//! summary-LSAs that are due.
 #![tactic(auto)]
 
 mod following;

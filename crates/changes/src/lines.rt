@@ -1,5 +1,7 @@
-//! The lines that tell what changed, and what came of a line that changed nothing, in words or as JSON. Each is appended to a
-//! text. If memory runs out, the text may have a part of the line.
+//! The lines that report changes, or the outcome of a line that changed nothing, in words or as
+//! JSON.
+//!
+//! Each is appended to a text. If memory runs out, the text may have a part of the line.
 ghost use Rattle.std.specs.Prelude.{◌≡◌, ◌++◌, OnOk, option_map, string_bytes};
 ghost use Rattle.changes.specs.Lines as told;
 ghost use Rattle.changes.specs.Lines.{change_line, line_of};
@@ -15,16 +17,17 @@ use output_format::Format;
 use recording::{Fault, LineFault};
 use route_table::Item;
 
-/// The number of the line in its recording, and what is told of it.
+/// The number of a line in its recording, and what is reported of the line.
 #[derive(Clone, Copy)]
 pub struct LineContext {
     pub number: usize,
     pub wanted: ChangeFilter,
-    /// Whether it is told what came of a line that changed nothing: a look-up, and what was refused.
+    /// True if the outcome of a line that changed nothing is reported: a lookup, or a refusal.
     pub answers: bool,
 }
 
-/// The item that the network has now, or that it has none; nothing where another network is asked for.
+/// Appends the item that the network has now, or that it has none. Nothing is appended if only
+/// another network is wanted.
 pub(crate) fn put_network(
     at: &LineContext,
     prefix: Prefix,
@@ -63,8 +66,8 @@ fn put_drop(at: &LineContext, prefix: Prefix, text: &mut String) -> Result<(), M
     }
 }
 
-/// The metric at which a destination is due in the area now, or that it is due no longer; nothing where another network is
-/// asked for.
+/// Appends the metric at which the destination is due in the area (in host order) now, or that it
+/// is no longer due. Nothing is appended if only another network is wanted.
 pub(crate) fn put_summary(
     at: &LineContext,
     area: u32,
@@ -104,7 +107,7 @@ fn put_undue(at: &LineContext, area: u32, dest: Dest, text: &mut String) -> Resu
     }
 }
 
-/// The event, or the roll, was refused.
+/// Appends that the event or roll was refused.
 pub(crate) fn put_refused(at: &LineContext, refusal: Refusal, text: &mut String) -> Result<(), Memory>
     ensures { OnOk result (string_bytes text.new ≡ string_bytes text.old
         ++ change_line at.now.wanted.format at.now.number (told.Refused refusal)) }
@@ -112,7 +115,7 @@ pub(crate) fn put_refused(at: &LineContext, refusal: Refusal, text: &mut String)
     replay::put_refused(at.wanted.format, at.number, refusal, text)
 }
 
-/// The line is at fault.
+/// Appends the fault of the line.
 pub(crate) fn put_fault(at: &LineContext, fault: Fault, text: &mut String) -> Result<(), Memory>
     ensures { OnOk result (string_bytes text.new ≡ string_bytes text.old
         ++ change_line at.now.wanted.format at.now.number (told.AtFault fault)) }
@@ -126,7 +129,7 @@ pub(crate) fn put_fault(at: &LineContext, fault: Fault, text: &mut String) -> Re
     }
 }
 
-// Whether the network is asked for.
+// Returns true if the changes of the network are wanted.
 fn is_asked(only: Option<Prefix>, prefix: Prefix) -> bool
     ensures { result ≡ told.is_asked only prefix }
 {

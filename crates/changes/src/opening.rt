@@ -1,4 +1,4 @@
-//! The front of a recording, as it comes: its lines up to the first that is none of the front.
+//! The preamble of a recording, read line by line: its lines up to the first one of another kind.
 ghost use Rattle.std.specs.Prelude.{◌≡◌, ◌↔◌, ◌++◌, ◌∷◌, [], IfErr, IfOk, IsTrue, OnOk};
 ghost use Rattle.replay.specs.Parts.{IsParsed};
 ghost use Rattle.changes.specs.Openings.{HasFault, IsAdded, IsFaultWith, IsFrontFault, IsLooked, IsWhole, Opens, ends_after, last_line};
@@ -10,38 +10,38 @@ use replay::{ReplayFault, parse_bytes};
 use std::alloc::{AllocError, Global};
 use std::io;
 
-// From so many bytes on, the front is looked through for a fault whenever it has become twice as long. So no more than twice
-// the bytes up to a fault are held.
+// The number of bytes from which on the preamble is searched for a fault, whenever it has doubled.
+// So little more than twice the bytes up to a late fault are held.
 const LONG_FRONT: usize = 1 << 20;
 
-/// What ends the front.
+/// The end of the preamble.
 #[derive(Clone, Copy)]
 pub(crate) enum PreambleEnd {
-    /// Nothing more comes.
+    /// The end of the input, or nothing as long as the preamble is read.
     Over,
-    /// A line that is none of the front.
+    /// A line that does not belong to the preamble.
     Line,
-    /// What comes last, which is none of the front and has no line feed.
+    /// A last line without a line feed, which does not belong to the preamble.
     Cut,
-    /// A line of the front that is too long to be read whole. It stands in the front, cut short.
+    /// A preamble line that is too long to be read whole. The preamble contains it, cut short.
     LongLine,
-    /// A line of the front has this fault, whatever comes behind.
+    /// A fault of a preamble line, whatever follows.
     AtFault(LineFault),
 }
 
-/// The lines at the front, and what ends them.
+/// The preamble, and its end.
 #[derive(Drop)]
 pub(crate) struct Opening {
-    /// The lines, each with its line feed, and what came last without one.
+    /// The lines with their line feeds. A last line of the input may have none.
     pub(crate) front: Vec<u8>,
-    /// How many lines there are.
+    /// The number of lines.
     lines: usize,
-    /// The line that came last.
+    /// The line that was read last.
     pub(crate) line: Vec<u8>,
     pub(crate) end: PreambleEnd,
 }
 
-/// Takes the lines at the front, and the first that is none of the front.
+/// Reads the preamble, and the line after it.
 pub(crate) fn read_opening<R: io::Read>(
     alloc: Global,
     lines: &mut LineReader,
@@ -79,14 +79,14 @@ pub(crate) fn read_opening<R: io::Read>(
 }
 
 impl Opening {
-    // Whether nothing has come yet that ends the front.
+    // Returns true if nothing has ended the preamble yet.
     fn is_over(&self) -> bool
         ensures { IsTrue result ↔ (self.now.end ≡ front_end.Over) }
     {
         matches!(self.end, PreambleEnd::Over)
     }
 
-    // Adds the line that came, if it is one of the front.
+    // Adds the line that was read, if it belongs to the preamble.
     fn add(&mut self) -> Result<(), AllocError>
         ensures { OnOk result (IsAdded (ends_after self.old.line.items front_end.Line) (10 ∷ [])
             self.old self.new) }
@@ -95,7 +95,7 @@ impl Opening {
         self.hold(b"\n")
     }
 
-    // Adds what came last, which has no line feed, if it is one of the front.
+    // Adds a last line without a line feed, if it belongs to the preamble.
     fn add_cut(&mut self) -> Result<(), AllocError>
         ensures { OnOk result (IsAdded (ends_after self.old.line.items front_end.Cut) []
             self.old self.new) }
@@ -104,7 +104,7 @@ impl Opening {
         self.hold(b"")
     }
 
-    // Adds the line that came and its line feed, if it is one of the front.
+    // Adds the line that was read and this line feed, if the line belongs to the preamble.
     fn hold(&mut self, feed: &[u8]) -> Result<(), AllocError>
         ensures { OnOk result (IsAdded self.old.end feed.now self.old self.new) }
     {
@@ -119,8 +119,8 @@ impl Opening {
         Ok(())
     }
 
-    // Where the front has come to so many bytes, looks through it for a fault that is there whatever comes behind: that of a line
-    // behind which stands another.
+    // Searches a long preamble for a fault. Only the fault of a line with another line after it
+    // counts: it stays whatever follows.
     fn look(&mut self, alloc: Global, limit: &mut usize)
         ensures front { self.new.front.items ≡ self.old.front.items }
         ensures end { IsLooked self.old.front.items self.old.end self.new.end }
@@ -136,8 +136,9 @@ impl Opening {
         }
     }
 
-    /// The recording that the lines at the front are, or why they are none. Where one of the first lines is missing, the fault is
-    /// that of the line which stands in its place.
+    /// Parses the preamble as a recording.
+    ///
+    /// If one of the first lines is missing, the fault is at the line that was read instead.
     pub(crate) fn recording(&self, alloc: Global) -> Result<Recording, ReplayFault>
         ensures recording { IfOk result (IsParsed self.now.front.items) }
         ensures whole { OnOk result (IsWhole self.now.end) }
@@ -152,7 +153,8 @@ impl Opening {
         }
     }
 
-    // The recording that the lines at the front are. Where they are none, the line that came last stands behind them.
+    // Parses the preamble as a recording. If it has a fault, returns the fault of the preamble with
+    // the last line after it, if that has one too.
     fn recording_before(&self, alloc: Global, feed: &[u8]) -> Result<Recording, ReplayFault>
         ensures recording { IfOk result (IsParsed self.now.front.items) }
         ensures fault { IfErr result (λ e. IsFaultWith (self.now.line.items ++ feed.now)
@@ -171,7 +173,7 @@ impl Opening {
         }
     }
 
-    // The front, and behind it the line that came last.
+    // Returns the preamble, followed by the line that was read last.
     fn with_line(&self, alloc: Global, feed: &[u8]) -> Result<Vec<u8>, AllocError>
         ensures { IfOk result (λ whole. whole.items
             ≡ self.now.front.items ++ (self.now.line.items ++ feed.now)) }
@@ -183,7 +185,8 @@ impl Opening {
         Ok(whole)
     }
 
-    // The first fault of the front, where its last line is too long to be read whole. No line of that length has a form.
+    // Returns a fault of a preamble whose last line is too long to be read whole. If it has no
+    // other fault, that line has one: no line of its length has a form.
     fn fault_of_long_line(&self, alloc: Global) -> LineFault
         ensures { HasFault front_end.LongLine self.now.front.items self.now.line.items result }
     {
@@ -197,7 +200,7 @@ impl Opening {
     }
 }
 
-// The number of the last line, counted from 1.
+// Returns the number of the last line, from 1.
 fn number_of_last(text: &[u8]) -> usize
     ensures { result ≡ last_line text.now }
 {
@@ -205,7 +208,7 @@ fn number_of_last(text: &[u8]) -> usize
     text[..end].iter().filter(|byte| **byte == b'\n').count() + 1
 }
 
-// What comes of the line for the front: `other` where it is none of it.
+// Returns the end of the preamble after this line: `other` if the line does not belong to it.
 fn end_after(line: &[u8], other: PreambleEnd) -> PreambleEnd
     ensures { result ≡ ends_after line.now other }
 {

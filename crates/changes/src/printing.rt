@@ -1,4 +1,4 @@
-//! What the events of a recording changed.
+//! The changes that the events of a recording made, printed.
 ghost use Rattle.std.specs.Prelude.{◌≡◌, ◌⊎◌, ℕ, List, OnOk, IfOk, IfErr};
 ghost use Rattle.recording.specs.declared.fault.LineFault.{LineFault};
 ghost use Rattle.replay.specs.Outputs.{recording_of};
@@ -22,38 +22,49 @@ use std::alloc::Global;
 use std::hash::RandomState;
 use std::io;
 
-/// Which changes are told, and in what form.
+/// The changes that are reported, and their form.
 #[derive(Clone, Copy, Debug, PartialEq, Eq)]
 pub struct ChangeFilter {
-    /// The one network whose changes are told; if there is none, all are.
+    /// The one network whose changes are reported, or `None` if all changes are.
     pub only: Option<Prefix>,
     /// The form of the lines.
     pub format: Format,
 }
 
-/// What is told of the lines of a recording.
+/// The options of a report.
 #[derive(Clone, Copy, Debug, PartialEq, Eq)]
 pub struct ChangeOptions {
     pub wanted: ChangeFilter,
-    /// Whether it is told too what came of a line that changed nothing, a look-up or what was refused. What is told of a line
-    /// is then written before the next is waited for.
+    /// True if lookups, and refused events and rolls, are reported too. The report of each line is
+    /// then written before the next line is read.
     pub answers: bool,
-    /// Whether a line at fault behind the front is told of, and the next one taken. If not, it ends there.
+    /// True if a line with a fault after the preamble is reported and skipped. If not, it ends the
+    /// run. A last line without a line feed always does.
     pub skips_faults: bool,
-    /// How many lines there are, and whether it is shown how many of them are done.
+    /// The progress that is shown: the number of lines done, and the number of all lines, if known.
     pub progress: Progress,
 }
 
-/// Reads its input line by line as a recording, runs it on one thread, and writes what each of its events changed: first the
-/// routing table of the base and what is due by it (RFC 2328, 16 and 12.4.3), at the number of the base's last line, and then
-/// for each event that was taken the networks whose item is another now, and the summaries that came, left or have another
-/// metric, at the number of its line. No more is held of the input than a line, once its front was read, and the journal is
-/// rolled where it has become long. The writer should hand on at once what it is given. How much is done is shown on `faults`.
+/// Reads the input line by line as a recording, runs it on one thread, and writes what each of its
+/// events changed.
 ///
-/// For a fault at the front, whose lines are those of the header and of the base, nothing is written; for one behind it, what is
-/// told of the lines of before. Where a write fails or memory runs out, also where it runs out over what follows from an event, a
-/// beginning is written: something is missing where a write failed, and no line is cut where memory ran out. A failed write is
-/// told as `Closed` where the writer's error is of the kind `BrokenPipe`, and else as `Write`.
+/// First the base is reported, at the number of its last line: its routing table, and the
+/// summary-LSAs that are due (RFC 2328, 16 and 12.4.3). Then each event that was taken is reported
+/// at the number of its line. A report names the networks whose item changed, and the summary-LSAs
+/// that became due, are no longer due, or have another metric.
+///
+/// Once the preamble is read, only one line of the input is held at a time, and a long journal is
+/// rolled. The writer should pass on at once what it gets. The progress is shown on `faults`.
+///
+/// # Errors
+///
+/// - `Read` if the input cannot be read. Nothing is written, or the report of the lines before.
+/// - `Line` if a line has a fault, or memory runs out at a line of the preamble. At a line of the
+///   preamble nothing is written, or else the report of the lines before it.
+/// - `Closed` if a write fails with an error of the kind `BrokenPipe`, and `Write` if it fails
+///   otherwise. A beginning of the report may be written, but not all of it.
+/// - `Memory` if memory runs out, or an event leaves the core behind. A beginning of the report may
+///   be written, which has no cut line.
 pub fn print_changes<R: io::Read, W: io::Write, F: io::Write>(
     alloc: Global,
     hashing: RandomState,
@@ -106,7 +117,8 @@ pub fn print_changes<R: io::Read, W: io::Write, F: io::Write>(
     }
 }
 
-// Tells what the base gives, and what came of the lines of the recording. `line` is the one that came behind them.
+// Prints the report of the base, and of the lines of the recording. `line` is the line that was
+// read after them.
 fn begin<W: io::Write>(
     alloc: Global,
     opened: OpenedRecording,

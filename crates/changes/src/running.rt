@@ -1,4 +1,4 @@
-//! The run of lines, of each of which is told what it changed.
+//! The run of lines, with a report of what each line changed.
 ghost use Rattle.std.specs.Prelude.{◌+◌, ◌++◌, ◌≡◌, ◌^◌, ◌<◌, ℕ, false, length, map, take, IsTrue, OnOk, IfErr, string_bytes};
 ghost use Rattle.event_core.specs.Cores.{IsCore, IsCurrent};
 ghost use Rattle.event_state.specs.declared.refusal.Refusal.TheVariants as refusal_value;
@@ -17,8 +17,16 @@ use recording::Line;
 use replay::{PrintError, put_lookup, flush_if_full};
 use std::io;
 
-/// Runs the lines, the first of which has its number in `from`, and prints what is told of each of them. Where memory runs out
-/// over an event, it stops there; but where answers are asked for, an event that was refused for it is told of like another.
+/// Runs the lines, and prints the report of each. `from.number` is the number of the first one.
+///
+/// If answers are wanted, an event that was refused with 30 Memory is reported as other refusals
+/// are.
+///
+/// # Errors
+///
+/// Returns the reason why printing stopped. It is `Memory` also if an event leaves the core behind,
+/// or is refused with 30 Memory while no answers are wanted. A beginning of the report may be
+/// written then. After `Memory` it has no cut line, if the buffer had none.
 pub fn print_line_changes<W: io::Write>(
     core: &mut Core,
     from: LineContext,
@@ -47,7 +55,7 @@ pub fn print_line_changes<W: io::Write>(
     Ok(())
 }
 
-/// Runs a line, and prints what is told of it.
+/// Runs a line, and prints its report.
 pub(crate) fn tell_line<W: io::Write>(
     core: &mut Core,
     at: &LineContext,
@@ -69,12 +77,12 @@ pub(crate) fn tell_line<W: io::Write>(
         Line::Lookup(address) => tell_lookup(core, at, address, out, buffer)?,
         Line::Roll => tell_roll(core, at, out, buffer)?,
     }
-    // proof: what holds of every core.
+    // proof: this read of the core gives what holds of every core.
     let _ = core.table();
     Ok(())
 }
 
-// Applies the event, and prints what it changed, or that it was refused.
+// Applies the event, and prints its changes, or that it was refused.
 fn tell_event<W: io::Write>(
     core: &mut Core,
     at: &LineContext,
@@ -107,7 +115,7 @@ fn tell_event<W: io::Write>(
     Ok(())
 }
 
-// Whether memory ran out over an event, and nobody would be told that it is missing.
+// Returns true if memory ran out over an event, and no line would say that it is missing.
 fn is_missed(answers: bool, refusal: Refusal) -> bool
     ensures missed { IsTrue result → (answers ≡ false) × (refusal ≡ refusal_value.Memory) }
     ensures passed { (result ≡ false) → MayPass answers refusal }
@@ -115,7 +123,7 @@ fn is_missed(answers: bool, refusal: Refusal) -> bool
     !answers && refusal == Refusal::Memory
 }
 
-// Prints what the table has for the address, where answers are asked for.
+// Prints the match of the address in the table, if answers are wanted.
 fn tell_lookup<W: io::Write>(
     core: &Core,
     at: &LineContext,
@@ -138,7 +146,7 @@ fn tell_lookup<W: io::Write>(
     Ok(())
 }
 
-// Rolls the core, and prints where that was refused.
+// Rolls the core, and prints a refusal, if answers are wanted.
 fn tell_roll<W: io::Write>(
     core: &mut Core,
     at: &LineContext,
@@ -158,7 +166,7 @@ fn tell_roll<W: io::Write>(
     }
 }
 
-// Prints that the event, or the roll, was refused, where answers are asked for.
+// Prints that the event or roll was refused, if answers are wanted.
 fn tell_refused<W: io::Write>(
     at: &LineContext,
     refusal: Refusal,

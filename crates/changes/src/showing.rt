@@ -1,4 +1,4 @@
-//! What changed, printed.
+//! Changes, printed.
 ghost use Rattle.std.specs.Prelude.{◌++◌, OnOk, IfErr, map, string_bytes};
 ghost use Rattle.std.specs.List.{flat_map};
 ghost use Rattle.std.specs.FinMap.{entries};
@@ -16,7 +16,7 @@ use replay::{PrintError, flush_if_full};
 use route_table::Table;
 use std::io;
 
-/// The whole table, and all that is due.
+/// Prints the whole table, and all summary-LSAs that are due.
 pub(crate) fn show_all<W: io::Write>(
     core: &Core,
     at: &LineContext,
@@ -34,7 +34,7 @@ pub(crate) fn show_all<W: io::Write>(
     Ok(())
 }
 
-// The items of the table.
+// Prints the items of the table.
 fn show_items<W: io::Write>(
     table: &Table,
     at: &LineContext,
@@ -55,7 +55,7 @@ fn show_items<W: io::Write>(
     Ok(())
 }
 
-// What is due in each area.
+// Prints the summary-LSAs that are due in each area.
 fn show_summaries<W: io::Write>(
     summaries: &DueSummaries,
     at: &LineContext,
@@ -75,7 +75,7 @@ fn show_summaries<W: io::Write>(
     Ok(())
 }
 
-// What is due in an area.
+// Prints the summary-LSAs that are due in an area.
 fn show_area<W: io::Write>(
     area: u32,
     list: &[DueSummary],
@@ -96,7 +96,7 @@ fn show_area<W: io::Write>(
     Ok(())
 }
 
-/// What the last event changed.
+/// Prints the changes of the last event.
 pub(crate) fn show_changes<W: io::Write>(
     core: &Core,
     at: &LineContext,
@@ -117,7 +117,7 @@ pub(crate) fn show_changes<W: io::Write>(
     Ok(())
 }
 
-// The items that these networks have now.
+// Prints the items that these networks have now.
 fn show_networks<W: io::Write>(
     networks: &[Prefix],
     table: &Table,
@@ -139,7 +139,7 @@ fn show_networks<W: io::Write>(
     Ok(())
 }
 
-// What changed in each area.
+// Prints the changes of due summary-LSAs in each area.
 fn show_due_changes<W: io::Write>(
     changes: &DueChanges,
     at: &LineContext,
@@ -162,7 +162,7 @@ fn show_due_changes<W: io::Write>(
     Ok(())
 }
 
-// What changed in an area.
+// Prints the changes of due summary-LSAs in an area.
 fn show_metrics<W: io::Write>(
     area: u32,
     metrics: &[(Dest, Option<u32>)],

@@ -1,4 +1,6 @@
-//! The lines that tell what changed in words, each appended to a text. If memory runs out, the text may have a part of the line.
+//! The lines that report changes in words, each appended to a text.
+//!
+//! If memory runs out, the text may have a part of the line.
 ghost use Rattle.std.specs.Prelude.{◌≡◌, ◌++◌, OnOk, string_bytes};
 ghost use Rattle.summary_lists.specs.Lists.{kind_of};
 ghost use Rattle.changes.specs.Lines as told;
@@ -53,7 +55,7 @@ pub(crate) fn put_due(
     Ok(())
 }
 
-// The metric is not printed.
+// The metric of `due` is not printed.
 pub(crate) fn put_undue(
     number: usize,
     area: u32,

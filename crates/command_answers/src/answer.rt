@@ -5,18 +5,18 @@ ghost use Rattle.command_answers.specs.Answers.{faulty, value_of};
 use crate::command_fault::CommandFault;
 use std::alloc::{AllocError, Global};
 
-/// What a command answers. It is told by `tell`.
+/// The answer of a command, which `tell` writes.
 #[derive(Debug, Drop)]
 pub enum Answer {
     /// A text for standard output, with status 0.
     Printed(String),
-    /// A line for standard error.
+    /// A line for standard error, with its status.
     Fault { status: u8, line: String },
-    /// Memory ran out: the line `abr: 30 Memory`, with status 1.
+    /// A lack of memory: the line `abr: 30 Memory`, with status 1.
     NoMemory,
 }
 
-/// The line `abr: FAULT`, or that of want of memory where there is none for it.
+/// Returns the answer with the line `abr: FAULT`, or `NoMemory` if there is no memory for the line.
 pub fn answer_fault(alloc: Global, fault: CommandFault<'_>) -> Answer
     ensures { (value_of result ≡ faulty fault.entry)
         ⊎ (value_of result ≡ faulty CommandFault.Memory) }
@@ -30,7 +30,7 @@ pub fn answer_fault(alloc: Global, fault: CommandFault<'_>) -> Answer
     }
 }
 
-/// The line `abr: FAULT`.
+/// Returns the line `abr: FAULT`.
 pub fn line_of(alloc: Global, fault: CommandFault<'_>) -> Result<String, AllocError>
     ensures { IfOk result (λ line. string_bytes line
         ≡ fault_line (command_fault_text fault.entry)) }

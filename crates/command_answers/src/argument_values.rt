@@ -1,4 +1,4 @@
-//! The words of a command, read.
+//! Words of a command, parsed.
 ghost use Rattle.std.specs.Prelude.{◌≡◌, Ok, Some, IfOk, IfErr, OnErr};
 ghost use Rattle.hex.specs.Hex.{decode_of};
 ghost use Rattle.command_line.specs.Command.{texts_of};
@@ -14,7 +14,7 @@ use std::fmt;
 use thiserror::Error;
 use word_reading::network_of;
 
-/// What `abr one` works on. Addresses are numbers in host order.
+/// The words of `abr one`, parsed. Addresses are in host order.
 #[derive(Debug, Drop)]
 pub struct OneInput {
     /// The Router ID.
@@ -25,10 +25,11 @@ pub struct OneInput {
     pub address: u32,
     /// The bytes of an LSA.
     pub lsa: Vec<u8>,
+    /// The address that is looked up.
     pub lookup: u32,
 }
 
-/// A word that cannot be read, or that memory ran out.
+/// The reason why a word was not parsed: its fault, or a lack of memory.
 #[derive(Clone, Copy, Debug, PartialEq, Eq, Error)]
 pub enum WordFault {
     NotAnAddress,
@@ -52,7 +53,11 @@ impl fmt::Display for WordFault {
     }
 }
 
-/// Reads the words in their order; the first that cannot be read decides.
+/// Parses the words in order.
+///
+/// # Errors
+///
+/// Returns the fault of the first word that cannot be parsed, or `Memory` if memory runs out.
 pub fn read_one(alloc: Global, words: &OneWords<'_>) -> Result<OneInput, WordFault>
     ensures router { IfOk result (λ i. Writes words.now.router.now i.router) }
     ensures area { IfOk result (λ i. Writes words.now.area.now i.area) }
@@ -70,7 +75,11 @@ pub fn read_one(alloc: Global, words: &OneWords<'_>) -> Result<OneInput, WordFau
     })
 }
 
-/// The address of a word, as `192.0.2.1`, in host order.
+/// Parses an address, as `192.0.2.1`. It is returned in host order.
+///
+/// # Errors
+///
+/// Returns `NotAnAddress` if the word is not an address.
 pub fn read_address(word: &str) -> Result<u32, WordFault>
     ensures ok { IfOk result (Writes word.now) }
     ensures fault { OnErr result (¬ IsAddress word.now) }
@@ -82,7 +91,12 @@ pub fn read_address(word: &str) -> Result<u32, WordFault>
     }
 }
 
-/// The bytes of a word in hexadecimal, in either case.
+/// Decodes a word in hexadecimal, in either case.
+///
+/// # Errors
+///
+/// Returns `NotHexadecimal` if the word is not an even number of hexadecimal digits, or `Memory` if
+/// memory runs out.
 pub fn bytes(alloc: Global, word: &str) -> Result<Vec<u8>, WordFault>
     ensures ok { IfOk result (λ bytes. decode_of word.now ≡ Ok bytes.items) }
     ensures fault { IfErr result (IsBytesFault word.now) }
@@ -94,7 +108,11 @@ pub fn bytes(alloc: Global, word: &str) -> Result<Vec<u8>, WordFault>
     }
 }
 
-/// The network of a word, as `203.0.113.0/25`.
+/// Parses a network, as `203.0.113.0/25`.
+///
+/// # Errors
+///
+/// Returns `NotANetwork` if the word is not a network.
 pub fn read_network(word: &str) -> Result<Prefix, WordFault>
     ensures ok { IfOk result (WritesNetwork word.now) }
     ensures fault { OnErr result (IsNoNetwork word.now) }

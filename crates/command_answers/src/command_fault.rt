@@ -13,45 +13,46 @@ use thiserror::Error;
 
 const BEGINNING: &str = "capture takes --router ADDRESS or --begin HEAD";
 
-/// What went wrong with a command.
+/// The fault of a command.
 #[derive(Clone, Copy, Debug, PartialEq, Eq, Error)]
 pub enum CommandFault<'a> {
-    /// A word cannot be read.
+    /// A word that cannot be read.
     Word(WordFault),
-    /// The bytes are no LSA.
+    /// Bytes that are not a valid LSA.
     Wire(WireFault),
-    /// The configuration is none.
+    /// A configuration that is not valid.
     Config(ConfigFault),
-    /// The interface or the LSA was refused.
+    /// An interface or an LSA that was refused.
     Refused(Refusal),
-    /// The file of a recording, of this name, cannot be read.
+    /// A file of this name that cannot be read.
     Read(&'a str),
-    /// The file is no recording.
+    /// A fault of a line of the file.
     Line(LineFault),
-    /// The capture of this name is at fault at this place, in bytes from its first one, which is 0.
+    /// A fault of the capture of this name, at a place in bytes from its first one, which is 0.
     Capture {
         file: &'a str,
         place: u64,
         kind: FaultKind,
     },
-    /// `capture` got neither a Router ID nor a file with a beginning.
+    /// A command `capture` with neither a Router ID nor a file with a beginning.
     Beginning,
-    /// Memory ran out.
+    /// A lack of memory.
     Memory,
-    /// What there is to print could not be written.
+    /// An output that could not be written.
     Write,
-    /// The file of this name, which there is something to write to, could not be written.
+    /// An output file of this name that could not be written.
     WriteTo(&'a str),
-    /// A worker's thread could not be started.
+    /// A worker's thread that could not be started.
     Spawn,
-    /// There was no place for a reader of the published table.
+    /// A reader for which there was no slot at the published table.
     Place,
-    /// A look-up got no entry to the published table, or one to another table than that of the events.
+    /// A lookup that could not enter the published table, or that saw another table than expected.
     NoEntry,
 }
 
 impl CommandFault<'_> {
-    /// The status of the program: 2 for a word that cannot be read and where there is no beginning, and else 1.
+    /// Returns the status of the program: 2 for a word that cannot be read or a missing beginning,
+    /// and else 1.
     pub fn status(self) -> u8
         ensures { result ≡ status_of self.entry }
     {
@@ -88,7 +89,7 @@ impl fmt::Display for CommandFault<'_> {
     }
 }
 
-// What is said between a capture's name and the place of its fault.
+// Returns the words between the name of a capture and the place of its fault.
 fn place_words(kind: FaultKind) -> &'static str
     ensures { result.now ≡ place_words kind }
 {

@@ -15,10 +15,11 @@ use ospf_types::memory::Memory;
 use std::alloc::{AllocError, Global};
 use std::io;
 
-/// The answer of `decode`: the lines `age A options OO kind K id ADDR router ADDR seq SSSSSSSS sum CCCC
-/// length L` and `body HEX`, or the fault of the word or of its LSA. The age is in seconds; Options,
-/// sequence number, checksum and body are in hexadecimal. In its long form each field of header and body
-/// has a line, by its name in RFC 2328, A.4.
+/// Returns the answer of `decode`: the lines of an LSA, or the fault of the word or of its LSA.
+///
+/// The short form has the lines `age A options OO kind K id ADDR router ADDR seq SSSSSSSS sum CCCC
+/// length L` and `body HEX`. The age is in seconds; Options, sequence number, checksum and body are
+/// in hexadecimal. In the long form each field of header and body has its name (RFC 2328, A.4).
 pub fn answer_decode(alloc: Global, word: &str, long: bool) -> Answer
     ensures { IsDecodeAnswer long word.now (value_of result) }
 {
@@ -28,8 +29,10 @@ pub fn answer_decode(alloc: Global, word: &str, long: bool) -> Answer
     }
 }
 
-/// Prints an LSA. The answer is written to `out`, or its fault to `faults`; what is returned is the
-/// status: 0 with the lines, 2 for a word that is not hexadecimal, and else 1, also where a writer fails.
+/// Decodes an LSA, and writes the answer to `out`, or its fault to `faults`.
+///
+/// Returns the status: 0 with the lines, 2 for a word that is not hexadecimal, and else 1, also if
+/// a writer fails.
 pub fn decode<W: io::Write, F: io::Write>(
     alloc: Global,
     word: &str,
@@ -43,7 +46,7 @@ pub fn decode<W: io::Write, F: io::Write>(
     tell(&answer_decode(alloc, word, long), out, faults)
 }
 
-// The lines of the LSA that the word is.
+// Returns the lines of the LSA that the word spells.
 fn decoded(alloc: Global, word: &str, long: bool) -> Result<String, CommandFault<'static>>
     ensures lines { IfOk result (λ lines. Decodes long word.now (string_bytes lines)) }
     ensures fault { IfErr result (IsDecodeFault word.now) }
@@ -56,7 +59,7 @@ fn decoded(alloc: Global, word: &str, long: bool) -> Result<String, CommandFault
     Ok(lines_of(alloc, &lsa)?)
 }
 
-// Each field, a line each.
+// Returns the long form.
 fn in_words(alloc: Global, lsa: &Checked) -> Result<String, Memory>
     ensures { IfOk result (λ lines. string_bytes lines ≡ lsa_in_words lsa.now) }
 {
@@ -65,7 +68,7 @@ fn in_words(alloc: Global, lsa: &Checked) -> Result<String, Memory>
     Ok(lines)
 }
 
-// Header and body, each with its line feed.
+// Returns the short form.
 fn lines_of(alloc: Global, lsa: &Checked) -> Result<String, AllocError>
     ensures { IfOk result (λ lines. string_bytes lines ≡ decoded_text lsa.now) }
 {
@@ -92,7 +95,7 @@ fn ids_text(alloc: Global, header: &Header) -> Result<String, AllocError>
     Ok(format!(in alloc; "id {id} router {router}")?)
 }
 
-// What tells one instance of the LSA from another.
+// Returns the sequence number, the checksum and the length.
 fn instance_text(alloc: Global, header: &Header) -> Result<String, AllocError>
     ensures { IfOk result (λ text. string_bytes text ≡ instance header.now) }
 {

@@ -12,8 +12,9 @@ use std::alloc::Global;
 use std::io;
 use word_reading::number_of;
 
-/// The answer of `fault`: a line that says what the number means and what to do, or that the word is not
-/// a number of a fault or a refusal.
+/// Returns the answer of `fault`: a line that says what the number means and what to do.
+///
+/// It is a fault if the word is not the number of a fault or a refusal.
 pub fn answer_number(alloc: Global, word: &str) -> Answer
     ensures { IsNumberAnswer word.now (value_of result) }
 {
@@ -23,9 +24,11 @@ pub fn answer_number(alloc: Global, word: &str) -> Answer
     }
 }
 
-/// Says what the number of a fault or a refusal means. The answer is written to `out`, or its fault to
-/// `faults`; what is returned is the status: 0 with the line, 2 for a word that is no such number, and 1
-/// if memory runs out or a writer fails.
+/// Explains the number of a fault or a refusal: writes the answer to `out`, or its fault to
+/// `faults`.
+///
+/// Returns the status: 0 with the line, 2 if the word is not such a number, and 1 if memory runs
+/// out or a writer fails.
 pub fn fault<W: io::Write, F: io::Write>(
     alloc: Global,
     word: &str,

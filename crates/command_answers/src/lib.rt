@@ -1,5 +1,6 @@
-//! What the commands `one`, `decode` and `fault` answer, and words that name no command: each answer is a
-//! value, and a thin writer tells it.
+//! The answers of the commands `one`, `decode` and `fault`, and of words that name no command.
+//!
+//! Each answer is a value, which `tell` writes.
 #![tactic(auto)]
 
 mod answer;

@@ -25,8 +25,7 @@ use std::hash::RandomState;
 use std::io;
 use std::sync::Wait;
 
-/// The answer of `one`: the line `lookup ADDR SERIAL MATCH`, or the fault of a word, of the LSA or of an
-/// event.
+/// Returns the answer of `one`: the line `lookup ADDR SERIAL MATCH`, or a fault.
 pub fn answer_one<S: Wait>(
     rt: &S,
     alloc: Global,
@@ -41,9 +40,11 @@ pub fn answer_one<S: Wait>(
     }
 }
 
-/// Looks an address up in the table that one LSA gives. The answer is written to `out`, or its fault to
-/// `faults`; what is returned is the status: 0 with the line, 2 for a word that cannot be read, and else
-/// 1, also where a writer fails.
+/// Looks an address up in the table that one LSA gives. Writes the answer to `out`, or its fault to
+/// `faults`.
+///
+/// Returns the status: 0 with the line, 2 for a word that cannot be read, and else 1, also if a
+/// writer fails.
 pub fn one<S: Wait, W: io::Write, F: io::Write>(
     rt: &S,
     alloc: Global,
@@ -58,7 +59,7 @@ pub fn one<S: Wait, W: io::Write, F: io::Write>(
     tell(&answer_one(rt, alloc, hashing, words), out, faults)
 }
 
-// The line, with its line feed.
+// Returns the line, with its line feed.
 fn lookup_line<S: Wait>(
     rt: &S,
     alloc: Global,
@@ -72,7 +73,7 @@ fn lookup_line<S: Wait>(
     look(rt, alloc, hashing, &input, lsa)
 }
 
-// The words, all of them, and then the LSA.
+// Parses all words, and then the LSA.
 fn read_given(
     alloc: Global,
     words: &OneWords<'_>,
@@ -86,7 +87,7 @@ fn read_given(
     Ok((input, lsa))
 }
 
-// Opens an engine for a router with one area, looks up there, and closes it.
+// Opens an engine for a router with one area, looks the address up, and closes the engine.
 fn look<S: Wait>(
     rt: &S,
     alloc: Global,
@@ -104,7 +105,7 @@ fn look<S: Wait>(
     line
 }
 
-// An engine, and its one forwarder.
+// Opens an engine with one forwarder.
 fn open_engine<S: Wait>(
     rt: &S,
     alloc: Global,
@@ -129,7 +130,7 @@ fn open_engine<S: Wait>(
     }
 }
 
-// The interface comes up, the LSA is installed, and the address is looked up.
+// Submits the interface and the LSA, and looks the address up.
 fn look_in<S: Wait>(
     rt: &S,
     alloc: Global,
@@ -156,7 +157,7 @@ fn look_in<S: Wait>(
     }
 }
 
-// The forwarder that knows both events.
+// Submits both events. Returns the forwarder, which knows both.
 fn take_both<S: Wait>(
     rt: &S,
     engine: &Engine,
@@ -185,8 +186,10 @@ fn take_both<S: Wait>(
     submit(rt, engine, forwarder, Event::Install { scope, lsa }, 1)
 }
 
-// Submits an event to an engine of whose events the forwarder knows this many. It knows this one too then.
-// What the engine tells counts only where it tells of no other events.
+// Submits an event to an engine of whose events the forwarder knows `count`. Returns the forwarder,
+// which then knows this event too.
+//
+// An answer counts only if its token is for no other events.
 fn submit<S: Wait>(
     rt: &S,
     engine: &Engine,
@@ -222,14 +225,14 @@ fn submit<S: Wait>(
     }
 }
 
-// Whether the journal is said to be full, which the two events do not make it.
+// Returns true if the refusal is 28 JournalFull, which two events cannot cause.
 fn is_full(refusal: Refusal) -> bool
     ensures { IsTrue result ↔ (refusal ≡ JournalFull) }
 {
     matches!(refusal, Refusal::JournalFull)
 }
 
-// The forwarder learns a token that is for so many events.
+// Learns the token, if it is for `count` events.
 fn learn(forwarder: Forwarder, told: Told, count: u64) -> Result<Forwarder, CommandFault<'static>>
     requires name { told.name ≡ forwarder.name }
     requires first { forwarder.name.base.serial ≡ 0 }
@@ -244,7 +247,7 @@ fn learn(forwarder: Forwarder, told: Told, count: u64) -> Result<Forwarder, Comm
     Ok(forwarder.learn(told))
 }
 
-// The line of what was seen of this address, where that follows two events.
+// Returns the line with the match of the address, if the table reflects two events.
 fn line_of(alloc: Global, seen: &Seen, address: u32) -> Result<String, CommandFault<'static>>
     requires address { seen.now.address ≡ address }
     requires first { seen.now.name.base.serial ≡ 0 }

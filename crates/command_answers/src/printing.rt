@@ -1,17 +1,20 @@
-//! What the program writes.
+//! The output of the program.
 ghost use Rattle.command_answers.specs.Answers.{IsTold, IsSaid, IsUnwrittenSaid, value_of, printed};
 
 use crate::answer::Answer;
 use replay::{WriteError, write_whole};
 use std::io;
 
+/// The line for a lack of memory.
 pub const NO_MEMORY: &str = "abr: 30 Memory\n";
 
 const CANNOT_WRITE: &str = "abr: cannot write\n";
 
-/// Writes the answer to its stream, `out` or `faults`. What is returned is the status of the program:
-/// that of the answer, but 1 where a writer fails. Where `out` fails, `faults` is told, but nothing is said
-/// where the error of `out` is of the kind `BrokenPipe`: the reading end of its pipe was closed.
+/// Writes the answer to its stream, `out` or `faults`. Returns the status of the program.
+///
+/// It is the status of the answer, or 1 if a writer fails. If `out` fails, a line on `faults` says
+/// so. There is no such line if the error of `out` is of the kind `BrokenPipe`: the reading end of
+/// its pipe was closed.
 pub fn tell<W: io::Write, F: io::Write>(answer: &Answer, out: &mut W, faults: &mut F) -> u8
     ensures { IsTold (value_of answer.now) result (W.contents out.old) (W.contents out.new)
         (F.contents faults.old) (F.contents faults.new) }
@@ -33,8 +36,7 @@ fn print<W: io::Write, F: io::Write>(text: &str, out: &mut W, faults: &mut F) ->
     }
 }
 
-/// Says that the output was not written whole, but nothing where its pipe was closed. What is returned is
-/// the status, 1.
+/// Writes that the output was not written whole, unless its pipe was closed. Returns the status, 1.
 pub fn say_unwritten<F: io::Write>(why: WriteError, faults: &mut F) -> u8
     ensures { IsUnwrittenSaid why result (F.contents faults.old) (F.contents faults.new) }
 {
@@ -44,8 +46,7 @@ pub fn say_unwritten<F: io::Write>(why: WriteError, faults: &mut F) -> u8
     }
 }
 
-/// Writes the line of a fault, which has this status. What is returned is that status, but 1 where the
-/// writer fails.
+/// Writes the line of a fault with this status. Returns the status, or 1 if the writer fails.
 pub fn say<F: io::Write>(line: &str, status: u8, faults: &mut F) -> u8
     ensures { IsSaid line.now status result (F.contents faults.old) (F.contents faults.new) }
 {

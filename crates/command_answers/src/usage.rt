@@ -8,7 +8,8 @@ use clap::Error;
 use command_line::Usage;
 use std::alloc::Global;
 
-/// The text of help or of a mistake, with status 0 or 2.
+/// Returns the text of help with status 0, or of a mistake with status 2. It is `NoMemory` if
+/// memory runs out.
 pub fn answer_usage(alloc: Global, usage: Usage) -> Answer
     ensures { IsUsageAnswer usage (value_of result) }
 {

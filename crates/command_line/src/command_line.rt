@@ -1,4 +1,4 @@
-//! What the command line asks for.
+//! The command lines of the program.
 ghost use Rattle.std.specs.Prelude.{ℕ, Bool, ◌≡◌, ◌≢◌, ◌⊎◌, IfOk, IfErr, IfSome, IsNone, Option, codes, false};
 ghost use Rattle.clap.specs.Words.{Text, app_of, rows_of, found_of, rule_of, subcommand_of, subcommand_rows_of, kind_of};
 ghost use Rattle.clap.specs.declared.builder.command.Command.TheViews.{out-Command};
@@ -13,35 +13,41 @@ use clap::{Arg, ArgAction, ArgMatches, Command, Error};
 use output_format::{Format, Show};
 use std::alloc::{AllocError, Global};
 
-// What `--version` says.
+// The version that `--version` prints.
 const VERSION: &str = "0.1.0";
 
-// How many workers there may be.
+// The minimum number of workers.
 const FEWEST_WORKERS: usize = 1;
 
+// The maximum number of workers.
 const MOST_WORKERS: usize = 16;
 
-// What is said of the word FILE.
+// The help of the word FILE.
 const FILE_HELP: &str = "The recording, or - for standard input";
 
-// What is said of the word FILE of `capture`.
+// The help of the word FILE of `capture`.
 const CAPTURE_HELP: &str = "The capture, a pcap or a pcapng, or - for standard input";
 
-// What is said of the word ADDRESS of `explain`.
+// The help of the word ADDRESS of `explain`.
 const ADDRESS_HELP: &str =
     "The address; with --due a network, or the Router ID of an AS boundary router";
 
-// A command line with `one`.
+// An example of a command line with `one`.
 const ONE_EXAMPLE: &str = "Example: abr one 10.0.0.1 0.0.0.0 192.0.2.1 \
     000102010a0000010a00000180000001e986002400000001c0000200ffffff000300000a 192.0.2.77";
 
-// What `--show` takes.
+// The values of `--show`.
 const SHOW_NAMES: &[&str] = &["routes", "due", "lsdb", "journal"];
 
-// What `--format` takes.
+// The values of `--format`.
 const FORMAT_NAMES: &[&str] = &["text", "json"];
 
-/// The job that the words name, the first of them the program's name.
+/// Returns the command that the words select. The first word is the name of the program.
+///
+/// # Errors
+///
+/// Returns the parser's message if the words are not a valid command line, or if they ask for help
+/// or the version. Returns 30 Memory if memory runs out.
 pub fn job<'a>(alloc: Global, words: &'a [&'a str]) -> Result<Job<'a>, Usage>
     ensures job { IfOk result (IsJob (subcommand_of program (command_words words.entry.now))) }
     ensures fit { IfOk result IsFit }
@@ -86,8 +92,8 @@ fn usage_of(error: Error) -> Usage
     }
 }
 
-// A required word always has a value, and an option with a default too, but no clause of the matches
-// says so of a subcommand's words.
+// Returns the error of a missing word. It does not occur: a required word always has a value, and
+// so has an option with a default. But no clause of the parser says so for a subcommand.
 fn missing_word(alloc: Global) -> Result<Error, AllocError>
     ensures { IfOk result (λ e. kind_of e ≡ ErrorKind.MissingRequiredArgument) }
 {
@@ -213,7 +219,7 @@ fn replay_job<'a>(words: &ArgMatches<'a>) -> Option<Job<'a>>
     })
 }
 
-// Whether it was asked to show how many lines are done.
+// Returns true if `--progress` was given.
 fn progress_of(words: &ArgMatches<'_>) -> Option<bool>
     ensures some { IfSome result (HasFlag (rows_of (found_of words.now)) (codes "progress")) }
     ensures none { IsNone result → (progress : Bool)
@@ -235,7 +241,7 @@ fn one_words<'a>(matches: &ArgMatches<'a>) -> Option<OneWords<'a>>
     })
 }
 
-// The number that the word writes, if there may be so many workers.
+// Returns the number that the word spells, if it is a valid number of workers.
 fn workers_of(word: &str) -> Option<usize>
     ensures some { IfSome result (WritesWorkers word.now) }
     ensures none { IsNone result → (n : ℕ) → ¬ WritesWorkers word.now n }
@@ -559,7 +565,7 @@ fn format_parser<'a>() -> ValueParser<'a>
     ValueParser::Names(FORMAT_NAMES)
 }
 
-// A word that has to be there.
+// Returns a required word.
 fn word<'a>(alloc: Global, id: &'a str, help: &'a str) -> Arg<'a>
     ensures rule { rule_of result ≡ required_word id.entry.now }
     ensures local { result.global ≡ false }

@@ -1,4 +1,5 @@
-//! The command line of the program `abr`: which command its words ask for, and with what.
+//! The command line of the program `abr`: the command that its words select, and the arguments of
+//! the command.
 #![tactic(auto)]
 
 mod command;

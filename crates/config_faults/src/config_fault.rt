@@ -8,15 +8,16 @@ use ospf_types::config::{AreaConfig, Config, Range, Stub};
 use ospf_types::lsa::LS_INFINITY;
 use ospf_types::prefix::Prefix;
 
-/// How many areas a router has at most.
+/// The most areas that a configuration may have.
 pub const MAX_AREAS: usize = 16;
 
-// How many ranges an area has at most.
+// The most ranges that an area may have.
 const MOST_RANGES: usize = 32;
 
 const BACKBONE: u32 = 0;
 
-/// The first fault that the configuration has, which is never `Memory`.
+/// Returns the first fault of the configuration, in the order of `ConfigFault`, or `None` if it has
+/// no fault. The fault is never `Memory`.
 pub fn fault_in(config: &Config) -> Option<ConfigFault>
     ensures { result ≡ config_fault_of config.now }
 {
@@ -42,7 +43,7 @@ fn has_wrong_areas(areas: &[AreaConfig]) -> bool
     areas.is_empty() || areas.len() > MAX_AREAS || has_alike(areas)
 }
 
-// Whether two areas have one Area ID.
+// Returns true if two areas have the same Area ID.
 fn has_alike(areas: &[AreaConfig]) -> bool
     ensures { result ≡ has_alike areas.now }
 {
@@ -60,7 +61,7 @@ fn any_with_id(areas: &[AreaConfig], id: u32) -> bool
     areas.iter().any(|area| area.id == id)
 }
 
-// Whether two ranges of one area overlap.
+// Returns true if two ranges of the same area overlap.
 fn any_overlap(areas: &[AreaConfig]) -> bool
     ensures { result ≡ list_any (λ a. has_overlap a.ranges) areas.now }
 {
@@ -77,7 +78,7 @@ fn has_overlap(ranges: &[Range]) -> bool
     }
 }
 
-// Whether each range stands before the next one, in the order of their networks.
+// Returns true if the ranges are in strictly ascending order of their prefixes.
 fn is_ascending(ranges: &[Range]) -> bool
     ensures value { result ≡ is_ascending ranges.now }
     ensures masked { result ≡ true → All (λ range. IsMasked range.prefix) ranges.now }
@@ -104,8 +105,8 @@ fn is_before_first(range: Range, ranges: &[Range]) -> bool
     }
 }
 
-// Whether a range overlaps the next one. Of ranges that ascend, one that covers any later one covers
-// the next one.
+// Returns true if a range overlaps the next one. If ranges ascend, a range that covers any later
+// one also covers the next one.
 fn has_next_overlap(ranges: &[Range]) -> bool
     ensures { result ≡ has_next_overlap ranges.now }
 {
@@ -182,7 +183,7 @@ fn is_costly(stub: Option<Stub>) -> bool
     }
 }
 
-// Whether an area has more ranges than it may.
+// Returns true if an area has more ranges than it may.
 fn any_crowded(areas: &[AreaConfig]) -> bool
     ensures { result ≡ list_any (λ a. nat_lt 32 (length a.ranges)) areas.now }
 {

@@ -4,24 +4,24 @@ ghost use Rattle.config_faults.specs.Texts.{config_fault_text};
 use std::fmt;
 use thiserror::Error;
 
-/// What is wrong with a configuration: the first of these in this order.
+/// A fault of a configuration. `fault_in` returns the first one in this order.
 #[derive(Clone, Copy, Debug, PartialEq, Eq, Error)]
 pub enum ConfigFault {
-    /// No area, more than 16, or two with one Area ID.
+    /// There is no area, there are more than 16, or two have the same Area ID.
     Areas,
-    /// Two ranges of one area of which one covers the other.
+    /// One range of an area covers another one of the same area.
     RangesOverlap,
     /// The backbone is a stub area.
     BackboneStub,
     /// The default cost of a stub area is LSInfinity or more.
     Cost,
-    /// More than 32 ranges in an area.
+    /// An area has more than 32 ranges.
     RangeCount,
     /// Memory ran out.
     Memory,
 }
 
-/// The number and the name, as `40 Areas`.
+/// Prints the number and the name, as in `40 Areas`.
 impl fmt::Display for ConfigFault {
     ghost output = { λ fault. Some (config_fault_text fault) };
 

@@ -1,4 +1,5 @@
-//! What a router's configuration must not be (RFC 2328, 3.5, 3.6 and C.2): its areas, their ranges and their default costs.
+//! The faults of a router's configuration (RFC 2328, 3.5, 3.6 and C.2): of its areas, their address
+//! ranges and their default costs.
 #![tactic(auto)]
 
 mod config_fault;

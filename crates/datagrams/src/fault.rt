@@ -4,20 +4,22 @@ ghost use Rattle.datagrams.specs.Text.{datagram_fault_text};
 use std::fmt;
 use thiserror::Error;
 
-/// Why bytes are no IPv4 datagram: the first of these, in this order, that holds.
+/// The reason why bytes are not a valid IPv4 datagram. `read_datagram` returns the first one in
+/// this order.
 #[derive(Clone, Copy, Debug, PartialEq, Eq, Error)]
 pub enum DatagramFault {
-    /// Fewer than 20 bytes, a version that is not 4, or a header whose length is below 20 bytes or
-    /// goes past the bytes (RFC 791, 3.1).
+    /// There are fewer than 20 bytes, or the version is not 4 (RFC 791, 3.1). Or the length of the
+    /// header is below 20 bytes or greater than the number of bytes.
     Header,
-    /// The total length is below the header's, or goes past the bytes: the capture cut the packet.
+    /// The total length is below the header's, or greater than the number of bytes, as in a packet
+    /// that the capture cut off.
     Length,
-    /// A fragment that is not the last and has a payload of no whole blocks of 8 bytes, or one that
+    /// The payload of a fragment that is not the last is not whole blocks of 8 bytes, or a fragment
     /// ends past 65535.
     Fragment,
 }
 
-/// The number and the name, as `80 Header`.
+/// Prints the number and the name, as in `80 Header`.
 impl fmt::Display for DatagramFault {
     ghost output = { λ fault. Some (datagram_fault_text fault) };
 

@@ -1,4 +1,4 @@
-//! Fragments put together (RFC 791, 3.2).
+//! The reassembly of datagrams from fragments (RFC 791, 3.2).
 ghost use Rattle.std.specs.Prelude.{◌≡◌, ◌≤◌, [], length, OnOk, OnErr};
 ghost use Rattle.std.specs.List.{position};
 
@@ -10,17 +10,19 @@ use ospf_types::memory::Memory;
 use std::alloc::Global;
 use std::marker::Model;
 
-/// Of how many datagrams parts are kept at most.
+/// The most datagrams of which parts are kept.
 pub const MOST: usize = 64;
 
-/// The datagrams of which fragments came, but not all. It keeps parts of at most `MOST` datagrams, of
-/// each at most `LONGEST` bytes. Where one more begins, the one that began first is forgotten. It has
-/// no clock, so parts of a datagram stay until then if the others never come.
+/// The datagrams of which some fragments were received, but not all.
+///
+/// It keeps parts of at most `MOST` datagrams, with at most `LONGEST` bytes each. If one more
+/// begins, the one that began first is forgotten. There is no clock: until then, parts of a
+/// datagram stay even if the others never arrive.
 pub struct Fragments {
     partials: Vec<Partial>,
 }
 
-// proof: one call drops it, in place of a drop of each part wherever one is held.
+// proof: a value is dropped by one call, not part by part at each exit of a function.
 impl Drop for Fragments {
     fn drop(self) {
         let Fragments {
@@ -29,8 +31,7 @@ impl Drop for Fragments {
     }
 }
 
-/// Contracts see what is kept of each datagram, from the one that began first to the one that began
-/// last.
+/// Contracts see the parts of each datagram, in the order in which the datagrams began.
 impl Model for Fragments {
     ghost use Rattle.std.specs.Prelude.{◌≤◌, List, length};
     ghost use Rattle.datagrams.specs.Kept.{Kept};
@@ -50,7 +51,7 @@ impl Fragments {
     ghost use Rattle.datagrams.specs.declared.key.Key.{Key};
     ghost use Rattle.datagrams.specs.Keeping.{AreApart, AreShort, Answers, has_key, kept_of};
 
-    /// No fragment came.
+    /// Creates an empty collection.
     pub fn new(alloc: Global) -> Fragments
         ensures value { result ≡ [] }
         ensures nothing { (key : Key) → IsMadeOf [] (kept_of key result) }
@@ -60,7 +61,7 @@ impl Fragments {
         }
     }
 
-    /// Of how many datagrams parts are kept.
+    /// Returns the number of datagrams of which parts are kept.
     pub fn count(&self) -> usize
         ensures value { result ≡ length self.now }
         ensures few { result ≤ MOST }
@@ -70,10 +71,17 @@ impl Fragments {
         self.partials.len()
     }
 
-    /// Takes a fragment. Answers the payload of its datagram, if that is whole with it, and forgets
-    /// the datagram. Fragments may come in any order, more than once, and overlap: the byte of the one
-    /// that came last counts. Where fragments contradict each other about the end of their datagram,
-    /// it is forgotten. A datagram that is no fragment is answered at once.
+    /// Takes a fragment. If its datagram is whole with it, forgets the datagram and returns its
+    /// payload. Otherwise returns `None`.
+    ///
+    /// Fragments may arrive in any order, more than once, and overlap: the byte received last
+    /// counts. If fragments contradict each other about the end of their datagram, it is forgotten.
+    /// The payload of a datagram that is not a fragment is returned at once. An exception is one
+    /// that contradicts kept parts with the same addresses, identification and protocol.
+    ///
+    /// # Errors
+    ///
+    /// Returns `Memory` if memory runs out. Nothing changes then.
     pub fn take(
         &mut self,
         alloc: Global,
@@ -81,9 +89,9 @@ impl Fragments {
     ) -> Result<Option<Vec<u8>>, Memory>
         ensures kept { OnOk result (self.new ≡ kept_with fragment.now self.old) }
         ensures answer { Answers result (payload_with fragment.now self.old) }
-        // Where memory runs out, nothing changes.
+        // If memory runs out, nothing changes.
         ensures unchanged { OnErr result (self.new ≡ self.old) }
-        // It answers and keeps what all the fragments make that came and were not forgotten.
+        // The result and the kept parts are made of all fragments received and not forgotten.
         ensures taken { Takes fragment.now self.old self.new result }
     {
         let key = Key::of(fragment);
@@ -93,7 +101,7 @@ impl Fragments {
         }
     }
 
-    // Where the datagram with the key is.
+    // Returns the index of the datagram with the key.
     fn place_of(&self, key: &Key) -> Option<usize>
         ensures { result ≡ position (has_key key.now) self.now }
     {

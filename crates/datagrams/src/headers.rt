@@ -1,4 +1,4 @@
-//! What a link puts before a packet.
+//! The headers that a link puts before a packet.
 ghost use Rattle.datagrams.specs.Frames.{Finds, IsEthernet, IsCookedV1, IsCookedV2, IsHighFirst, IsAnyFirst, IsVersion4, IsPast};
 
 use crate::tags::{behind_tags, behind_type};
@@ -6,13 +6,13 @@ use crate::tags::{behind_tags, behind_type};
 /// The length of the two addresses of an Ethernet frame, in bytes.
 const ADDRESSES: usize = 12;
 
-/// The bytes of a cooked header of version 1 before the protocol.
+/// The number of bytes before the protocol in a cooked header of version 1.
 const COOKED_V1_FRONT: usize = 14;
 
-/// The bytes of a cooked header of version 2 behind the protocol.
+/// The number of bytes after the protocol in a cooked header of version 2.
 const COOKED_V2_BACK: usize = 18;
 
-/// What is behind so many bytes.
+/// Returns the bytes after the first `count`, if there are as many.
 fn past(count: usize, bytes: &[u8]) -> Option<&[u8]>
     ensures { Finds result (IsPast count bytes.now) }
 {
@@ -22,28 +22,28 @@ fn past(count: usize, bytes: &[u8]) -> Option<&[u8]>
     Some(&bytes[count..])
 }
 
-/// What is behind the header of an Ethernet frame that has the EtherType of IPv4.
+/// Returns the bytes after the header of an Ethernet frame, if its EtherType is IPv4.
 pub(crate) fn behind_ethernet(frame: &[u8]) -> Option<&[u8]>
     ensures { Finds result (IsEthernet frame.now) }
 {
     behind_tags(past(ADDRESSES, frame)?)
 }
 
-/// What is behind a cooked header of version 1 whose protocol is IPv4.
+/// Returns the bytes after a cooked header of version 1, if its protocol is IPv4.
 pub(crate) fn behind_cooked_v1(frame: &[u8]) -> Option<&[u8]>
     ensures { Finds result (IsCookedV1 frame.now) }
 {
     behind_type(past(COOKED_V1_FRONT, frame)?)
 }
 
-/// What is behind a cooked header of version 2 whose protocol is IPv4.
+/// Returns the bytes after a cooked header of version 2, if its protocol is IPv4.
 pub(crate) fn behind_cooked_v2(frame: &[u8]) -> Option<&[u8]>
     ensures { Finds result (IsCookedV2 frame.now) }
 {
     past(COOKED_V2_BACK, behind_type(frame)?)
 }
 
-/// What is behind the address family of IPv4, its highest byte first.
+/// Returns the bytes after the address family, if it is IPv4, with the highest byte first.
 pub(crate) fn behind_family(frame: &[u8]) -> Option<&[u8]>
     ensures { Finds result (IsHighFirst frame.now) }
 {
@@ -53,7 +53,7 @@ pub(crate) fn behind_family(frame: &[u8]) -> Option<&[u8]>
     }
 }
 
-/// What is behind the address family of IPv4, in either byte order.
+/// Returns the bytes after the address family, if it is IPv4, in either byte order.
 pub(crate) fn behind_any_family(frame: &[u8]) -> Option<&[u8]>
     ensures { Finds result (IsAnyFirst frame.now) }
 {
@@ -63,7 +63,7 @@ pub(crate) fn behind_any_family(frame: &[u8]) -> Option<&[u8]>
     }
 }
 
-/// The frame, if it begins as a packet of version 4 does.
+/// Returns the frame, if it begins as a packet of version 4 does.
 pub(crate) fn version_4(frame: &[u8]) -> Option<&[u8]>
     ensures { Finds result (IsVersion4 frame.now) }
 {

@@ -2,7 +2,7 @@ ghost use Rattle.std.specs.Prelude.{◌≡◌};
 
 use crate::datagram::Datagram;
 
-/// What tells a datagram from others: its fragments have these in common (RFC 791, 3.2).
+/// The key of a datagram: the fields that all its fragments share (RFC 791, 3.2).
 #[derive(Clone, Copy, Debug)]
 pub(crate) struct Key {
     source: u32,

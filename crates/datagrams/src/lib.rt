@@ -1,4 +1,4 @@
-//! The IPv4 datagrams of captured frames (RFC 791), with fragments put together.
+//! The IPv4 datagrams of captured frames (RFC 791), reassembled from fragments.
 #![tactic(auto)]
 
 mod datagram;

@@ -5,20 +5,21 @@ use crate::headers::{
     version_4,
 };
 
-/// What the frames of a capture begin with. The numbers are those of the LINKTYPE_ list.
+/// The link type of a capture: the header at the start of its frames. The numbers are from the
+/// LINKTYPE_ list.
 #[derive(Clone, Copy, Debug, PartialEq, Eq)]
 pub enum LinkType {
-    /// 0: an address family of 4 bytes, in the byte order of the machine that captured.
+    /// 0: an address family of 4 bytes, in the byte order of the capturing machine.
     Null,
     /// 1: Ethernet, with any number of VLAN tags.
     Ethernet,
     /// 12, 101 and 228: the packet itself.
     Raw,
-    /// 108: an address family of 4 bytes, the highest byte first.
+    /// 108: an address family of 4 bytes, with the highest byte first.
     Loop,
-    /// 113: Linux's cooked header of 16 bytes.
+    /// 113: the cooked header of Linux with 16 bytes.
     CookedV1,
-    /// 276: Linux's cooked header of 20 bytes.
+    /// 276: the cooked header of Linux with 20 bytes.
     CookedV2,
 }
 
@@ -27,7 +28,7 @@ impl LinkType {
     ghost use Rattle.datagrams.specs.Frames.{Finds};
     ghost use Rattle.datagrams.specs.Links.{Carries, link_of_number};
 
-    /// The link type with the number; none if it is not one of these.
+    /// Returns the link type with the number, or `None` for any other number.
     pub fn of_number(number: u16) -> Option<LinkType>
         ensures { result ≡ link_of_number number }
     {
@@ -42,8 +43,8 @@ impl LinkType {
         }
     }
 
-    /// The IPv4 packet that the frame carries, and behind it what the link has put there. None if the
-    /// frame carries another protocol, or is too short to tell.
+    /// Returns the IPv4 packet that the frame carries, with all bytes that follow it in the frame.
+    /// Returns `None` if the frame carries another protocol, or is too short to show it.
     pub fn ipv4_of(self, frame: &[u8]) -> Option<&[u8]>
         ensures { Finds result (Carries self frame.now) }
     {

@@ -1,4 +1,4 @@
-//! What came of a datagram.
+//! The received part of a datagram.
 ghost use Rattle.datagrams.specs.Kept.{count_missing};
 ghost use Rattle.std.specs.Prelude.{◌≡◌, ◌≤◌, ◌+◌, ◌++◌, ◌&&◌, nat_lt, OnOk, OnErr, length, take, drop, replicate, true};
 
@@ -8,17 +8,17 @@ use ospf_types::memory::Memory;
 use std::alloc::Global;
 use std::marker::Model;
 
-/// The bytes that came of a datagram's payload.
+/// The received bytes of a datagram's payload.
 #[derive(Drop)]
 pub(crate) struct Partial {
     key: Key,
-    /// The last fragment came: the payload ends where the places end.
+    /// True if the last fragment was received. The payload then ends with the last place.
     has_end: bool,
-    /// Whether the byte at each place came.
+    /// For each place, true if its byte was received.
     came: Vec<bool>,
-    /// At how many places it did not.
+    /// The number of places whose byte was not received.
     missing: usize,
-    /// The bytes at these places. More bytes than places are there if memory ran out.
+    /// The bytes at the places. There may be more bytes than places after memory ran out.
     bytes: Vec<u8>,
 }
 
@@ -37,7 +37,7 @@ impl Partial {
     ghost use Rattle.datagrams.specs.Parts.{part_of};
     ghost use Rattle.datagrams.specs.Kept.{nothing_of, same_key, contradicts, grown, written, with_part, is_whole as is_whole_test, payload_of};
 
-    /// Nothing of the datagram with the key.
+    /// Creates the part of a datagram of which nothing was received.
     pub(crate) fn new(alloc: Global, key: Key) -> Partial
         ensures { result ≡ nothing_of key }
     {
@@ -56,7 +56,7 @@ impl Partial {
         self.key.is_same(key)
     }
 
-    // How many places there are.
+    // Returns the number of places.
     fn size(&self) -> usize
         ensures value { result ≡ length self.now.bytes }
         ensures small { result ≤ 65535 }
@@ -64,21 +64,21 @@ impl Partial {
         self.came.len()
     }
 
-    // Whether a fragment with this end goes past an end that is known.
+    // Returns true if a fragment with this end ends past the known end.
     fn is_past(&self, end: usize) -> bool
         ensures { result ≡ (self.now.has_end && nat_lt (length self.now.bytes) end) }
     {
         self.has_end && self.size() < end
     }
 
-    // Whether the last fragment, with this end, ends before another one.
+    // Returns true if the last fragment, with this end, ends before another one.
     fn is_before(&self, end: usize) -> bool
         ensures { result ≡ nat_lt end (length self.now.bytes) }
     {
         end < self.size()
     }
 
-    /// Whether the fragment goes past an end that is known, or is the last one and ends before
+    /// Returns true if the fragment ends past the known end, or is the last one and ends before
     /// another.
     pub(crate) fn is_contradicted_by(&self, fragment: &Datagram<'_>) -> bool
         ensures { result ≡ contradicts (part_of fragment.now) self.now }
@@ -87,7 +87,7 @@ impl Partial {
         self.is_past(end) || fragment.is_last && self.is_before(end)
     }
 
-    /// Adds the bytes of a fragment, in place of what is there.
+    /// Adds the bytes of a fragment. They replace bytes received before.
     pub(crate) fn add(&mut self, fragment: &Datagram<'_>) -> Result<(), Memory>
         ensures added { OnOk result (self.new ≡ with_part (part_of fragment.now) self.old) }
         ensures unchanged { OnErr result (self.new ≡ self.old) }
@@ -98,7 +98,7 @@ impl Partial {
         Ok(())
     }
 
-    // Makes so many places, if there are fewer.
+    // Adds places until there are at least `size`.
     fn grow(&mut self, size: usize) -> Result<(), Memory>
         requires { size ≤ 65535 }
         ensures grown { OnOk result (self.new ≡ record self.old { bytes = grown size self.old.bytes }) }
@@ -113,7 +113,7 @@ impl Partial {
         Ok(())
     }
 
-    // Puts bytes at the offset.
+    // Writes bytes at the offset.
     fn write(&mut self, offset: usize, payload: &[u8])
         requires { offset + length payload.now ≤ length self.old.bytes }
         ensures { self.new ≡ record self.old { bytes = written offset payload.now self.old.bytes } }
@@ -123,14 +123,14 @@ impl Partial {
         mark(&mut self.came, offset, payload.len());
     }
 
-    /// Whether the end is known, and all before it came.
+    /// Returns true if the end is known and all bytes before it were received.
     pub(crate) fn is_whole(&self) -> bool
         ensures { result ≡ is_whole_test self.now }
     {
         self.has_end && self.missing == 0
     }
 
-    /// The payload.
+    /// Returns the payload.
     pub(crate) fn into_payload(self) -> Vec<u8>
         requires { is_whole_test self ≡ true }
         ensures { result.items ≡ payload_of self }
@@ -145,7 +145,7 @@ impl Partial {
     }
 }
 
-// Puts the payload at the offset.
+// Writes the payload at the offset.
 fn put(bytes: &mut [u8], offset: usize, payload: &[u8])
     requires { offset + length payload.now ≤ length bytes.old }
     ensures { bytes.new ≡ take offset bytes.old ++ payload.now ++ drop (offset + length payload.now) bytes.old }
@@ -153,7 +153,7 @@ fn put(bytes: &mut [u8], offset: usize, payload: &[u8])
     bytes[offset..offset + payload.len()].copy_from_slice(payload);
 }
 
-// At how many of so many places at the offset the byte did not come.
+// Returns the number of missing bytes in the `count` places at the offset.
 fn missing_in(came: &[bool], offset: usize, count: usize) -> usize
     requires { offset + count ≤ length came.now }
     ensures { result ≡ count_missing (take count (drop offset came.now)) }
@@ -167,7 +167,7 @@ fn missing(came: &[bool]) -> usize
     came.iter().filter(|came| !**came).count()
 }
 
-// Marks so many places at the offset.
+// Marks the `count` places at the offset as received.
 fn mark(came: &mut [bool], offset: usize, count: usize)
     requires { offset + count ≤ length came.old }
     ensures { came.new ≡ take offset came.old ++ replicate count true ++ drop (offset + count) came.old }

@@ -1,4 +1,4 @@
-//! The header of an IPv4 datagram (RFC 791, 3.1), read.
+//! The header of an IPv4 datagram (RFC 791, 3.1), read from its bytes.
 ghost use Rattle.std.specs.Prelude.{◌≡◌, ◌≤◌, length, false, None, Some, MatchResult};
 ghost use Rattle.datagrams.specs.Layout.{has_wrong_header as has_wrong_header_test, has_wrong_length as has_wrong_length_test, is_wrong_fragment as is_wrong_fragment_test, header_length as header_length_of, total_length as total_length_of, fault_of, HasRoom, has_more as has_more_test, offset_field};
 ghost use Rattle.datagrams.specs.Reading.{IsDatagram};
@@ -10,10 +10,10 @@ use byteorder::{BigEndian, ByteOrder};
 /// The length of a header without options, in bytes.
 const SHORTEST_HEADER: usize = 20;
 
-/// The bit above the fragment offset: more fragments follow.
+/// The bit above the fragment offset, which is set if more fragments follow.
 const MORE: u16 = 0x2000;
 
-/// The length of the header in bytes.
+/// Returns the length of the header in bytes.
 fn header_length(bytes: &[u8]) -> usize
     requires { 20 ≤ length bytes.now }
     ensures { result ≡ header_length_of bytes.now }
@@ -21,7 +21,7 @@ fn header_length(bytes: &[u8]) -> usize
     4 * usize::from(bytes[0] % 16)
 }
 
-/// The length of header and payload in bytes.
+/// Returns the length of the header and the payload in bytes.
 fn total_length(bytes: &[u8]) -> usize
     requires { 20 ≤ length bytes.now }
     ensures value { result ≡ total_length_of bytes.now }
@@ -30,7 +30,7 @@ fn total_length(bytes: &[u8]) -> usize
     usize::from(BigEndian::read_u16(&bytes[2..]))
 }
 
-/// Where the payload begins in that of the whole datagram, in bytes.
+/// Returns the offset of the payload in the payload of the whole datagram, in bytes.
 fn offset(bytes: &[u8]) -> usize
     requires { 20 ≤ length bytes.now }
     ensures value { result ≡ offset_field bytes.now }
@@ -39,7 +39,7 @@ fn offset(bytes: &[u8]) -> usize
     8 * usize::from(BigEndian::read_u16(&bytes[6..]) % MORE)
 }
 
-/// Whether more fragments follow.
+/// Returns true if more fragments follow.
 fn has_more(bytes: &[u8]) -> bool
     requires { 20 ≤ length bytes.now }
     ensures { result ≡ has_more_test bytes.now }
@@ -76,7 +76,7 @@ fn is_wrong_fragment(bytes: &[u8]) -> bool
     has_more(bytes) && length % 8 != 0 || offset(bytes) + length > LONGEST
 }
 
-/// The first fault of the bytes.
+/// Returns the first fault of the bytes.
 fn fault(bytes: &[u8]) -> Option<DatagramFault>
     ensures { result ≡ fault_of bytes.now }
 {
@@ -92,7 +92,7 @@ fn fault(bytes: &[u8]) -> Option<DatagramFault>
     None
 }
 
-/// What the header says.
+/// Returns the datagram with the fields of the header.
 fn datagram_in(bytes: &[u8]) -> Datagram<'_>
     requires { HasRoom bytes.now }
     ensures { IsDatagram bytes.now result }
@@ -108,9 +108,15 @@ fn datagram_in(bytes: &[u8]) -> Datagram<'_>
     }
 }
 
-/// Reads the datagram in front. What is behind its total length, such as the padding of a short
-/// Ethernet frame, is no part of it. The header's checksum is not compared: many captures of what
-/// their own machine sent have none.
+/// Reads the datagram at the start of the bytes. Bytes after its total length do not belong to it,
+/// such as the padding of a short Ethernet frame.
+///
+/// The checksum of the header is not compared: in many captures, packets that the capturing machine
+/// sent have none.
+///
+/// # Errors
+///
+/// Returns the first fault of the bytes, in the order of `DatagramFault`.
 pub fn read_datagram(bytes: &[u8]) -> Result<Datagram<'_>, DatagramFault>
     ensures { MatchResult result (λ d. (fault_of bytes.now ≡ None) × IsDatagram bytes.now d) (λ f. fault_of bytes.now ≡ Some f) }
 {

@@ -1,4 +1,4 @@
-//! One more fragment of a datagram.
+//! The steps that add a fragment to a datagram.
 ghost use Rattle.std.specs.Prelude.{◌≡◌, ◌≤◌, ◌<◌, Some, length, OnOk, OnErr, slice_get};
 ghost use Rattle.datagrams.specs.Parts.{part_of};
 ghost use Rattle.datagrams.specs.Kept.{Kept, with_part};
@@ -9,7 +9,8 @@ use crate::fragments::MOST;
 use crate::partial::Partial;
 use ospf_types::memory::Memory;
 
-/// Takes one more fragment of the datagram at the place.
+/// Adds a fragment to the datagram at index `place`. Returns the payload if the datagram is then
+/// whole.
 pub(crate) fn go_on(
     partials: &mut Vec<Partial>,
     place: usize,
@@ -35,7 +36,7 @@ pub(crate) fn go_on(
     Ok(Some(partials.remove(place).into_payload()))
 }
 
-/// Takes the first fragment of a datagram.
+/// Adds the first fragment to a datagram. Returns the payload if the datagram is then whole.
 pub(crate) fn begin(
     partials: &mut Vec<Partial>,
     mut partial: Partial,

@@ -1,7 +1,7 @@
 //! The EtherType of a frame, and the VLAN tags before it (IEEE 802.1Q).
 ghost use Rattle.datagrams.specs.Frames.{Finds, IsBehindTag, IsBehindTags, IsBehindType};
 
-/// What is behind the tag in front, if a whole one is there.
+/// Returns the bytes after the first tag, if they begin with a whole one.
 fn behind_tag(bytes: &[u8]) -> Option<&[u8]>
     ensures { Finds result (IsBehindTag bytes.now) }
 {
@@ -11,7 +11,7 @@ fn behind_tag(bytes: &[u8]) -> Option<&[u8]>
     }
 }
 
-/// What is behind the EtherType of IPv4, if that is in front.
+/// Returns the bytes after the EtherType of IPv4, if they begin with it.
 pub(crate) fn behind_type(bytes: &[u8]) -> Option<&[u8]>
     ensures { Finds result (IsBehindType bytes.now) }
 {
@@ -21,7 +21,7 @@ pub(crate) fn behind_type(bytes: &[u8]) -> Option<&[u8]>
     }
 }
 
-/// What is behind any number of tags and the EtherType of IPv4.
+/// Returns the bytes after any number of tags and the EtherType of IPv4.
 pub(crate) fn behind_tags(bytes: &[u8]) -> Option<&[u8]>
     ensures { Finds result (IsBehindTags bytes.now) }
 {

@@ -1,4 +1,4 @@
-//! What is drawn of the columns: a line down each, and the distance of its vertices above it.
+//! The columns of a picture: each has a line, and the distance of its vertices above it.
 ghost use Rattle.std.specs.Prelude.{◌≡◌, ◌≤◌, ◌++◌, OnOk, string_bytes};
 ghost use Rattle.std.specs.List.{flat_map, enumerate_from};
 ghost use Rattle.drawings.specs.Columns.{axis_text, caption_text, column_text, columns_text, distance_text};
@@ -20,7 +20,7 @@ pub(crate) fn put_columns(
     put_caption(text)
 }
 
-// What the numbers above the columns are.
+// Appends the caption of the numbers above the columns.
 fn put_caption(text: &mut String) -> Result<(), Memory>
     ensures { OnOk result (string_bytes text.new ≡ string_bytes text.old ++ caption_text) }
 {
@@ -49,7 +49,7 @@ fn put_column(height: Pixels, column: usize, distance: u32, text: &mut String) -
     put_distance(x, distance, text)
 }
 
-// A line from below the distances to the lower end of the picture.
+// Appends a line from below the distances to the lower end of the picture.
 fn put_axis(height: Pixels, x: Pixels, text: &mut String) -> Result<(), Memory>
     requires { 102 ≤ height }
     ensures { OnOk result (string_bytes text.new ≡ string_bytes text.old ++ axis_text height x) }

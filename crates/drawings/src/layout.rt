@@ -1,4 +1,4 @@
-//! Where things stand in a picture, in pixels from its upper left corner.
+//! The coordinates in a picture, in pixels from its upper left corner.
 ghost use Rattle.std.specs.Prelude.{◌≡◌, ◌++◌, OnOk, Some, string_bytes};
 ghost use Rattle.drawings.specs.Layout as layout;
 
@@ -6,54 +6,55 @@ use crate::drawing::GridCell;
 use ospf_types::memory::Memory;
 use std::fmt;
 
-/// Pixels, from the left or from above. The pixels of as many columns as a list may have do not fit in 64 bits.
+/// A number of pixels, from the left or from above. It has 128 bits, because 64 bits do not hold
+/// the width of the longest list of columns.
 pub(crate) type Pixels = u128;
 
-/// The middle of a column.
+/// Returns the x coordinate of the middle of a column.
 pub(crate) fn x_of(column: u64) -> Pixels
     ensures { result ≡ layout.x_of column }
 {
     60 + 118 * u128::from(column)
 }
 
-/// The middle of a row.
+/// Returns the y coordinate of the middle of a row.
 pub(crate) fn y_of(row: u32) -> Pixels
     ensures { result ≡ layout.y_of row }
 {
     46 + 52 * u128::from(row)
 }
 
-/// The width of a picture of so many columns.
+/// Returns the width of a picture with this number of columns.
 pub(crate) fn width_of(columns: usize) -> Pixels
     ensures { result ≡ layout.width_of columns }
 {
     218 + 118 * (columns.saturating_sub(1) as u128)
 }
 
-/// The height of a picture of so many rows.
+/// Returns the height of a picture with this number of rows.
 pub(crate) fn height_of(rows: u32) -> Pixels
     ensures { result ≡ layout.height_of rows }
 {
     102 + 52 * u128::from(rows.saturating_sub(1))
 }
 
-/// How far the curve from one place to the other is drawn upwards, so that it does not run through what stands between
-/// them.
+/// Returns how far the curve from one cell to the other is bent upwards, so that it does not cross
+/// what is between them.
 pub(crate) fn lift(from: GridCell, to: GridCell) -> Pixels
     ensures { result ≡ layout.lift from to }
 {
     if is_blocked(from, to) { 26 } else { 0 }
 }
 
-// Whether both are in one row with a column between them.
+// Returns true if both cells are in one row with a column between them.
 fn is_blocked(from: GridCell, to: GridCell) -> bool
     ensures { result ≡ layout.is_blocked from to }
 {
     from.row == to.row && from.column.abs_diff(to.column) > 1
 }
 
-/// Where the curve from one place to the other is drawn to: halfway, or to the right of both where they are in one
-/// column.
+/// Returns the x coordinate of the control points of the curve from one cell to the other. It is
+/// halfway, or to the right of both if they are in one column.
 pub(crate) fn bend_x(from: GridCell, to: GridCell) -> Pixels
     ensures { result ≡ layout.bend_x from to }
 {
@@ -64,7 +65,7 @@ pub(crate) fn bend_x(from: GridCell, to: GridCell) -> Pixels
     }
 }
 
-/// Prints a point: how far it is from the left, and how far from above.
+/// A point, printed as its x and its y coordinate.
 #[derive(Clone, Copy)]
 pub(crate) struct Point {
     pub(crate) x: Pixels,
@@ -80,7 +81,7 @@ impl fmt::Display for Point {
     }
 }
 
-/// Where a place is in the picture.
+/// Returns the middle of a cell.
 pub(crate) fn point_of(place: GridCell) -> Point
     ensures x { result.x ≡ layout.x_of place.column }
     ensures y { result.y ≡ layout.y_of place.row }
@@ -91,7 +92,7 @@ pub(crate) fn point_of(place: GridCell) -> Point
     }
 }
 
-/// Appends the beginning of a text of this class. The middle of the text stands at the point.
+/// Appends the start of a text of this class. The text is centred horizontally at the point.
 pub(crate) fn put_text_start(class: &str, at: Point, text: &mut String) -> Result<(), Memory>
     ensures { OnOk result (string_bytes text.new ≡ string_bytes text.old
         ++ layout.text_start class.now at.x at.y) }

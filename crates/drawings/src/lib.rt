@@ -1,5 +1,5 @@
-//! The picture of an area's graph with its shortest-path tree (RFC 2328, 16.1), and its text as SVG. All is reckoned in whole
-//! numbers, so one drawing gives the same bytes each time.
+//! Pictures of an area's graph with its shortest-path tree (RFC 2328, 16.1), and their text as SVG.
+//! All coordinates are whole numbers, so one drawing always gives the same bytes.
 #![tactic(auto)]
 
 mod columns;

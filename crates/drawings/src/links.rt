@@ -1,4 +1,4 @@
-//! What is drawn of the links: a curve for each, and the costs of those on the tree.
+//! The links of a picture: a curve for each, and the costs of the links on the tree.
 ghost use Rattle.std.specs.Prelude.{◌≡◌, ◌++◌, OnOk, string_bytes};
 ghost use Rattle.std.specs.List.{flat_map};
 ghost use Rattle.drawings.specs.Links as link_words;
@@ -9,7 +9,8 @@ use crate::vertices::id_of;
 use ospf_types::address::Address;
 use ospf_types::memory::Memory;
 
-/// Appends the links that are not on the tree, and then those that are, so that these lie above.
+/// Appends the links that are not on the tree, and then those on the tree, which are thus drawn on
+/// top.
 pub(crate) fn put_links(links: &[DrawnLink], text: &mut String) -> Result<(), Memory>
     ensures { OnOk result (string_bytes text.new ≡ string_bytes text.old
         ++ link_words.links_text links.now) }
@@ -18,7 +19,7 @@ pub(crate) fn put_links(links: &[DrawnLink], text: &mut String) -> Result<(), Me
     put_tree(links, text)
 }
 
-// The links that are not on the tree.
+// Appends the links that are not on the tree.
 fn put_others(links: &[DrawnLink], text: &mut String) -> Result<(), Memory>
     ensures { OnOk result (string_bytes text.new ≡ string_bytes text.old
         ++ flat_map link_words.link_off_tree links.now) }
@@ -29,7 +30,7 @@ fn put_others(links: &[DrawnLink], text: &mut String) -> Result<(), Memory>
     Ok(())
 }
 
-// The links that are on the tree.
+// Appends the links that are on the tree.
 fn put_tree(links: &[DrawnLink], text: &mut String) -> Result<(), Memory>
     ensures { OnOk result (string_bytes text.new ≡ string_bytes text.old
         ++ flat_map link_words.link_on_tree links.now) }
@@ -40,7 +41,7 @@ fn put_tree(links: &[DrawnLink], text: &mut String) -> Result<(), Memory>
     Ok(())
 }
 
-// A link that is not on the tree; nothing of one that is.
+// Appends a link if it is not on the tree.
 fn put_off_tree(link: &DrawnLink, text: &mut String) -> Result<(), Memory>
     ensures { OnOk result (string_bytes text.new ≡ string_bytes text.old
         ++ link_words.link_off_tree link.now) }
@@ -51,7 +52,7 @@ fn put_off_tree(link: &DrawnLink, text: &mut String) -> Result<(), Memory>
     put_link("link", link, text)
 }
 
-// A link that is on the tree, with its cost; nothing of one that is not.
+// Appends a link with its cost if it is on the tree.
 fn put_on_tree(link: &DrawnLink, text: &mut String) -> Result<(), Memory>
     ensures { OnOk result (string_bytes text.new ≡ string_bytes text.old
         ++ link_words.link_on_tree link.now) }
@@ -75,7 +76,7 @@ fn put_link(class: &str, link: &DrawnLink, text: &mut String) -> Result<(), Memo
     Ok(())
 }
 
-// A Bezier curve. Its control points are where it is drawn to.
+// Appends a Bezier curve. `bend_x` and `lift` give its control points.
 fn put_curve(from: GridCell, to: GridCell, text: &mut String) -> Result<(), Memory>
     ensures { OnOk result (string_bytes text.new ≡ string_bytes text.old
         ++ link_words.curve_text from to) }
@@ -89,7 +90,7 @@ fn put_curve(from: GridCell, to: GridCell, text: &mut String) -> Result<(), Memo
     Ok(())
 }
 
-// What is told of a link under the pointer.
+// Appends the text that is shown for a link under the pointer.
 fn put_title(link: &DrawnLink, text: &mut String) -> Result<(), Memory>
     ensures { OnOk result (string_bytes text.new ≡ string_bytes text.old
         ++ link_words.link_title link.now) }
@@ -101,7 +102,7 @@ fn put_title(link: &DrawnLink, text: &mut String) -> Result<(), Memory>
     Ok(())
 }
 
-// The cost beside the middle of a link; nothing where it is 0, as from a network to its routers.
+// Appends the cost near the middle of a link, unless it is 0, as from a network to its routers.
 fn put_cost(from: GridCell, to: GridCell, cost: u32, text: &mut String) -> Result<(), Memory>
     ensures { OnOk result (string_bytes text.new ≡ string_bytes text.old
         ++ link_words.cost_text from to cost) }
@@ -118,7 +119,8 @@ fn put_cost(from: GridCell, to: GridCell, cost: u32, text: &mut String) -> Resul
     Ok(())
 }
 
-// Where the cost of a link stands: to the right of the middle, or to the left of it where the link leads down.
+// Returns the x coordinate of the cost of a link: right of the middle, or left of it if the link
+// leads down.
 fn cost_x(from: GridCell, to: GridCell) -> Pixels
     ensures { result ≡ link_words.cost_x from to }
 {
@@ -130,7 +132,8 @@ fn cost_x(from: GridCell, to: GridCell) -> Pixels
     }
 }
 
-// How high the cost of a link stands: above one that stays in its row, and else below it.
+// Returns the y coordinate of the cost of a link: above the link if it stays in its row, or else
+// below it.
 fn cost_y(from: GridCell, to: GridCell) -> Pixels
     ensures { result ≡ link_words.cost_y from to }
 {

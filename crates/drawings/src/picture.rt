@@ -9,9 +9,13 @@ use crate::links::put_links;
 use crate::vertices::put_vertices;
 use ospf_types::memory::Memory;
 
-/// Appends the picture as an element `svg`, which may stand in a page of HTML. The page has a style for its classes:
-/// `axis`, `c`, `s` and `t` for lines and texts, `tree` and `link` for links, and `root`, `r` and `n` for vertices. If
-/// memory runs out, the text may have a part of this.
+/// Appends the picture as an `svg` element, which may be part of an HTML page. The page has a style
+/// for its classes: `axis`, `c`, `s` and `t` for lines and texts, `tree` and `link` for links, and
+/// `root`, `r` and `n` for vertices.
+///
+/// # Errors
+///
+/// Returns `Memory` if memory runs out. The text may then have a part of the picture.
 pub fn put_drawing(drawing: &Drawing, text: &mut String) -> Result<(), Memory>
     ensures { OnOk result (string_bytes text.new ≡ string_bytes text.old
         ++ drawing_text drawing.now) }
@@ -26,7 +30,7 @@ pub fn put_drawing(drawing: &Drawing, text: &mut String) -> Result<(), Memory>
     Ok(())
 }
 
-// The beginning of a picture of this size.
+// Appends the start of a picture of this size.
 fn put_opening(width: Pixels, height: Pixels, text: &mut String) -> Result<(), Memory>
     ensures { OnOk result (string_bytes text.new ≡ string_bytes text.old
         ++ opening_text width height) }
@@ -46,7 +50,7 @@ fn put_box(width: Pixels, height: Pixels, text: &mut String) -> Result<(), Memor
     Ok(())
 }
 
-// The size, and what the picture shows, for readers who do not see it.
+// Appends the size, and a description of the picture for readers who do not see it.
 fn put_size(width: Pixels, height: Pixels, text: &mut String) -> Result<(), Memory>
     ensures { OnOk result (string_bytes text.new ≡ string_bytes text.old
         ++ size_text width height) }

@@ -1,4 +1,4 @@
-//! What is drawn of the vertices: a mark for each, and its name.
+//! The vertices of a picture: a mark for each, and its name.
 ghost use Rattle.std.specs.Prelude.{◌≡◌, ◌+◌, ◌++◌, OnOk, string_bytes};
 ghost use Rattle.std.specs.List.{flat_map};
 ghost use Rattle.drawings.specs.Layout.{x_of, y_of};
@@ -11,7 +11,7 @@ use ospf_types::entry::Vertex;
 use ospf_types::hop::NextHop;
 use ospf_types::memory::Memory;
 
-/// Appends the vertices, where the root has this Router ID.
+/// Appends the vertices. `root` is the Router ID of the root.
 pub(crate) fn put_vertices(
     root: u32,
     vertices: &[DrawnVertex],
@@ -34,7 +34,7 @@ fn put_vertex(root: u32, vertex: &DrawnVertex, text: &mut String) -> Result<(), 
     put_label(vertex, text)
 }
 
-// A circle for a router, a rectangle for a network.
+// Appends a circle for a router, or a rectangle for a network.
 fn put_mark(root: u32, vertex: &DrawnVertex, text: &mut String) -> Result<(), Memory>
     ensures { OnOk result (string_bytes text.new ≡ string_bytes text.old
         ++ vertex_words.mark_text root vertex.now.vertex vertex.now.place
@@ -57,7 +57,7 @@ fn put_circle(class: &str, vertex: &DrawnVertex, text: &mut String) -> Result<()
     Ok(())
 }
 
-// The beginning of a circle around the point.
+// Appends the start of a circle around the point.
 fn put_circle_start(class: &str, at: Point, text: &mut String) -> Result<(), Memory>
     ensures { OnOk result (string_bytes text.new ≡ string_bytes text.old
         ++ vertex_words.circle_start class.now at.x at.y) }
@@ -82,7 +82,7 @@ fn put_rectangle(vertex: &DrawnVertex, text: &mut String) -> Result<(), Memory>
     Ok(())
 }
 
-// The beginning of a rectangle, whose upper left corner is the point.
+// Appends the start of a rectangle. The point is its upper left corner.
 fn put_rectangle_start(at: Point, text: &mut String) -> Result<(), Memory>
     ensures { OnOk result (string_bytes text.new ≡ string_bytes text.old
         ++ vertex_words.rectangle_start at.x at.y) }
@@ -95,14 +95,14 @@ fn put_rectangle_start(at: Point, text: &mut String) -> Result<(), Memory>
     Ok(())
 }
 
-// The class of a router, which is the root if it has this Router ID.
+// Returns the class of a router, which is the root if it has this Router ID.
 fn router_class(root: u32, id: u32) -> &'static str
     ensures { result.now ≡ vertex_words.router_class root id }
 {
     if id == root { "root" } else { "r" }
 }
 
-// What is told of a vertex under the pointer.
+// Appends the text that is shown for a vertex under the pointer.
 fn put_title(vertex: &DrawnVertex, text: &mut String) -> Result<(), Memory>
     ensures { OnOk result (string_bytes text.new ≡ string_bytes text.old
         ++ vertex_words.vertex_title vertex.now) }
@@ -114,7 +114,7 @@ fn put_title(vertex: &DrawnVertex, text: &mut String) -> Result<(), Memory>
     Ok(())
 }
 
-// Next hops with commas between them; nothing where there are none.
+// Appends the next hops with commas between them, if there are any.
 fn put_hops(hops: &[NextHop], text: &mut String) -> Result<(), Memory>
     ensures { OnOk result (string_bytes text.new ≡ string_bytes text.old
         ++ vertex_words.hops_text hops.now) }
@@ -140,7 +140,7 @@ fn put_label(vertex: &DrawnVertex, text: &mut String) -> Result<(), Memory>
     Ok(())
 }
 
-// Where a name stands: below its place.
+// Returns the point of a name: below its cell.
 fn label_point(place: GridCell) -> Point
     ensures x { result.x ≡ x_of place.column }
     ensures y { result.y ≡ y_of place.row + 21 }
@@ -149,7 +149,7 @@ fn label_point(place: GridCell) -> Point
     Point { x, y: y + 21 }
 }
 
-// The address of a network, or that of a router and its roles.
+// Appends the address of a network, or the Router ID and the roles of a router.
 fn put_name(vertex: Vertex, roles: Roles, text: &mut String) -> Result<(), Memory>
     ensures { OnOk result (string_bytes text.new ≡ string_bytes text.old
         ++ vertex_words.name_text vertex roles) }
@@ -167,7 +167,7 @@ fn put_name(vertex: Vertex, roles: Roles, text: &mut String) -> Result<(), Memor
     Ok(())
 }
 
-// B for an area border router, E for an AS boundary router, behind a space.
+// Returns B for an area border router and E for an AS boundary router, after a space.
 fn letters_of(roles: Roles) -> &'static str
     ensures { result.now ≡ vertex_words.roles_text roles }
 {
@@ -179,7 +179,7 @@ fn letters_of(roles: Roles) -> &'static str
     }
 }
 
-/// The Router ID of a router, or the address of the Designated Router of a transit network.
+/// Returns the Router ID of a router, or the address of the Designated Router of a transit network.
 pub(crate) fn id_of(vertex: Vertex) -> u32
     ensures { result ≡ vertex_words.id_of vertex }
 {

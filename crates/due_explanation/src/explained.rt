@@ -1,4 +1,4 @@
-//! By what a core keeps.
+//! The explanation of a due summary, from the results that a core keeps.
 ghost use Rattle.std.specs.Prelude.{IfNone, IfOk, IfSome};
 ghost use Rattle.calculation.specs.Calculations.{IsCalculationOf};
 ghost use Rattle.event_core.specs.Cores.{IsCurrent, state_of};
@@ -12,8 +12,13 @@ use route_layers::active_areas;
 use std::alloc::Global;
 use summaries::SummaryInputs;
 
-/// Why a summary for the destination, a network or the Router ID of an AS boundary router, is due in the area with this Area ID, or
-/// is not, and at which metric. None where the core's due summaries are behind.
+/// Explains why a summary for the destination is due in the area with this Area ID, and at which
+/// metric, or why it is not due. The destination is a network, or an AS boundary router by its
+/// Router ID. Returns `None` if the core is behind.
+///
+/// # Errors
+///
+/// Returns `Memory` if memory runs out.
 pub fn explain_due(
     alloc: Global,
     core: &Core,
@@ -35,7 +40,7 @@ pub fn explain_due(
     }
 }
 
-// By what is calculated of a state.
+// Explains the summary by a state and the results calculated from it.
 fn explain_by(
     alloc: Global,
     found: Calculated<'_>,

@@ -1,4 +1,5 @@
-//! Why a summary-LSA is due in an area at its metric, or why none is (RFC 2328, 12.4.3), by what a core keeps.
+//! The reason why a summary-LSA is due in an area at its metric, or is not due there (RFC 2328,
+//! 12.4.3), for the state of a core.
 #![tactic(auto)]
 
 mod explained;

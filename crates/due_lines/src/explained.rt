@@ -1,4 +1,4 @@
-//! Whether a summary is due in an area, and why, line by line.
+//! The explanation of a summary in an area, line by line.
 ghost use Rattle.std.specs.Prelude.{◌≡◌, ◌++◌, OnOk, string_bytes};
 ghost use Rattle.std.specs.List.{flat_map};
 ghost use Rattle.due_lines.specs.Lines.{due_explanation_text, due_source_line};
@@ -10,18 +10,23 @@ use ospf_types::key::Dest;
 use ospf_types::memory::Memory;
 use output_format::Format;
 
-/// An area and a destination, and what explains whether a summary for it is due there.
+/// An area and a destination, with the explanation of the destination's summary in the area.
 #[derive(Clone, Copy)]
 pub struct ExplainedDue<'a> {
     /// The Area ID.
     pub area: u32,
+    /// The destination.
     pub dest: Dest,
+    /// The explanation.
     pub due: &'a DueExplained,
 }
 
-/// Appends whether the summary is due in the area, and why: first this, with its metric, and then each thing that could
-/// give it, with its cost and what becomes of it (RFC 2328, 12.4.3). Costs are metrics. If memory runs out, the text may
-/// have a part of this.
+/// Appends the explanation of the summary in the area (RFC 2328, 12.4.3): its metric if it is due,
+/// and then each source with its cost and its verdict. Costs are metrics.
+///
+/// # Errors
+///
+/// Returns `Memory` if memory runs out. The text may then have a part of the explanation.
 pub fn put_due_explanation(
     format: Format,
     explained: ExplainedDue<'_>,
@@ -39,7 +44,7 @@ pub fn put_due_explanation(
     put_sources(format, sources_in(&due.reason), text)
 }
 
-// What could give the summary; nothing where the reason is another.
+// Returns the sources of the summary. The list is empty if there is another reason.
 fn sources_in(reason: &DueReason) -> &[DueSource]
     ensures { result.now ≡ sources_of reason.now }
 {

@@ -1,8 +1,8 @@
-//! What is printed of a summary that is due in an area, or is not, and why (RFC 2328, 12.4.3), in words or as JSON, one
-//! line a thing.
+//! The lines of an explanation of a summary that is due in an area, or is not due there (RFC 2328,
+//! 12.4.3), as text or as JSON.
 //!
-//! First comes whether the summary is due, and at which metric. Then each thing follows that could give it, with its cost
-//! and what becomes of it in the area.
+//! The first line says if the summary is due, and at which metric. Then the sources of the summary
+//! follow, each with its cost and its verdict in the area.
 #![tactic(auto)]
 
 mod explained;

@@ -1,4 +1,4 @@
-//! The lines that tell whether a summary is due, and why, as JSON objects.
+//! The lines of an explanation of a summary as JSON objects.
 ghost use Rattle.std.specs.Prelude.{◌≡◌, ◌++◌, IfOk, OnOk, codes, string_bytes};
 ghost use Rattle.output_format.specs.declared.Format.TheVariants as format_value;
 ghost use Rattle.serde_json.specs.Data.{object};
@@ -29,7 +29,7 @@ pub(crate) fn put_due(
     object.append_to(text)
 }
 
-// Whether the summary is due, at which metric, and the reason, if there is one.
+// Returns an object with the summary, its metric if it is due, and the reason, if there is one.
 fn due_object(alloc: Global, area: u32, dest: Dest, due: &DueExplained) -> Result<Object, Memory>
     ensures { IfOk result (λ o. object (members_view o)
         ≡ due_line_data area dest due.now) }
@@ -60,7 +60,7 @@ pub(crate) fn put_due_source(source: &DueSource, text: &mut String) -> Result<()
     object.append_to(text)
 }
 
-// A source, and what becomes of it.
+// Returns an object with a source and its verdict.
 fn source_object(alloc: Global, source: &DueSource) -> Result<Object, Memory>
     ensures { IfOk result (λ o. object (members_view o) ≡ due_source_data source.now) }
 {
@@ -78,7 +78,7 @@ fn source_object(alloc: Global, source: &DueSource) -> Result<Object, Memory>
     Ok(object)
 }
 
-// The cost, or null for a range that has none.
+// Puts the cost into the object, or null for a range that has none.
 fn put_cost(object: &mut Object, cost: Option<u32>) -> Result<(), Memory>
     ensures { OnOk result (PutsMember (codes "cost") (cost_data cost) object.old object.new) }
 {

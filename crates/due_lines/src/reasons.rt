@@ -1,4 +1,5 @@
-//! Why a summary is due in an area, or is not, and what becomes of what could give it.
+//! The reasons why a summary is due in an area, or is not due there, and the verdicts on its
+//! sources.
 ghost use Rattle.std.specs.Prelude.{◌≡◌, Some, option_copied};
 ghost use Rattle.summary_lists.specs.Lists.{kind_of as kind_of_dest};
 ghost use Rattle.due_lines.specs.Reasons as reasons;
@@ -8,17 +9,18 @@ use ospf_types::key::Dest;
 use std::fmt;
 use summary_lists::DueSummary;
 
-/// The section that decides.
+/// The section of RFC 2328 that decides.
 pub(crate) const STEP: &str = "12.4.3";
 
-/// Whether the source gives the summary at its metric.
+/// Returns true if the source gives the summary at its metric.
 pub(crate) fn is_taken(verdict: DueVerdict) -> bool
     ensures { result ≡ reasons.is_taken verdict }
 {
     matches!(verdict, DueVerdict::Given)
 }
 
-/// The reason that is told of the summary itself; none where its sources are the reason.
+/// Returns the reason that is printed with the summary itself, or `None` if its sources are the
+/// reason.
 pub(crate) fn due_reason_of(reason: &DueReason) -> Option<&'static str>
     ensures { option_copied result ≡ reasons.due_reason_text reason.now }
 {
@@ -36,7 +38,7 @@ pub(crate) fn due_reason_of(reason: &DueReason) -> Option<&'static str>
     }
 }
 
-/// Prints why a source gives no summary, or that it gives it.
+/// Prints the reason why a source gives the summary, or does not give it.
 #[derive(Clone, Copy)]
 pub(crate) struct FateField(pub(crate) DueVerdict);
 
@@ -60,10 +62,11 @@ impl fmt::Display for FateField {
     }
 }
 
-/// The LS type of a summary for the destination: 3 for a network, 4 for an AS boundary router.
+/// Returns the LS type of a summary for the destination: 3 for a network, 4 for an AS boundary
+/// router.
 pub(crate) fn kind_of(dest: &Dest) -> u8
     ensures { result ≡ kind_of_dest dest.now }
 {
-    // The metric has no part in it.
+    // The LS type does not depend on the metric.
     DueSummary::of(*dest, 0).kind
 }

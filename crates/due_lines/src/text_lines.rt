@@ -1,4 +1,4 @@
-//! The lines that tell whether a summary is due, and why, in words.
+//! The lines of an explanation of a summary as text.
 ghost use Rattle.std.specs.Prelude.{◌≡◌, ◌++◌, OnOk, Some, codes, option_copied, string_bytes};
 ghost use Rattle.output_format.specs.declared.Format.TheVariants as format_value;
 ghost use Rattle.due_lines.specs.Words.{at_text, cost_text, dest_text, due_source_text, metric_text, place_text, source_kind_text};
@@ -24,7 +24,7 @@ pub(crate) fn put_due(
     put_reason(due_reason_of(&due.reason), text)
 }
 
-// Whether the summary is due, and at which metric.
+// Appends the summary, and its metric if it is due.
 fn put_metric(area: u32, dest: Dest, metric: Option<u32>, text: &mut String) -> Result<(), Memory>
     ensures { OnOk result (string_bytes text.new ≡ string_bytes text.old
         ++ metric_text area dest metric) }
@@ -37,7 +37,7 @@ fn put_metric(area: u32, dest: Dest, metric: Option<u32>, text: &mut String) -> 
     Ok(())
 }
 
-// The section that decides and the reason, if there is one, and a line feed.
+// Appends the section that decides and the reason, if there is one, and a line feed.
 fn put_reason(reason: Option<&str>, text: &mut String) -> Result<(), Memory>
     ensures { OnOk result (string_bytes text.new ≡ string_bytes text.old
         ++ (at_text (option_copied reason.entry) ++ codes "\n")) }
@@ -129,7 +129,7 @@ impl fmt::Display for DestField {
     }
 }
 
-/// What could give a summary, in a word.
+/// Returns the kind of a source in one word.
 pub(crate) fn source_kind(kind: SourceKind) -> &'static str
     ensures { result.now ≡ source_kind_text kind }
 {

@@ -1,11 +1,11 @@
-//! Which area is asked for, and whether summaries are sent into it.
+//! The area that a summary would be originated into, and whether it is active.
 ghost use Rattle.std.specs.Prelude.{◌≡◌, ◌↔◌, Contains, IsTrue, option_copied};
 ghost use Rattle.due_reasons.specs.Reasons.{AreSeveral, area_with};
 
 use ospf_types::config::AreaConfig;
 use summaries::has_other_active_area;
 
-/// The first area with this Area ID.
+/// Returns the first area with this Area ID.
 pub(crate) fn find_area(areas: &[AreaConfig], id: u32) -> Option<&AreaConfig>
     ensures { option_copied result ≡ area_with areas.now id }
 {
@@ -17,7 +17,7 @@ pub(crate) fn find_area(areas: &[AreaConfig], id: u32) -> Option<&AreaConfig>
     None
 }
 
-/// Whether two areas or more are active.
+/// Returns true if two or more areas are active: then this router is an area border router.
 pub(crate) fn are_several(active: &[u32]) -> bool
     ensures { IsTrue result ↔ AreSeveral active.now }
 {
@@ -27,7 +27,7 @@ pub(crate) fn are_several(active: &[u32]) -> bool
     }
 }
 
-/// Whether the area is active.
+/// Returns true if the area is active.
 pub(crate) fn is_active(active: &[u32], area: u32) -> bool
     ensures { IsTrue result ↔ Contains active.now area }
 {

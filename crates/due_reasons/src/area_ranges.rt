@@ -1,4 +1,4 @@
-//! The ranges of the areas (RFC 2328, 3.5): which of them has a network, and which is advertised.
+//! The address ranges of the areas (RFC 2328, 3.5), looked up by a network or by their prefix.
 ghost use Rattle.std.specs.Prelude.{◌↔◌, IfNone, IfSome, IsTrue};
 ghost use Rattle.active_ranges.specs.Active.{HasRange};
 ghost use Rattle.summaries.specs.Giving.{IsOutside};
@@ -7,7 +7,7 @@ ghost use Rattle.due_reasons.specs.Sources.{HasRangeAround, IsRangeAround, IsRan
 use ospf_types::config::AreaConfig;
 use ospf_types::prefix::Prefix;
 
-/// The range of the area with this Area ID that has the network.
+/// Returns the range that covers the network, of the area with this Area ID, or `None`.
 pub(crate) fn range_around(areas: &[AreaConfig], id: u32, network: Prefix) -> Option<Prefix>
     ensures some { IfSome result (IsRangeAround areas.now id network) }
     ensures none { IfNone result (IsOutside areas.now id network) }
@@ -20,7 +20,7 @@ pub(crate) fn range_around(areas: &[AreaConfig], id: u32, network: Prefix) -> Op
     None
 }
 
-// Its range that has the network, if it is the area with this Area ID.
+// Returns the area's range that covers the network, if the area has this Area ID.
 fn range_of(area: &AreaConfig, id: u32, network: Prefix) -> Option<Prefix>
     ensures some { IfSome result (IsRangeOf id network area.now) }
     ensures none { IfNone result (HasRangeAround id network area.now → ⊥) }
@@ -36,7 +36,7 @@ fn range_of(area: &AreaConfig, id: u32, network: Prefix) -> Option<Prefix>
     None
 }
 
-/// Whether the area has a range with the prefix.
+/// Returns true if the area has a range with the prefix.
 pub(crate) fn has_range(area: &AreaConfig, prefix: Prefix) -> bool
     ensures { IsTrue result ↔ HasRange area.now prefix }
 {

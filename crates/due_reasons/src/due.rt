@@ -1,82 +1,88 @@
-//! What is told of a summary that is due in an area, or is not.
+//! The explanation of a summary that is due in an area, or is not due there.
 ghost use Rattle.std.specs.Prelude.{◌≡◌, ◌↔◌, ℕ, Some, None, IsTrue};
 ghost use Rattle.due_reasons.specs.declared.due.DueVerdict.TheVariants as due_fate;
 ghost use Rattle.due_reasons.specs.Sources.{GivesInto, settled};
 
 use ospf_types::prefix::Prefix;
 
-/// What could give a summary for a destination (RFC 2328, 12.4.3).
+/// The kind of a source of a summary (RFC 2328, 12.4.3).
 #[derive(Clone, Copy, Debug, PartialEq, Eq)]
 pub enum SourceKind {
-    /// The intra-area route of a network.
+    /// The intra-area route to a network.
     IntraArea,
-    /// The inter-area route of a network.
+    /// The inter-area route to a network.
     InterArea,
-    /// A range of addresses of an area.
+    /// An address range of an area.
     Range,
     /// The preferred route of an AS boundary router: 16.4 (3).
     Preferred,
 }
 
-/// What becomes of it in an area, by the first of these that holds of it.
+/// The verdict on a source in an area: the first of these that holds.
 #[derive(Clone, Copy, Debug, PartialEq, Eq)]
 pub enum DueVerdict {
-    /// It leads through the area itself, or is a range of it.
+    /// The route leads through the area itself, or the range is one of its own.
     OwnArea,
     /// The cost of the route is LSInfinity or more.
     Infinity,
-    /// The network is in this range of its area, and only ranges are told of such a network.
+    /// This range of its area covers the network, and such a network is advertised only as part of
+    /// a range.
     InRange(Prefix),
     /// The range is configured not to be advertised.
     NotAdvertised,
     /// The range has no network at a cost below LSInfinity.
     NoNetwork,
-    /// Another source gives the summary at a greater metric.
+    /// Another source gives the summary at a higher metric.
     Lesser,
-    /// It gives the summary: its cost is the metric.
+    /// The source gives the summary: its cost is the metric.
     Given,
 }
 
-/// What could give a summary for a destination, and what becomes of it in an area.
+/// A source of a summary for a destination, and the verdict on it in an area.
 #[derive(Clone, Copy, Debug, PartialEq, Eq)]
 pub struct DueSource {
+    /// The kind of the source.
     pub kind: SourceKind,
     /// The Area ID of the area that the route leads through, or whose range it is.
     pub area: u32,
-    /// The cost of the route. Of a range, the greatest cost below LSInfinity that a network of it has; none where none has one.
+    /// The cost of the route. The cost of a range is the highest cost below LSInfinity of its
+    /// networks, or `None` if it has no such network.
     pub cost: Option<u32>,
+    /// The verdict on the source.
     pub verdict: DueVerdict,
 }
 
-/// Why a summary is due in an area, or is not: the first of these that holds.
+/// The reason why a summary is due in an area, or is not due there: the first of these that holds.
 #[derive(Debug, Drop)]
 pub enum DueReason {
-    /// No area has the Area ID.
+    /// No configured area has the Area ID.
     NotConfigured,
-    /// Fewer than two areas are active, and only an area border router sends summaries.
+    /// Fewer than two areas are active, and only an area border router originates summaries.
     NotBorder,
     /// The area is not active.
     NotActive,
-    /// A stub area is sent no AS boundary routers.
+    /// No type 4 summary-LSAs are originated into stub areas.
     StubRouter,
-    /// A stub area is sent its default route, at its StubDefaultCost (C.2).
+    /// A stub area gets its default route, at its StubDefaultCost (C.2).
     StubDefault,
-    /// The stub area is sent no networks but its default route.
+    /// The stub area gets no networks but its default route.
     StubHides,
-    /// What could give a summary: the intra-area route, the inter-area route, then ranges, in the order of the areas. None at all
-    /// where nothing leads to the destination.
+    /// The sources of the summary: the intra-area route, the inter-area route, and then the ranges,
+    /// in the order of the areas. For an AS boundary router, its preferred route. The list is empty
+    /// if there are no sources.
     Sources(Vec<DueSource>),
 }
 
-/// Whether a summary is due in an area, and why.
+/// The metric of a summary in an area, and the reason for it.
 #[derive(Debug)]
 pub struct DueExplained {
-    /// The metric at which it is due; none where it is not.
+    /// The metric at which the summary is due, or `None` if it is not due.
     pub metric: Option<u32>,
+    /// The reason why it is due or not due.
     pub reason: DueReason,
 }
 
-// proof: one call drops it, in place of a drop of each part wherever one is held.
+// proof: a value is dropped by one call, not part by part at each exit of a function.
 impl Drop for DueExplained {
     fn drop(self) {
         let DueExplained {
@@ -87,7 +93,7 @@ impl Drop for DueExplained {
 }
 
 impl DueExplained {
-    /// For this reason none is due.
+    /// Creates the explanation of a summary that is not due, for this reason.
     pub(crate) fn undue(reason: DueReason) -> DueExplained
         ensures { result ≡ record { metric = None; reason = reason } }
     {
@@ -99,18 +105,19 @@ impl DueExplained {
 }
 
 impl DueSource {
-    /// The metric at which it gives a summary in the area, by itself.
+    /// Returns the metric at which the source by itself gives a summary in the area, or `None`.
     pub(crate) fn metric_into(&self, area: u32) -> Option<u32>
         ensures { (n : ℕ) → (result ≡ Some n) ↔ GivesInto area self.now n }
     {
-        // 12.4.3: what leads through the area itself gives no summary there.
+        // 12.4.3: a route that leads through the area itself is not advertised into it.
         match self.verdict {
             DueVerdict::Given if self.area != area => self.cost,
             _ => None,
         }
     }
 
-    /// Tells what becomes of it in the area, where the summary is due at this metric.
+    /// Settles the verdict on the source in the area. `metric` is the metric of the summary there,
+    /// or `None` if it is not due.
     pub(crate) fn settle(&mut self, area: u32, metric: Option<u32>)
         ensures { self.new ≡ settled area metric self.old }
     {

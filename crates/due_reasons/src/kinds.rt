@@ -1,4 +1,5 @@
-//! What could give a summary for a destination, kind by kind, and what becomes of it by itself, whichever the area (RFC 2328, 12.4.3).
+//! The sources of a summary, kind by kind, with the verdict on each before an area is considered
+//! (RFC 2328, 12.4.3).
 ghost use Rattle.std.specs.Prelude.{option_copied};
 ghost use Rattle.std.specs.FinMap as map;
 ghost use Rattle.ospf_types.specs.declared.key.Dest.TheVariants as dest_value;
@@ -14,7 +15,7 @@ use ospf_types::lsa::LS_INFINITY;
 use ospf_types::prefix::Prefix;
 use summaries::{SummaryInputs, advertises};
 
-/// The intra-area route of a network.
+/// Returns the intra-area route to the network as a source, if there is one through an area.
 pub(crate) fn intra_source(inputs: &SummaryInputs<'_>, network: Prefix) -> Option<DueSource>
     ensures { IsEntrySource source_kind.IntraArea (IsIntraFate inputs.now.areas network)
         (map.get inputs.now.intra.entries network) result }
@@ -29,7 +30,7 @@ pub(crate) fn intra_source(inputs: &SummaryInputs<'_>, network: Prefix) -> Optio
     })
 }
 
-/// The inter-area route of a network.
+/// Returns the inter-area route to the network as a source, if there is one through an area.
 pub(crate) fn inter_source(inputs: &SummaryInputs<'_>, network: Prefix) -> Option<DueSource>
     ensures { IsEntrySource source_kind.InterArea IsInterFate
         (map.get inputs.now.inter.entries (dest_value.Net network)) result }
@@ -44,7 +45,7 @@ pub(crate) fn inter_source(inputs: &SummaryInputs<'_>, network: Prefix) -> Optio
     })
 }
 
-/// The preferred route of an AS boundary router.
+/// Returns the preferred route of an AS boundary router as a source, if there is one.
 pub(crate) fn preferred_source(preferred: Option<&AsbrRoute>) -> Option<DueSource>
     ensures { IsPreferredSource (option_copied preferred.entry) result }
 {
@@ -57,7 +58,7 @@ pub(crate) fn preferred_source(preferred: Option<&AsbrRoute>) -> Option<DueSourc
     })
 }
 
-/// The area's range with this prefix.
+/// Returns the area's range with this prefix as a source, if the area has one.
 pub(crate) fn range_source(
     inputs: &SummaryInputs<'_>,
     area: &AreaConfig,
@@ -68,7 +69,7 @@ pub(crate) fn range_source(
     if !has_range(area, prefix) {
         return None;
     }
-    // 12.4.3: the cost of a range is the greatest of its networks' costs.
+    // 12.4.3: the cost of a range is the highest cost of its networks below LSInfinity.
     let cost = inputs.ranges.costliest(prefix, area.id, LS_INFINITY);
     Some(DueSource {
         kind: SourceKind::Range,
@@ -78,32 +79,32 @@ pub(crate) fn range_source(
     })
 }
 
-// What becomes of a route at this cost.
+// Returns the verdict on a route at this cost.
 fn route_fate(cost: u32) -> DueVerdict
     ensures { IsRouteFate cost result }
 {
-    // 12.4.3: a cost of LSInfinity or more gives no summary.
+    // 12.4.3: a route at LSInfinity or more is not advertised.
     if cost >= LS_INFINITY {
         return DueVerdict::Infinity;
     }
     DueVerdict::Given
 }
 
-// What becomes of a network's intra-area route through the area at this cost.
+// Returns the verdict on the network's intra-area route, which leads through this area.
 fn intra_fate(areas: &[AreaConfig], through: u32, network: Prefix, cost: u32) -> DueVerdict
     ensures { IsIntraFate areas.now network through cost result }
 {
     if cost >= LS_INFINITY {
         return DueVerdict::Infinity;
     }
-    // 12.4.3: a network that a range of its area has is advertised only by the range.
+    // 12.4.3: a network that a range of its area covers is advertised only as part of the range.
     match range_around(areas, through, network) {
         Some(range) => DueVerdict::InRange(range),
         None => DueVerdict::Given,
     }
 }
 
-// What becomes of the area's range with this prefix, where this is the greatest cost of its networks.
+// Returns the verdict on the area's range with this prefix, whose cost is `cost`.
 fn range_fate(area: &AreaConfig, prefix: Prefix, cost: Option<u32>) -> DueVerdict
     ensures { IsRangeFate area.now prefix cost result }
 {

@@ -1,5 +1,5 @@
-//! Why a summary-LSA is due in an area at its metric, or why none is (RFC 2328, 12.4.3): what could give one for a destination, and
-//! what becomes of each in the area.
+//! The reason why a summary-LSA is due in an area at its metric, or is not due there (RFC 2328,
+//! 12.4.3): the sources of a summary for a destination, and the verdict on each in the area.
 #![tactic(auto)]
 
 mod active;

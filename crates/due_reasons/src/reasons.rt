@@ -1,4 +1,4 @@
-//! Why a summary is due in an area, or is not (RFC 2328, 12.4.3).
+//! The reason why a summary is due in an area, or is not due there (RFC 2328, 12.4.3).
 ghost use Rattle.std.specs.Prelude.{◌≡◌, ◌↔◌, Some, IfNone, IfOk, IfSome, IsTrue};
 ghost use Rattle.ospf_types.specs.declared.key.Dest.TheVariants as dest_value;
 ghost use Rattle.ospf_types.specs.Summaries.{default_route};
@@ -15,8 +15,14 @@ use ospf_types::prefix::Prefix;
 use std::alloc::Global;
 use summaries::SummaryInputs;
 
-/// Why a summary for the destination, a network or the Router ID of an AS boundary router, is due in the area with this Area ID, or
-/// is not. The metric is that of the summary. Of the reasons it tells the first that holds, in the order of `DueReason`.
+/// Explains why a summary for the destination is due in the area with this Area ID, or is not due
+/// there. The destination is a network, or an AS boundary router by its Router ID.
+///
+/// If several reasons hold, the result has the first of them in the order of `DueReason`.
+///
+/// # Errors
+///
+/// Returns `Memory` if memory runs out.
 pub fn due_reason(
     alloc: Global,
     inputs: &SummaryInputs<'_>,
@@ -31,7 +37,7 @@ pub fn due_reason(
     reason_in(alloc, inputs, area, &dest)
 }
 
-// Why it is due in the configured area, or is not.
+// Explains the summary for a configured area.
 fn reason_in(
     alloc: Global,
     inputs: &SummaryInputs<'_>,
@@ -40,7 +46,7 @@ fn reason_in(
 ) -> Result<DueExplained, Memory>
     ensures { IfOk result (IsExplainedIn inputs.now area.now dest.now) }
 {
-    // 12.4.3: only an area border router sends summaries.
+    // 12.4.3: only area border routers originate summary-LSAs.
     if !are_several(inputs.active) {
         return Ok(DueExplained::undue(DueReason::NotBorder));
     }
@@ -53,7 +59,8 @@ fn reason_in(
     reason_by_sources(alloc, inputs, area, dest)
 }
 
-// Why it is due in the area of two or more that are active, if the area is no stub area that decides it.
+// Explains the summary by its sources. The area and another one are active, and if the area is a
+// stub area, it also gets networks such as this one.
 fn reason_by_sources(
     alloc: Global,
     inputs: &SummaryInputs<'_>,
@@ -73,7 +80,7 @@ fn reason_by_sources(
     })
 }
 
-// What a stub area decides.
+// Returns the explanation of a summary that the stub area's configuration decides, or `None`.
 fn stub_reason(stub: Option<Stub>, dest: &Dest) -> Option<DueExplained>
     ensures some { IfSome result (λ x. IsStubReason stub dest.now x.metric x.reason) }
     ensures none { IfNone result (MaySend stub dest.now) }
@@ -85,7 +92,7 @@ fn stub_reason(stub: Option<Stub>, dest: &Dest) -> Option<DueExplained>
     }
 }
 
-// What a stub area decides of a network.
+// Returns the explanation for a network that the stub area's configuration decides, or `None`.
 fn stub_network_reason(stub: Stub, network: Prefix) -> Option<DueExplained>
     ensures some { IfSome result (λ x. IsStubReason (Some stub) (dest_value.Net network)
         x.metric x.reason) }
@@ -103,7 +110,7 @@ fn stub_network_reason(stub: Stub, network: Prefix) -> Option<DueExplained>
     None
 }
 
-// Whether it is the network of the default route.
+// Returns true if the network is the destination of the default route.
 fn is_default(network: Prefix) -> bool
     ensures { IsTrue result ↔ (network ≡ default_route) }
 {

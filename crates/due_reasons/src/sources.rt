@@ -1,4 +1,4 @@
-//! All that could give a summary for a destination, and what becomes of it in an area.
+//! The sources of a summary for a destination, and their verdicts in an area.
 ghost use Rattle.std.specs.Prelude.{◌≡◌, ◌⊎◌, ◌++◌, Some, IfOk, OnOk, map as list_map, option_copied};
 ghost use Rattle.summaries.specs.Giving.{IsMost};
 ghost use Rattle.due_reasons.specs.Sources.{AreNetworkSources, AreRouterSources, AreSources, GivesAmong, listed, settled};
@@ -12,7 +12,7 @@ use ospf_types::prefix::Prefix;
 use std::alloc::Global;
 use summaries::SummaryInputs;
 
-/// What could give a summary for the destination, whichever the area.
+/// Returns the sources of a summary for the destination, for all areas.
 pub(crate) fn find_sources(
     alloc: Global,
     inputs: &SummaryInputs<'_>,
@@ -26,7 +26,7 @@ pub(crate) fn find_sources(
     }
 }
 
-/// The greatest metric at which one of them gives a summary in the area.
+/// Returns the highest metric at which one of the sources gives a summary in the area, or `None`.
 pub(crate) fn greatest_into(sources: &[DueSource], area: u32) -> Option<u32>
     ensures { IsMost (GivesAmong area sources.now) result }
 {
@@ -37,7 +37,8 @@ pub(crate) fn greatest_into(sources: &[DueSource], area: u32) -> Option<u32>
     most
 }
 
-/// Tells what becomes of each in the area, where the summary is due at this metric.
+/// Settles the verdicts on the sources in the area. `metric` is the metric of the summary there, or
+/// `None` if it is not due.
 pub(crate) fn settle_all(sources: &mut [DueSource], area: u32, metric: Option<u32>)
     ensures { sources.new ≡ list_map (settled area metric) sources.old }
 {
@@ -46,7 +47,7 @@ pub(crate) fn settle_all(sources: &mut [DueSource], area: u32, metric: Option<u3
     }
 }
 
-// The routes of the network, and the ranges with its prefix.
+// Returns the routes to the network and the ranges with its prefix, as sources.
 fn network_sources(
     alloc: Global,
     inputs: &SummaryInputs<'_>,
@@ -63,7 +64,7 @@ fn network_sources(
     Ok(sources)
 }
 
-// The preferred route of the AS boundary router.
+// Returns the preferred route of the AS boundary router as a source, if there is one.
 fn router_sources(alloc: Global, preferred: Option<&AsbrRoute>) -> Result<Vec<DueSource>, Memory>
     ensures { IfOk result (λ sources. AreRouterSources (option_copied preferred.entry)
         sources.items) }
@@ -73,7 +74,7 @@ fn router_sources(alloc: Global, preferred: Option<&AsbrRoute>) -> Result<Vec<Du
     Ok(sources)
 }
 
-// Adds the source, where there is one.
+// Appends the source, if there is one.
 fn push_found(sources: &mut Vec<DueSource>, found: Option<&DueSource>) -> Result<(), Memory>
     ensures { OnOk result (sources.new.items
         ≡ sources.old.items ++ listed (option_copied found.entry)) }
@@ -84,7 +85,7 @@ fn push_found(sources: &mut Vec<DueSource>, found: Option<&DueSource>) -> Result
     Ok(())
 }
 
-// The greater of the two, where there are two.
+// Returns the higher of the two metrics. `None` is the lowest.
 fn greater(a: Option<u32>, b: Option<u32>) -> Option<u32>
     ensures { IsMost (λ n. (a ≡ Some n) ⊎ (b ≡ Some n)) result }
 {

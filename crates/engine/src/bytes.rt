@@ -1,4 +1,4 @@
-//! LSAs as bytes, which are read before the lock is taken.
+//! Installation of LSAs from their bytes, which are read before the lock is taken.
 ghost use Rattle.std.specs.Prelude.{MatchResult};
 ghost use Rattle.engine.specs.Bytes.{AreInstalled, AreRefused};
 
@@ -11,7 +11,12 @@ use ospf_types::key::Scope;
 use std::sync::Wait;
 
 impl Engine {
-    /// Reads the bytes of one LSA (RFC 2328, A.4), and submits its install in the scope.
+    /// Reads the bytes of one LSA (RFC 2328, A.4), and submits its installation in the scope.
+    ///
+    /// # Errors
+    ///
+    /// Returns the fault of the bytes if they are not a valid LSA, and no event is submitted.
+    /// Otherwise it returns the refusal of the event.
     pub fn submit_bytes<R: Wait>(
         &self,
         rt: &R,

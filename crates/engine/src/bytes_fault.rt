@@ -1,4 +1,4 @@
-//! Why an LSA's bytes were not installed.
+//! The reason why the bytes of an LSA were not installed.
 ghost use Rattle.std.specs.Prelude.{Some};
 ghost use Rattle.engine.specs.Texts.{bytes_fault_text};
 
@@ -7,16 +7,16 @@ use lsa_codec::WireFault;
 use std::fmt;
 use thiserror::Error;
 
-/// Why an LSA's bytes were not installed.
+/// The reason why the bytes of an LSA were not installed.
 #[derive(Debug, Drop, Error)]
 pub enum BytesFault {
-    /// They are no LSA.
+    /// The bytes are not a valid LSA.
     Wire(WireFault),
     /// The event was refused.
     Refused(Refused),
 }
 
-/// The number and the name, as `2 Checksum`.
+/// The fault as a number and a name, such as `2 Checksum`.
 impl fmt::Display for BytesFault {
     ghost output = { λ fault. Some (bytes_fault_text fault) };
 

@@ -31,9 +31,11 @@ use std::sync::{Mutex, Wait};
 
 const MOST_READERS: usize = 64;
 
-/// The databases, the routing table and the due summaries of an area border router, for threads that share them. One event
-/// is all between taking and releasing its lock. To a contract the engine is its name: its history, and the base that it began with.
-/// It is not `Drop`: end it by `close`.
+/// The databases, the routing table and the due summaries of an area border router, shared by
+/// threads.
+///
+/// Each event is applied under the engine's lock. Contracts see the engine's name: its history, and
+/// the base that it was opened with. It is not `Drop`, so it has to be ended by `close`.
 pub struct Engine {
     alloc: Global,
     door: Mutex<()>,
@@ -49,7 +51,13 @@ impl Model for Engine {
 }
 
 impl Engine {
-    /// Opens an engine with no interfaces and empty databases, and its forwarders, which have seen the empty list alone.
+    /// Opens an engine for the configuration, with no interfaces and empty databases. Returns it
+    /// with `readers` forwarders, which know the empty history.
+    ///
+    /// # Errors
+    ///
+    /// Returns the first fault of the configuration (40 to 44), or 45 Readers if `readers` is not 1
+    /// to 64. Then come 46 Place, if there is no place for a forwarder, and 30 Memory.
     pub fn open<R: Wait>(
         rt: &R,
         alloc: Global,
@@ -75,8 +83,15 @@ impl Engine {
         }
     }
 
-    /// Opens an engine with the ranges, the interfaces and the LSAs of the base, and its forwarders, which have seen the
-    /// empty list alone. Serials go on from that of the base.
+    /// Opens an engine with the ranges, the interfaces and the LSAs of the base. Serials continue
+    /// from the base's serial. Returns it with `readers` forwarders, which know the empty history.
+    ///
+    /// # Errors
+    ///
+    /// Returns the first fault of the base: one of its configuration (40 to 44), 47 Doubled, or a
+    /// fault of its interfaces and LSAs (20, 21, 27, 29). Then come 45 Readers, if `readers` is not
+    /// 1 to 64, and 46 Place. If memory runs out, 30 Memory can come before all of these except a
+    /// fault of the configuration.
     pub fn open_from<R: Wait>(
         rt: &R,
         alloc: Global,
@@ -101,15 +116,24 @@ impl Engine {
         open_sound(rt, alloc, base, readers, hashing)
     }
 
-    /// Takes the event, or refuses it.
+    /// Applies the event, and publishes the table.
+    ///
+    /// # Errors
+    ///
+    /// Returns the refusal of the event (20 to 29, 34 to 36), or 30 Memory, in a `Refused`. The
+    /// event is then not taken.
     pub fn submit<R: Wait>(&self, rt: &R, event: Event) -> Result<Answer, Refused>
         ensures { IsAnswered self.now event result }
     {
         self.submit_gated(rt, event, &Open, 0, 0)
     }
 
-    /// Takes the event, or refuses it. It calls the gate before it takes the lock, under the lock before the publication of a
-    /// taken event, and after the answer, each once.
+    /// Applies the event like `submit`, and calls the hooks of the gate once each. They get
+    /// `worker` and `place`.
+    ///
+    /// # Errors
+    ///
+    /// Returns the same refusals as `submit`. `Gate::inside` is not called then.
     pub fn submit_gated<R: Wait, G: Gate>(
         &self,
         rt: &R,
@@ -133,7 +157,8 @@ impl Engine {
         answer
     }
 
-    /// Builds and publishes what is behind.
+    /// Publishes the whole table if the published one is behind, and rebuilds it before if the core
+    /// is behind. Returns a token of the whole history if its table is published.
     pub fn catch_up<R: Wait>(&self, rt: &R) -> Option<Told>
         ensures { IfSome result (λ t. (t.name ≡ self.now) × IsLegal self.now.base t.list) }
     {
@@ -144,7 +169,11 @@ impl Engine {
         told
     }
 
-    /// A copy of the summary-LSAs that are due in the area (RFC 2328, 12.4.3).
+    /// Returns a copy of the summary-LSAs due in the area (RFC 2328, 12.4.3).
+    ///
+    /// # Errors
+    ///
+    /// Returns 20 NoArea if the area is not configured, or 30 Memory.
     pub fn due<R: Wait>(&self, rt: &R, area: u32) -> Result<DueList, Refusal>
         ensures due { IfOk result (IsDueListOf self.now area) }
         ensures area { IsForArea self.now.base.config area result }
@@ -158,9 +187,16 @@ impl Engine {
         due
     }
 
-    /// Makes the state as it is the base, and empties the journal, whose memory is given back: a router that is rolled now and
-    /// then runs for ever. What forwarders see stays, and none of them waits. The answer is the serial, which goes on.
-    /// Refused are, with 37, a table that is not published as it is now, and want of memory; then nothing changes.
+    /// Makes the present state the base, and empties the journal: a checkpoint, by which a router
+    /// can run without end. The journal's memory is freed. Returns the serial, and serials
+    /// continue.
+    ///
+    /// The published table is unchanged, and no forwarder waits.
+    ///
+    /// # Errors
+    ///
+    /// Returns 37 NotCurrent if the published table does not reflect the whole journal, or 30
+    /// Memory. Nothing is changed then.
     pub fn roll<R: Wait>(&self, rt: &R) -> Result<u64, Refusal>
         ensures serial { IfOk result (IsRolledSerial self.now.base) }
         ensures refused { IfErr result (λ e. (e ≡ NotCurrent) ⊎ (e ≡ NoMemory)) }
@@ -176,8 +212,8 @@ impl Engine {
         self.alloc
     }
 
-    /// Waits for the forwarders that look, and gives the core back. Its base is the state after the events that were rolled,
-    /// and its journal has those since.
+    /// Waits for the forwarders that are reading, and returns the core. Its base reflects the
+    /// events up to the last roll, and its journal has the events since.
     pub fn close<R: Wait>(self, rt: &R) -> Core
         ensures core { IsCore result }
         ensures limits { result.limits ≡ standard_limits }
@@ -195,7 +231,7 @@ impl Engine {
     }
 }
 
-// The fault of a base, as one of opening.
+// Returns the fault of a base as a fault of opening.
 fn of_base(fault: BaseFault) -> OpenFault
     ensures { result ≡ open_fault_of fault }
 {
@@ -206,7 +242,7 @@ fn of_base(fault: BaseFault) -> OpenFault
     }
 }
 
-// The engine of a sound base, and so many forwarders.
+// Opens an engine with `readers` forwarders from a base without faults.
 fn open_sound<R: Wait>(
     rt: &R,
     alloc: Global,
@@ -227,7 +263,7 @@ fn open_sound<R: Wait>(
     }
 }
 
-// The engine over a core that was opened just now, and so many forwarders.
+// Opens an engine with `readers` forwarders over a core that was just opened.
 fn open_over<R: Wait>(
     rt: &R,
     alloc: Global,
@@ -249,7 +285,7 @@ fn open_over<R: Wait>(
     }
 }
 
-// The engine of an engine's state, and so many forwarders.
+// Opens an engine with `readers` forwarders over its state.
 fn begin<R: Wait>(
     rt: &R,
     alloc: Global,
@@ -272,7 +308,7 @@ fn begin<R: Wait>(
     }
 }
 
-// The engine of an engine's state, beside its forwarders.
+// Opens an engine over its state, and returns it with its forwarders.
 fn enter<R: Wait>(
     rt: &R,
     alloc: Global,
@@ -296,7 +332,7 @@ fn enter<R: Wait>(
     }
 }
 
-// The slot with the engine's state in it.
+// Creates a slot with the engine's state in it.
 fn slot_of<R: Wait>(
     rt: &R,
     alloc: Global,
@@ -335,7 +371,7 @@ fn forwarders(
     Ok(all)
 }
 
-// Adds one more forwarder.
+// Appends one more forwarder.
 fn add_forwarder(engine_state: &mut EngineState, all: &mut Vec<Forwarder>) -> Result<(), OpenFault>
     requires { engine_state.old.published ≡ [] }
     ensures same { engine_state.new ≡ engine_state.old }
@@ -345,7 +381,7 @@ fn add_forwarder(engine_state: &mut EngineState, all: &mut Vec<Forwarder>) -> Re
     keep(placed(engine_state.forwarder())?, all)
 }
 
-// The forwarder, or that there was no place for it.
+// Returns the forwarder, or 46 Place if there was no place for it.
 fn placed(found: Result<Forwarder, AllocError>) -> Result<Forwarder, OpenFault>
     ensures { MatchResult found (λ forwarder. result ≡ Ok forwarder)
         (λ _. result ≡ Err open_value.Place) }
@@ -356,7 +392,7 @@ fn placed(found: Result<Forwarder, AllocError>) -> Result<Forwarder, OpenFault>
     }
 }
 
-// Puts the forwarder behind the others.
+// Appends the forwarder.
 fn keep(forwarder: Forwarder, all: &mut Vec<Forwarder>) -> Result<(), OpenFault>
     ensures added { OnOk result (all.new.items ≡ all.old.items ++ forwarder ∷ []) }
     ensures fault { IfErr result (λ e. e ≡ open_value.Config fault.Memory) }

@@ -1,5 +1,6 @@
-//! The engine of an OSPF area border router (RFC 2328): any thread submits events, which take a lock; what they
-//! change of the routing table is published; and forwarders look it up with no lock.
+//! The engine of an OSPF area border router (RFC 2328), which threads share. Any thread submits
+//! events, under a lock. The engine publishes the changes of the routing table, and forwarders look
+//! addresses up in it without a lock.
 #![tactic(auto)]
 
 mod bytes;

@@ -1,4 +1,4 @@
-//! Why an engine was not opened.
+//! The reason why an engine was not opened.
 ghost use Rattle.std.specs.Prelude.{Some};
 ghost use Rattle.engine.specs.Texts.{open_fault_text};
 
@@ -7,22 +7,22 @@ use event_state::EntryFault;
 use std::fmt;
 use thiserror::Error;
 
-/// Why an engine was not opened: the first of these that holds.
+/// The reason why an engine was not opened: the first of these that holds.
 #[derive(Clone, Copy, Debug, PartialEq, Eq, Error)]
 pub enum OpenFault {
-    /// The configuration has this fault, or memory ran out.
+    /// The configuration has a fault, or memory ran out.
     Config(ConfigFault),
-    /// An interface id, or a key in a scope, is twice in the base.
+    /// An interface id, or a key in a scope, is listed twice in the base.
     Doubled,
-    /// No event could have made the base.
+    /// No events could have led to the interfaces and LSAs of the base.
     EntryFault(EntryFault),
-    /// No reader, or more than 64.
+    /// There are no readers, or more than 64.
     Readers,
     /// There was no place for a reader.
     Place,
 }
 
-/// The number and the name, as `45 Readers`.
+/// The fault as a number and a name, such as `45 Readers`.
 impl fmt::Display for OpenFault {
     ghost output = { λ fault. Some (open_fault_text fault) };
 

@@ -1,4 +1,7 @@
-//! A slot beside the lock, which knows its engine's name. What lies under a plain lock is known by its type alone, and so has no name.
+//! The slot for an engine's state, next to the lock.
+//!
+//! Contracts know the content of a plain lock only by its type, so it has no name. The slot knows
+//! the name of its engine.
 ghost use Rattle.std.specs.Prelude.{◌≡◌, IfOk, IfSome};
 ghost use Rattle.engine.specs.EngineSlots.{Fits};
 
@@ -10,6 +13,7 @@ use std::marker::Model;
 use std::sync::Wait;
 use std::thread;
 
+/// The rule of the slot: its content has the slot's name.
 pub struct SlotRule;
 
 impl TableRule<Option<EngineState>, EngineName, EngineName> for SlotRule {
@@ -20,6 +24,7 @@ impl TableRule<Option<EngineState>, EngineName, EngineName> for SlotRule {
     ghost first = { λ name. name };
 }
 
+/// The step that gives a thread the right to exchange the content of the slot.
 pub struct TakesOut;
 
 impl Play<Option<EngineState>, EngineName> for TakesOut {
@@ -28,6 +33,7 @@ impl Play<Option<EngineState>, EngineName> for TakesOut {
     ghost then = { Took };
 }
 
+/// The step that gives that right back.
 pub struct PutsBack;
 
 impl Play<Option<EngineState>, EngineName> for PutsBack {
@@ -36,7 +42,7 @@ impl Play<Option<EngineState>, EngineName> for PutsBack {
     ghost then = { Gave };
 }
 
-/// To a contract it is its name.
+/// A slot for the state of an engine. Contracts see its name.
 pub struct EngineSlot {
     table: Table<Option<EngineState>, EngineName, EngineName, SlotRule, Global>,
 }
@@ -53,7 +59,11 @@ impl Model for EngineSlot {
 }
 
 impl EngineSlot {
-    /// An empty slot.
+    /// Creates an empty slot.
+    ///
+    /// # Errors
+    ///
+    /// Returns `AllocError` if memory runs out.
     pub fn open(alloc: Global, name: &EngineName) -> Result<EngineSlot, AllocError>
         ensures { IfOk result (λ r. r ≡ name.now) }
     {
@@ -62,7 +72,7 @@ impl EngineSlot {
         Ok(EngineSlot { table })
     }
 
-    // Leaves this in the slot, and gives what was there.
+    // Puts the new content into the slot, and returns the old one.
     fn swap<R: Wait>(&self, rt: &R, new: Option<EngineState>) -> Option<EngineState>
         requires { Fits self.now new }
         ensures { Fits self.now result }
@@ -82,7 +92,7 @@ impl EngineSlot {
         unreachable!()
     }
 
-    /// Takes the engine's state out. Who holds the lock finds it there.
+    /// Takes the engine's state from the slot. A thread that holds the lock always finds it there.
     pub fn take<R: Wait>(&self, rt: &R) -> EngineState
         ensures { result.name ≡ self.now }
     {
@@ -95,7 +105,7 @@ impl EngineSlot {
         unreachable!()
     }
 
-    /// Puts the engine's state back.
+    /// Puts the engine's state back into the slot.
     pub fn put<R: Wait>(&self, rt: &R, engine_state: EngineState)
         requires { engine_state.name ≡ self.now }
     {
@@ -104,7 +114,7 @@ impl EngineSlot {
         }
     }
 
-    /// Ends an empty slot.
+    /// Closes an empty slot.
     pub fn close<R: Wait>(self, rt: &R) {
         let EngineSlot { table } = self;
         let mut closed = table.close();

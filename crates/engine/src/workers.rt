@@ -16,9 +16,10 @@ use std::thread::{Promise, PromisedHandle, Scope, Threads};
 
 const MOST_WORKERS: usize = 16;
 
+/// The answers to the events of one list, in order.
 pub type Answers = Vec<Result<Answer, Refused>>;
 
-/// A worker's events, and room for their answers.
+/// The events of a worker, and a list with room for their answers.
 #[derive(Drop)]
 pub struct Job {
     pub events: Vec<Event>,
@@ -27,7 +28,7 @@ pub struct Job {
     ghost room: { vec_len events ≤ vec_capacity answers },
 }
 
-// Makes room for the answers of a list.
+// Creates the job of a list, with room for the answers.
 fn prepared(alloc: Global, events: Vec<Event>) -> Result<Job, AllocError>
     ensures { IfOk result (λ j. j.events ≡ events) }
 {
@@ -35,7 +36,7 @@ fn prepared(alloc: Global, events: Vec<Event>) -> Result<Job, AllocError>
     Ok(Job { events, answers })
 }
 
-// Submits a worker's events in turn, each through the gate.
+// Submits the events of a worker in order, each through the gate.
 fn work<R: Wait, G: Gate>(rt: &R, engine: &Engine, gate: &G, worker: usize, job: Job) -> Answers
     ensures answered { AreAnswered engine.now job.events.items result.items }
     ensures gate { HavePassed (G.came gate.now) (G.passed gate.now) (G.left gate.now)
@@ -56,7 +57,7 @@ fn work<R: Wait, G: Gate>(rt: &R, engine: &Engine, gate: &G, worker: usize, job:
     answers
 }
 
-/// What a worker's thread promises: the answers of its events.
+/// The promise of a worker's thread: it returns the answers to its events.
 #[derive(Drop)]
 struct Answering<'a> {
     engine: &'a Engine,
@@ -71,7 +72,7 @@ impl<'a> Promise<Answers> for Answering<'a> {
 
 type Child<'s> = PromisedHandle<Answers, Answering<'s>>;
 
-// Starts a thread for a job.
+// Starts a thread for the job.
 fn start<'s, E, R: Threads + Wait + Sync, G: Gate>(
     scope: &'s Scope<'s, E>,
     rt: &'s R,
@@ -92,7 +93,7 @@ fn start<'s, E, R: Threads + Wait + Sync, G: Gate>(
         .ok()
 }
 
-// Starts a thread for each job. The answer is false where one could not be started.
+// Starts a thread for each job. Returns false if a thread could not be started.
 fn start_all<'s, E, R: Threads + Wait + Sync, G: Gate>(
     scope: &'s Scope<'s, E>,
     rt: &'s R,
@@ -122,7 +123,7 @@ fn start_all<'s, E, R: Threads + Wait + Sync, G: Gate>(
     true
 }
 
-// Joins each thread.
+// Joins all threads.
 fn join_all<'s, R: Threads>(rt: &R, children: Vec<Child<'s>>, all: Vec<Answers>) -> Vec<Answers>
     requires empty { all.items ≡ [] }
     requires room { vec_len children ≤ vec_capacity all }
@@ -140,14 +141,14 @@ fn join_all<'s, R: Threads>(rt: &R, children: Vec<Child<'s>>, all: Vec<Answers>)
     all
 }
 
-/// Room for the threads of several jobs, and for the answers of each.
+/// Lists with room for the threads of the jobs, and for the answers of each.
 #[derive(Drop)]
 struct Room<'s> {
     children: Vec<Child<'s>>,
     all: Vec<Answers>,
 }
 
-// Makes room for the threads of so many jobs.
+// Creates lists with room for the threads of `count` jobs.
 fn room_for<'s>(alloc: Global, count: usize) -> Result<Room<'s>, AllocError>
     ensures empty { IfOk result (λ room. (room.children.items ≡ []) × (room.all.items ≡ [])) }
     ensures room { IfOk result (λ room. (count ≤ vec_capacity room.children)
@@ -158,8 +159,8 @@ fn room_for<'s>(alloc: Global, count: usize) -> Result<Room<'s>, AllocError>
     Ok(Room { children, all })
 }
 
-// Runs each job on a thread of its own, and joins all that were started. Once a thread may have started, the one refusal is
-// that another one could not: want of memory comes before.
+// Runs each job on its own thread, and joins all threads that were started. Memory was reserved
+// before, so the only refusal is 31 Spawn.
 fn run_all<'s, E, R: Threads + Wait + Sync, G: Gate>(
     scope: &'s Scope<'s, E>,
     rt: &'s R,
@@ -186,7 +187,7 @@ fn run_all<'s, E, R: Threads + Wait + Sync, G: Gate>(
     }
 }
 
-// Makes room for the threads, before any of them starts, and then runs each job on one.
+// Reserves memory for the threads before any of them starts, and then runs each job on a thread.
 fn run_with_room<'s, E, R: Threads + Wait + Sync, G: Gate>(
     scope: &'s Scope<'s, E>,
     rt: &'s R,
@@ -206,7 +207,7 @@ fn run_with_room<'s, E, R: Threads + Wait + Sync, G: Gate>(
     }
 }
 
-// Makes room for the answers of each list.
+// Creates the jobs of the lists, with room for their answers.
 fn all_prepared(alloc: Global, lists: Vec<Vec<Event>>) -> Result<Vec<Job>, AllocError>
     ensures { IfOk result (λ jobs.
         AllZip (λ events job. job.events ≡ events) lists.items jobs.items) }
@@ -244,12 +245,16 @@ fn run<R: Threads + Wait + Sync, G: Gate>(
 }
 
 impl Engine {
-    /// Submits each list on a thread of its own, and answers each event of each.
+    /// Submits the events of each list in order, on a thread for each list. Returns the answers
+    /// list by list.
     ///
     /// # Errors
     ///
-    /// 32 Workers if there are more than 16 lists, and 30 Memory if there is no room for the answers. Both come before any
-    /// thread starts: no event is taken. 31 Spawn if a thread cannot be started; the journal tells what was taken.
+    /// Returns 32 Workers if there are more than 16 lists, or 30 Memory if there is no memory for
+    /// the answers. Both come before any thread starts, so no event is taken.
+    ///
+    /// Returns 31 Spawn if a thread could not be started. Some events may have been taken then; the
+    /// journal has them.
     pub fn submit_all<R: Threads + Wait + Sync, G: Gate>(
         &self,
         rt: &R,

@@ -1,4 +1,4 @@
-//! What is answered to an event, and to who asks what is due.
+//! The answers to events and to queries of due summaries.
 ghost use Rattle.std.specs.Prelude.{Some};
 ghost use Rattle.engine_state.specs.Texts.{refused_text};
 
@@ -7,22 +7,27 @@ use publication::Told;
 use std::fmt;
 use thiserror::Error;
 
-/// The answer to a taken event. The token is there exactly where the published table has the event.
+/// The answer to a taken event. It has a token if and only if the published table contains the
+/// event.
 #[derive(Drop)]
 pub struct Answer {
+    /// The core's reply. Its state is `Behind` if there is no token.
     pub reply: Reply,
+    /// The token of the history up to the event.
     pub told: Option<Told>,
 }
 
-/// The answer to an event that was not taken. The token is there exactly where the published table is that of the whole
-/// journal.
+/// The answer to an event that was not taken. It has a token if and only if the published table
+/// reflects the whole journal.
 #[derive(Debug, Drop, Error)]
 pub struct Refused {
+    /// The reason why the event was not taken.
     pub refusal: Refusal,
+    /// The token of the published history.
     pub told: Option<Told>,
 }
 
-/// The number and the name of the refusal, as `23 Same`.
+/// The refusal as a number and a name, such as `23 Same`.
 impl fmt::Display for Refused {
     ghost output = { λ refused. Some (refused_text refused) };
 
@@ -31,11 +36,14 @@ impl fmt::Display for Refused {
     }
 }
 
-/// A copy of the summary-LSAs that are due in an area (RFC 2328, 12.4.3), ascending by LS type and destination, with the
-/// serial of the last event that they follow. The token is there exactly where the published table has the same serial.
+/// A copy of the summary-LSAs due in an area (RFC 2328, 12.4.3), in ascending order of LS type and
+/// destination. It has a token if and only if the published table has the same serial.
 #[derive(Drop)]
 pub struct DueList {
+    /// The serial of the last event that the list reflects.
     pub serial: u64,
+    /// The due summaries.
     pub list: Vec<DueSummary>,
+    /// The token of the published history.
     pub told: Option<Told>,
 }

@@ -1,4 +1,4 @@
-//! What lies under the lock: the core, and the writer of what is published.
+//! The state under an engine's lock: the core, and the writer of the published table.
 ghost use Rattle.std.specs.Prelude.{List, ◌≡◌, ◌⊎◌, ◌↔◌, ◌≤◌, ◌+◌, ◌<◌, ◌^◌, [], ◌∷◌, ◌++◌, length, drop, false, MatchBool, IfOk, IfErr, IfNone, IsTrue, MatchOption, MatchResult, IfSome, OnOk};
 ghost use mathlib.Core.List.{IsPrefix};
 ghost use Rattle.left_right.specs.Sides.{view as known_to};
@@ -24,22 +24,25 @@ use std::alloc::{AllocError, Global};
 use std::marker::Model;
 use std::sync::Wait;
 
-// A history of so many events is followed no further: that many take longer than any router runs.
+// The number of rolled events, or of events in the journal, at which a history is not followed any
+// further. So many events take longer than a router runs.
 const MOST_EVENTS: u64 = 1 << 61;
 
-/// Where it is not stale, nothing is pending and the published table is that of the whole journal. Where it is, less is
-/// published, and the next publication begins by emptying the table.
+/// The core, and the writer of the published table.
+///
+/// If the state is not stale, nothing is pending and the published table reflects the whole
+/// journal. If it is stale, less is published, and the next publication clears the table first.
 pub struct EngineState {
     parts: EngineParts,
     stale: bool,
 }
 
-// The core, the history of its events, and the writer of what is published.
+// The core, the history of its events, and the writer of the published table.
 struct EngineParts {
     alloc: Global,
     core: Core,
     history: History,
-    // The history as it was at the last roll: it is in the base of the core.
+    // The history at the last roll. The base of the core reflects it.
     rolled: HistoryPrefix,
     writer: TableWriter,
 }
@@ -58,7 +61,8 @@ impl Model for EngineState {
     ghost invariant = { λ d. IsCore d.parts.core × IsKept d.parts.core d.parts.history d.parts.rolled d.parts.writer.desk.shown.value (known_to d.parts.writer.desk.place) × IsFresh d.stale d.parts.core d.parts.history d.parts.rolled d.parts.writer.desk.shown.value (drop d.parts.writer.behind d.parts.writer.log.items) };
 }
 
-// Adds what the history lacks of the journal, which stands in it behind what was rolled.
+// Appends to the history the events of the journal that it lacks. The journal comes after the
+// events that were rolled.
 fn follow(history: &mut History, rolled: &HistoryPrefix, journal: &[Event])
     requires begun { IsPrefix history.old.list (rolled.now.list ++ journal.now) }
     requires within { length rolled.now.list ≤ length history.old.list }
@@ -72,7 +76,8 @@ fn follow(history: &mut History, rolled: &HistoryPrefix, journal: &[Event])
     }
 }
 
-// Adds what the history lacks of the journal, where all of it was built. The answer is false where it was not.
+// Appends to the history the events of the journal that it lacks, and returns true if the core is
+// current. Otherwise it returns false.
 fn follow_built(history: &mut History, rolled: &HistoryPrefix, core: &Core) -> bool
     requires written { IsBegun rolled.now core.now history.old.list }
     ensures kept { IsCore core.now }
@@ -91,7 +96,7 @@ fn follow_built(history: &mut History, rolled: &HistoryPrefix, core: &Core) -> b
 }
 
 impl EngineParts {
-    // Publishes the table of the whole journal, where it was built. It may be refused.
+    // Publishes the whole table if the core is current. The publication may fail.
     fn publish_whole<R: Wait>(self, rt: &R) -> EngineState
         requires kept { IsKept self.core self.history self.rolled self.writer.desk.shown.value
             (known_to self.writer.desk.place) }
@@ -126,7 +131,7 @@ impl EngineParts {
         }
     }
 
-    // Publishes what changed of the table. It may be refused.
+    // Publishes the changes of the table if the core is current. The publication may fail.
     fn publish_changes<R: Wait>(self, rt: &R) -> EngineState
         requires kept { IsKept self.core self.history self.rolled self.writer.desk.shown.value
             (known_to self.writer.desk.place) }
@@ -163,7 +168,8 @@ impl EngineParts {
         }
     }
 
-    // Publishes what an event changed, or the whole table. The state is what the event was answered.
+    // Publishes the changes of an event, or the whole table. `state` is the status of the core's
+    // reply to the event.
     fn publish<R: Wait>(self, rt: &R, stale: bool, state: Status) -> EngineState
         requires kept { IsKept self.core self.history self.rolled self.writer.desk.shown.value
             (known_to self.writer.desk.place) }
@@ -185,7 +191,7 @@ impl EngineParts {
 }
 
 impl EngineState {
-    // A token for the published list, if it has this serial.
+    // Returns a token of the published history, if its serial is this one.
     fn told(&self, serial: u64) -> Option<Told>
         ensures none { IfNone result (¬ (serial ≡ published_serial self.now)) }
         ensures some { IfSome result (Tells self.now.name self.now.list serial) }
@@ -198,7 +204,13 @@ impl EngineState {
         Some(Told::of(shown.front.again(), shown.base.again(), serial))
     }
 
-    /// Takes an event, and publishes the table. Between the two it passes the gate.
+    /// Applies an event, and publishes the table if the event was taken. It calls `gate.inside`
+    /// between the two.
+    ///
+    /// # Errors
+    ///
+    /// Returns the core's refusal of the event, in a `Refused`. Nothing is changed or published
+    /// then.
     pub fn submit<R: Wait, G: Gate>(
         self,
         rt: &R,
@@ -230,7 +242,8 @@ impl EngineState {
         }
     }
 
-    // Builds and publishes what is behind. The answer is the core's.
+    // Publishes the whole table if the state is stale, and rebuilds it before if the core is
+    // behind. Returns the status of the core.
     fn follow_up<R: Wait>(self, rt: &R) -> (EngineState, Status)
         ensures same { (result.0.name ≡ self.name) × (result.0.list ≡ self.list) }
         ensures state { CatchesUp self result.1 result.0 }
@@ -248,8 +261,9 @@ impl EngineState {
         (engine_state, state)
     }
 
-    /// Builds and publishes what is behind. The answer is what the core's `catch_up` answered, and the token of the whole
-    /// journal, if its table is published.
+    /// Publishes the whole table if the published one does not reflect the whole journal, and
+    /// rebuilds it before if the core is behind. Returns the core's status, and a token of the
+    /// whole journal if its table is published.
     pub fn catch_up<R: Wait>(self, rt: &R) -> (EngineState, Status, Option<Told>)
         ensures same { (result.0.name ≡ self.name) × (result.0.list ≡ self.list) }
         ensures state { CatchesUp self result.1 result.0 }
@@ -262,7 +276,11 @@ impl EngineState {
         (engine_state, state, told)
     }
 
-    /// A copy of what is due in an area.
+    /// Returns a copy of the summary-LSAs due in the area (RFC 2328, 12.4.3).
+    ///
+    /// # Errors
+    ///
+    /// Returns 20 NoArea if the area is not configured, or 30 Memory.
     pub fn due(&self, area: u32) -> Result<DueList, Refusal>
         ensures due { IfOk result (IsDueListOf self.now.name area) }
         ensures built { IfOk result (λ d. d.serial ≡ built_serial self.now) }
@@ -281,7 +299,12 @@ impl EngineState {
         Ok(DueList { serial, list, told })
     }
 
-    /// Begins with this core, whose journal is empty, and with room for so many readers.
+    /// Opens the state of an engine over this core, whose journal is empty, with places for
+    /// `readers` readers.
+    ///
+    /// # Errors
+    ///
+    /// Returns `Memory` if memory runs out.
     pub fn open<R: Wait>(
         rt: &R,
         alloc: Global,
@@ -317,9 +340,13 @@ impl EngineState {
         })
     }
 
-    /// Makes the state as it is the base of the core, and empties its journal; what is published stays. The answer is the
-    /// serial, which goes on. Refused are, with 37, a published table that is behind, and want of memory; then everything
-    /// is as it was.
+    /// Makes the present state the base of the core, and empties its journal: a checkpoint. The
+    /// published table is unchanged, and serials continue. Returns the serial.
+    ///
+    /// # Errors
+    ///
+    /// Returns 37 NotCurrent if the published table does not reflect the whole journal, or 30
+    /// Memory. Nothing is changed then.
     pub fn roll(self) -> (EngineState, Result<u64, Refusal>)
         ensures same { IsAsBefore self result.0 }
         ensures legal { IfOk result.1 (λ _. IsLegal self.name.base self.list) }
@@ -333,7 +360,7 @@ impl EngineState {
         let EngineState { mut parts, stale } = self;
         match parts.core.roll() {
             Ok(serial) => {
-                // proof: what holds of every core.
+                // proof: brings in what holds of every core.
                 let _ = parts.core.base();
                 parts.rolled = parts.history.front();
                 (EngineState { parts, stale }, Ok(serial))
@@ -342,7 +369,11 @@ impl EngineState {
         }
     }
 
-    /// A forwarder that knows what is published.
+    /// Returns a new forwarder that knows the published history.
+    ///
+    /// # Errors
+    ///
+    /// Returns `AllocError` if no other reader can be created.
     pub fn forwarder(&mut self) -> Result<Forwarder, AllocError>
         ensures same { self.new ≡ self.old }
         ensures forwarder { IfOk result (KnowsPublished self.old) }
@@ -353,7 +384,7 @@ impl EngineState {
         Ok(Forwarder::of(reader, shown.front.again(), shown.base.again()))
     }
 
-    /// The name, to be kept beside the lock.
+    /// Returns the engine's name, which is kept outside the lock.
     pub fn tag(&self) -> EngineName
         ensures { result ≡ self.now.name }
     {
@@ -361,7 +392,7 @@ impl EngineState {
         EngineName::of(&shown.front, &shown.base)
     }
 
-    /// Waits for the readers, and gives the core back.
+    /// Waits for the readers, and returns the core.
     pub fn end<R: Wait>(self, rt: &R) -> Core
         ensures core { IsCore result }
         ensures limits { result.limits ≡ standard_limits }
@@ -380,14 +411,14 @@ impl EngineState {
     }
 }
 
-// Whether the next publication is that of a whole table.
+// Returns true if the next publication has to publish the whole table.
 fn is_whole(stale: bool, state: Status) -> bool
     ensures { result ≡ false → (stale ≡ false) × (state ≡ Current) }
 {
     stale || state == Status::Behind
 }
 
-// The reply that is due with a token, or without one.
+// Returns the reply with the token: `Current` if there is one, or else `Behind`.
 fn answer(reply: Reply, told: Option<Told>) -> Answer
     ensures same { IsReplyWith reply told result }
     ensures state { MatchOption told (result.reply.state ≡ Behind)

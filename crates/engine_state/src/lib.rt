@@ -1,5 +1,5 @@
-//! What lies under an engine's lock: the core of an OSPF area border router (RFC 2328), and the writer of what forwarders are
-//! shown of its routing table.
+//! The state under an engine's lock: the core of an OSPF area border router (RFC 2328), and the
+//! writer of the routing table that forwarders read.
 #![tactic(auto)]
 
 mod answer;

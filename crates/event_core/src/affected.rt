@@ -1,4 +1,4 @@
-//! What an event may change, known before it is taken.
+//! The parts of the state that an event may change, listed before it is taken.
 ghost use Rattle.std.specs.Prelude.{◌≡◌, IfOk, IfErr, is_some};
 ghost use Rattle.event_state.specs.Refusals.{IsRefusalOf};
 ghost use Rattle.event_state.specs.Steps.{step};
@@ -12,16 +12,19 @@ use ospf_types::memory::Memory;
 use ospf_types::prefix::Prefix;
 use std::alloc::Global;
 
-/// The LSAs and the interfaces that an event may change, the ones or the others, or the range.
+/// The LSAs, interfaces or address range that an event may change.
 #[derive(Drop)]
 pub(crate) struct Affected {
+    /// The LSAs, by their keys.
     pub(crate) keys: Vec<(Scope, Key)>,
+    /// The interfaces, by their ids.
     pub(crate) interfaces: Vec<u8>,
-    // Its Area ID and its prefix.
+    /// The Area ID and the prefix of the range.
     pub(crate) range: Option<(u32, Prefix)>,
 }
 
-/// What the event may change, or its refusal where there is no room to say it.
+/// Returns what the event may change. If memory runs out, returns the event's refusal, or 30 Memory
+/// if it has no other.
 pub(crate) fn affected_by(alloc: Global, state: &State, event: &Event) -> Result<Affected, Refusal>
     ensures named { IfOk result (λ named.
         IsNamedBetween named state.now (step state.now event.now)) }
@@ -57,7 +60,7 @@ fn changed_by(alloc: Global, state: &State, event: &Event) -> Result<Affected, M
     })
 }
 
-// The range that the event sets or drops.
+// Returns the Area ID and prefix of the range that the event sets or drops, or `None`.
 fn range_of(event: &Event) -> Option<(u32, Prefix)>
     ensures { result ≡ range_of event.now }
 {

@@ -1,12 +1,12 @@
-//! What a core calculates from its state.
+//! The state of a core with the results calculated from it.
 use calculation::Calculation;
 use event_state::State;
 
-/// A state, and what is calculated from it (RFC 2328, 16).
+/// A state and the results calculated from it (RFC 2328, 16).
 #[derive(Clone, Copy)]
 pub struct Calculated<'a> {
-    /// The databases and the interfaces.
+    /// The configuration, the databases and the interfaces.
     pub state: &'a State,
-    /// The trees of its areas, and its routes.
+    /// The shortest-path trees of the areas, and the routes.
     pub calculation: &'a Calculation,
 }

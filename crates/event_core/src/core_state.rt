@@ -30,15 +30,21 @@ use std::hash::RandomState;
 use std::marker::Model;
 use summaries::{DueChanges, DueSummaries, DueSummary};
 
-/// The databases and interfaces of an area border router, the journal of the events that made them, and the routing table
-/// and the summary-LSAs due in each area that they give (RFC 2328, 16 and 12.4.3).
+/// An area border router on one thread: its link-state databases, interfaces and address ranges,
+/// and the journal of the events that produced them. It also has what they give: the routing table
+/// (RFC 2328, 16), and the summary-LSAs due in each area (12.4.3).
+///
+/// A core is *current* if the table and the due summaries reflect the whole journal. It is *behind*
+/// only after memory ran out while they were being updated: both then reflect the first events, up
+/// to the serial that `built` returns, until the next event or `catch_up` rebuilds them.
 pub struct Core {
     alloc: Global,
     hashing: RandomState,
     state: State,
     routes: Routes,
+    // The number of journal events that the table and the due summaries reflect.
     built: u64,
-    // Whether the base is from a roll, and so is the state as it was then.
+    // True if the base came from `roll`: it is then the state at that time.
     rolled: bool,
 }
 
@@ -58,7 +64,7 @@ impl Model for Core {
     ghost invariant = { λ c. IsCoherent c.state c.routes c.built × IsBaseItself c.rolled c.state };
 }
 
-// All that a core keeps is dropped here, and not in each function that has one.
+// proof: a value is dropped by one call, not part by part at each exit of a function.
 impl Drop for Core {
     fn drop(self) {
         let Core {
@@ -73,7 +79,12 @@ impl Drop for Core {
 }
 
 impl Core {
-    /// A core with no interfaces, empty databases and an empty journal: that of a bare configuration.
+    /// Opens a core for the configuration, with no interfaces, empty databases and an empty
+    /// journal. The first event gets serial 1.
+    ///
+    /// # Errors
+    ///
+    /// Returns the first fault of the configuration (40 to 44), or 30 Memory.
     pub fn open(alloc: Global, config: Config, hashing: RandomState) -> Result<Core, ConfigFault>
         ensures fault { IfErr result (IsFaultOf config) }
         ensures opens { IfOk result (IsOpening (bare config) standard_limits) }
@@ -82,7 +93,7 @@ impl Core {
         Core::open_within(alloc, config, Limits::STANDARD, hashing)
     }
 
-    /// A core of a bare configuration with these limits.
+    /// Opens a core for the configuration, with the given limits.
     fn open_within(
         alloc: Global,
         config: Config,
@@ -103,7 +114,13 @@ impl Core {
         }
     }
 
-    /// A core with the databases and the interfaces of the base, and an empty journal. Serials go on from that of the base.
+    /// Opens a core from a base, with an empty journal. Serials continue from the base's serial.
+    ///
+    /// # Errors
+    ///
+    /// Returns the first fault of the base: one of its configuration (40 to 44), 47 Doubled, or an
+    /// interface or LSA that an event would have refused (20, 21, 27, 29). If memory runs out, that
+    /// is `BaseFault::Config(ConfigFault::Memory)`.
     pub fn open_from(alloc: Global, base: Base, hashing: RandomState) -> Result<Core, BaseFault>
         ensures fault { IfErr result (IsBaseFaultOf standard_limits base) }
         ensures opens { IfOk result (IsOpening base standard_limits) }
@@ -120,8 +137,11 @@ impl Core {
         }
     }
 
-    /// A core with the databases and the interfaces of the base, and these limits. The base has no fault, as `fault_in_base`
-    /// tells.
+    /// Opens a core from a base in which `fault_in_base` has found no fault, with the given limits.
+    ///
+    /// # Errors
+    ///
+    /// Returns `Memory` if memory runs out.
     pub fn open_sound(
         alloc: Global,
         base: Base,
@@ -145,9 +165,17 @@ impl Core {
         })
     }
 
-    /// Takes the event, and brings table and due summaries up to the state then; or refuses it, and leaves everything as it
-    /// was. The work follows what the event touches: a second in which no LSA reaches MaxAge does none. Where they were
-    /// behind, all is built anew. Where memory is refused, both stay as they were.
+    /// Applies an event to the databases, interfaces and ranges, and updates the table and the due
+    /// summaries.
+    ///
+    /// The cost follows what the event changes: a second in which no LSA reaches MaxAge does no SPF
+    /// work. If the core was behind, everything is rebuilt. If memory runs out after the event was
+    /// taken, the reply is `Behind`, and the table and the due summaries are unchanged.
+    ///
+    /// # Errors
+    ///
+    /// Returns the first refusal that holds for the event (20 to 29, 34 to 36), or 30 Memory if
+    /// memory runs out before the event is taken. The core is then unchanged.
     pub fn apply(&mut self, event: Event) -> Result<Reply, Refusal>
         ensures applied { Applies self.old event result self.new }
         ensures changes { IfOk result (λ reply. NamesChanges self.old reply.state self.new) }
@@ -178,8 +206,11 @@ impl Core {
         })
     }
 
-    /// Builds table and due summaries anew, where they are behind; databases and journal stay as they are, and so does
-    /// what `changes`, `due_changes` and `work` tell of the last event.
+    /// Rebuilds the table and the due summaries if the core is behind. Everything else is
+    /// unchanged, including `changes`, `due_changes` and `work`.
+    ///
+    /// Returns `Behind` if memory runs out again; the table and the due summaries are then
+    /// unchanged.
     pub fn catch_up(&mut self) -> Status
         ensures journal { self.new.journal ≡ self.old.journal }
         ensures base { self.new.base ≡ self.old.base }
@@ -202,9 +233,13 @@ impl Core {
         }
     }
 
-    /// Applies the events one after the other. Room for all answers is made first: where it is
-    /// refused, no event is applied. Afterwards `changes`, `due_changes` and `work` tell of the last event that was taken,
-    /// and where none was, what they told before.
+    /// Applies the events in order, as `apply` does, and returns their replies and refusals in the
+    /// same order. `changes`, `due_changes` and `work` then describe the last event taken; if none
+    /// was, they are unchanged.
+    ///
+    /// # Errors
+    ///
+    /// Returns `Memory` if there is no memory for the list of replies. No event is applied then.
     pub fn run(&mut self, events: Vec<Event>) -> Result<Vec<Result<Reply, Refusal>>, Memory>
         ensures runs { IfOk result (λ replies. Runs self.old events.items replies.items self.new) }
         ensures err { OnErr result (self.new ≡ self.old) }
@@ -219,9 +254,15 @@ impl Core {
         Ok(replies)
     }
 
-    /// Makes the state as it is the base, and empties the journal; what is due, the table and what is told of the last event
-    /// stay. The answer is the serial, which goes on. Right after another roll nothing is copied. Refused are a table that is
-    /// behind, with 37, and want of memory; then everything is as it was.
+    /// Makes the present state the base, and empties the journal: a checkpoint. The table, the due
+    /// summaries, `changes`, `due_changes` and `work` are unchanged, and serials continue. Returns
+    /// the serial.
+    ///
+    /// A second roll with no event in between copies nothing.
+    ///
+    /// # Errors
+    ///
+    /// Returns 37 NotCurrent if the core is behind, or 30 Memory. The core is then unchanged.
     pub fn roll(&mut self) -> Result<u64, Refusal>
         ensures rolled { OnOk result (Rolls self.old self.new) }
         ensures serial { IfOk result (λ serial. serial ≡ serial_of (state_of self.old)) }
@@ -235,7 +276,7 @@ impl Core {
         if self.is_base_itself() {
             return Ok(self.state.serial());
         }
-        // proof: a base that is the state as it is has no fault.
+        // proof: a base made from the present state has no fault.
         let _ = self.state.base();
         let Ok(base) = base_of(self.alloc, &self.state) else {
             return Err(Refusal::Memory);
@@ -253,6 +294,7 @@ impl Core {
         self.state.journal().is_empty() & self.rolled
     }
 
+    /// Returns the routing table (RFC 2328, 11).
     pub fn table(&self) -> &Table
         ensures value { result.now ≡ self.now.table }
         ensures kept { IsCore self.now }
@@ -260,8 +302,9 @@ impl Core {
         self.routes.table()
     }
 
-    /// The summary-LSAs that are due in the area (RFC 2328, 12.4.3), ascending by LS type and destination: of the same
-    /// events as the table. `None` where no such area is configured.
+    /// Returns the summary-LSAs due in the area (RFC 2328, 12.4.3), in the order of LS type and
+    /// destination, or `None` if the area is not configured. They reflect the same events as the
+    /// table.
     pub fn due(&self, area: u32) -> Option<&[DueSummary]>
         ensures value { option_map (λ list. list.now) result ≡ list_under self.now.summaries area }
         ensures right { IsDueIn (built_state self.now) area (option_map (λ list. list.now) result) }
@@ -270,7 +313,7 @@ impl Core {
         self.routes.summaries().get(area)
     }
 
-    /// What is due in all areas.
+    /// Returns the due summaries of all areas.
     pub fn summaries(&self) -> &DueSummaries
         ensures value { lists_of result.now ≡ self.now.summaries }
         ensures kept { IsCore self.now }
@@ -278,32 +321,38 @@ impl Core {
         self.routes.summaries()
     }
 
-    /// The networks whose item in the table the last taken event changed, ascending, each once. None is named where that
-    /// event found the table behind (all of it is built anew then), or left it behind.
+    /// Returns the networks whose table item the last taken event changed, in ascending order.
+    ///
+    /// The list is empty if the core was behind before that event or after it. Compare the whole
+    /// table in that case.
     pub fn changes(&self) -> &[Prefix]
         ensures { result.now ≡ self.now.changes }
     {
         self.routes.changes()
     }
 
-    /// What the last taken event changed in what is due in the areas (RFC 2328, 12.4.3). Nothing is told where that event
-    /// found the table behind (all of it is built anew then), or left it behind.
+    /// Returns what the last taken event changed in the due summaries of each area (RFC 2328,
+    /// 12.4.3).
+    ///
+    /// There are no changes if the core was behind before that event or after it. Compare the whole
+    /// lists in that case.
     pub fn due_changes(&self) -> &DueChanges
         ensures { result.now ≡ self.now.due_changes }
     {
         self.routes.due_changes()
     }
 
-    /// The work of the last taken event: vertices taken from queues and sets of next hops written, over all areas, by the
-    /// repairs of their trees, or by building them where the event found the table behind. Where it left the table
-    /// behind, none is told.
+    /// Returns the SPF work of the last taken event, summed over the areas: vertices taken from the
+    /// queue, and next-hop sets written. If the core was behind before the event, it is the work of
+    /// rebuilding the trees; if the core was behind afterwards, it is zero.
     pub fn work(&self) -> Touched
         ensures { result ≡ self.now.work }
     {
         self.routes.work()
     }
 
-    /// The state, and what table and due summaries are made of; `None` where they are behind.
+    /// Returns the state, with the trees and routes that the table and the due summaries are made
+    /// of, or `None` if the core is behind.
     pub fn calculated(&self) -> Option<Calculated<'_>>
         ensures state { IfSome result (λ found. found.state.now ≡ state_of self.now) }
         ensures right { IfSome result (λ found.
@@ -320,7 +369,7 @@ impl Core {
         })
     }
 
-    /// What the journal begins with.
+    /// Returns the base: the state before the first event of the journal.
     pub fn base(&self) -> &Base
         ensures value { result.now ≡ self.now.base }
         ensures kept { IsCore self.now }
@@ -328,7 +377,7 @@ impl Core {
         self.state.base()
     }
 
-    /// The number of the last event that was taken: the serial of the base, and one more for each event of the journal.
+    /// Returns the serial: the base's serial plus the number of events in the journal.
     pub fn serial(&self) -> u64
         ensures value { result ≡ self.now.base.serial + length self.now.journal }
         ensures state { result ≡ serial_of (state_of self.now) }
@@ -336,7 +385,7 @@ impl Core {
         self.state.serial()
     }
 
-    /// The events that were taken since the base, in their order.
+    /// Returns the events taken since the base, in order.
     pub fn journal(&self) -> &[Event]
         ensures value { result.now ≡ self.now.journal }
         ensures kept { IsCore self.now }
@@ -344,7 +393,8 @@ impl Core {
         self.state.journal()
     }
 
-    /// The serial of the event that table and due summaries are those after.
+    /// Returns the serial of the last event that the table and the due summaries reflect. It equals
+    /// `serial` if the core is current.
     pub fn built(&self) -> u64
         ensures value { result ≡ self.now.base.serial + self.now.built }
         ensures kept { IsCore self.now }
@@ -352,7 +402,7 @@ impl Core {
         self.state.serial() - (self.state.journal().len() as u64 - self.built)
     }
 
-    /// Whether table and due summaries are those of the whole journal.
+    /// Returns true if the table and the due summaries reflect the whole journal.
     pub fn is_current(&self) -> bool
         ensures value { MatchBool result (IsCurrent self.now)
             (self.now.built < length self.now.journal) }
@@ -361,15 +411,19 @@ impl Core {
         self.built == self.state.journal().len() as u64
     }
 
-    /// Copies of all LSAs at their present age, each with its scope: areas by Area ID, the AS last; in
-    /// each database by LS type, Link State ID and Advertising Router.
+    /// Returns copies of all LSAs with their scopes, at their present age: areas by Area ID and
+    /// then the AS, and within a database by LS type, Link State ID and Advertising Router.
+    ///
+    /// # Errors
+    ///
+    /// Returns `Memory` if memory runs out.
     pub fn lsas(&self) -> Result<Vec<(Scope, Checked)>, Memory>
         ensures { IfOk result (λ found. AreLsas (state_of self.now) found.items) }
     {
         lsas(self.alloc, &self.state)
     }
 
-    /// The configuration as it is now.
+    /// Returns the configuration, with the present address ranges.
     pub fn config(&self) -> &Config
         ensures value { result.now ≡ (state_of self.now).config }
         ensures kept { IsCore self.now }
@@ -377,8 +431,8 @@ impl Core {
         self.state.config()
     }
 
-    /// How often all was built: once when the core was opened, and once more for each event that found the table behind.
-    /// No contract: for tests, and for who watches a router.
+    /// Returns how often everything was built: once by opening, and once for each rebuild of a core
+    /// that was behind. It has no contract; it is for tests and monitoring.
     pub fn build_count(&self) -> u64 {
         self.routes.build_count()
     }

@@ -1,5 +1,6 @@
-//! The event core of an OSPF area border router (RFC 2328): events change its databases and its interfaces, and the
-//! routing table and the summary-LSAs due in each area follow.
+//! The event core of an OSPF area border router (RFC 2328). Events change its databases, interfaces
+//! and address ranges; the routing table and the summary-LSAs due in each area are updated with
+//! them.
 #![tactic(auto)]
 
 mod calculated;

@@ -1,4 +1,4 @@
-//! The LSAs of a state in the order in which they are listed, and the state as a base.
+//! The LSAs of a state in listing order, and the state as a base.
 ghost use Rattle.std.specs.Prelude.{◌≡◌, ◌++◌, IfOk, OnOk, map as list_map};
 ghost use Rattle.std.specs.FinMap.{entries};
 ghost use Rattle.event_state.specs.Rolls.{IsBaseOf};
@@ -13,7 +13,7 @@ use ospf_types::memory::Memory;
 use std::alloc::Global;
 use std::collections::BTreeSet;
 
-/// The state as it is, as a base: each LSA at its present age.
+/// Returns the present state as a base: each LSA at its present age.
 pub(crate) fn base_of(alloc: Global, state: &State) -> Result<Base, Memory>
     ensures { IfOk result (IsBaseOf state.now) }
 {
@@ -25,7 +25,7 @@ pub(crate) fn base_of(alloc: Global, state: &State) -> Result<Base, Memory>
     })
 }
 
-// The interfaces with their ids, ascending by these.
+// Returns the interfaces with their ids, in ascending order.
 fn interfaces(alloc: Global, state: &State) -> Result<Listed<(u8, Interface)>, Memory>
     ensures { IfOk result (λ list. list ≡ entries state.now.interfaces) }
 {
@@ -46,8 +46,8 @@ fn listed(alloc: Global, lsas: Vec<(Scope, Checked)>) -> Result<Listed<(Scope, C
     Ok(list)
 }
 
-/// Copies of all LSAs at their present age, each with its scope: areas by Area ID, the AS last; in
-/// each database by LS type, Link State ID and Advertising Router.
+/// Returns copies of all LSAs with their scopes, at their present age: areas by Area ID and then
+/// the AS, and within a database by LS type, Link State ID and Advertising Router.
 pub(crate) fn lsas(alloc: Global, state: &State) -> Result<Vec<(Scope, Checked)>, Memory>
     ensures { IfOk result (λ found. AreLsas state.now found.items) }
 {
@@ -58,7 +58,7 @@ pub(crate) fn lsas(alloc: Global, state: &State) -> Result<Vec<(Scope, Checked)>
     Ok(found)
 }
 
-// Adds copies of the LSAs of these areas at the end, in the order of their Area IDs.
+// Appends copies of the LSAs of these areas, in the order of their Area IDs.
 fn add_areas(
     found: &mut Vec<(Scope, Checked)>,
     state: &State,
@@ -73,7 +73,7 @@ fn add_areas(
     Ok(())
 }
 
-// The configured Area IDs.
+// Returns the configured Area IDs.
 fn area_ids(alloc: Global, areas: &[AreaConfig]) -> Result<BTreeSet<u32>, Memory>
     ensures { IfOk result (λ ids. AreAreaIds areas.now ids.keys) }
 {
@@ -85,7 +85,7 @@ fn area_ids(alloc: Global, areas: &[AreaConfig]) -> Result<BTreeSet<u32>, Memory
     Ok(ids)
 }
 
-// Adds copies of the LSAs of a scope at the end.
+// Appends copies of the LSAs of a scope.
 fn add_lsas(found: &mut Vec<(Scope, Checked)>, state: &State, scope: Scope) -> Result<(), Memory>
     ensures { OnOk result (found.new.items ≡ found.old.items ++ lsas_at state.now scope) }
 {

@@ -1,4 +1,5 @@
-//! The routing table and due summaries, and what is kept to follow events (RFC 2328, 16 and 12.4.3).
+//! The routing table and the due summaries, with the results that events update (RFC 2328, 16 and
+//! 12.4.3).
 ghost use Rattle.std.specs.Prelude.{◌≡◌, ◌≤◌, [], false, IfOk, OnOk, OnErr, is_some};
 ghost use Rattle.std.specs.List.Sorted.{IsStrictlySortedBy};
 ghost use Rattle.std.specs.Map.{keys_of};
@@ -28,8 +29,8 @@ use std::hash::RandomState;
 use std::marker::Model;
 use summaries::{DueChanges, DueSummaries};
 
-/// The routing table of a state and what is due in its areas, what both are calculated from, and what the last event
-/// changed.
+/// The routing table and the due summaries of a state, the calculation that both are made from, and
+/// what the last event changed.
 pub(crate) struct Routes {
     calculation: Calculation,
     table: Table,
@@ -37,11 +38,11 @@ pub(crate) struct Routes {
     work: Touched,
     changes: Vec<Prefix>,
     due_changes: DueChanges,
-    // How often all was built.
+    // How often everything was built.
     build_count: u64,
 }
 
-// proof: one call drops it, in place of a drop of each part wherever one is held.
+// proof: a value is dropped by one call, not part by part at each exit of a function.
 impl Drop for Routes {
     fn drop(self) {
         let Routes {
@@ -71,7 +72,7 @@ impl Model for Routes {
 }
 
 impl Routes {
-    /// The routes of the state, from scratch.
+    /// Builds everything for the state from scratch, with no work and no changes.
     pub(crate) fn build(
         alloc: Global,
         state: &State,
@@ -96,7 +97,10 @@ impl Routes {
         })
     }
 
-    /// Builds all routes anew where they are behind. The answer is the work of that. What is told of the last event stays.
+    /// Rebuilds everything for the state. `work`, `changes` and `due_changes` are unchanged.
+    /// Returns the work of building the trees.
+    ///
+    /// If memory runs out, nothing is changed.
     pub(crate) fn rebuild(
         &mut self,
         alloc: Global,
@@ -122,7 +126,10 @@ impl Routes {
         Ok(work)
     }
 
-    /// Builds all routes anew after an event. Its work is told, and no change is.
+    /// Rebuilds everything for the state after an event. `work` becomes the work of building the
+    /// trees, and there are no changes.
+    ///
+    /// If memory runs out, the work is zero, and the table and the due summaries are unchanged.
     pub(crate) fn start_anew(
         &mut self,
         alloc: Global,
@@ -145,8 +152,11 @@ impl Routes {
         Ok(())
     }
 
-    /// Follows the state, which differs from the one before in what is named. Where memory is refused, the table and what
-    /// is due are as they were, and what is kept beside them is of no use any more.
+    /// Updates everything after an event. The state may differ from the one before it only in what
+    /// `named` lists. If `changed` is false, its usable LSAs, interfaces and ranges are the same.
+    ///
+    /// If memory runs out, the table and the due summaries are unchanged, and there is no work and
+    /// no change. The calculation then has to be built again.
     pub(crate) fn settle(
         &mut self,
         alloc: Global,
@@ -178,7 +188,7 @@ impl Routes {
         if changed {
             self.follow(alloc, state, named)?;
         }
-        // proof: what holds of the databases of every state.
+        // proof: its contract says that the databases of every state fit the configuration.
         let _ = state.config();
         self.table.set_serial(state.serial());
         Ok(())
@@ -220,14 +230,14 @@ impl Routes {
         self.work
     }
 
-    /// How often all was built.
+    /// Returns how often everything was built.
     pub(crate) fn build_count(&self) -> u64 {
         self.build_count
     }
 }
 
 impl Routes {
-    // What the event before changed is no longer told.
+    // Clears the work and the changes of the event before.
     fn forget(&mut self)
         ensures { self.new ≡
             record self.old { work = no_work; changes = []; due_changes = [] } }
@@ -237,8 +247,9 @@ impl Routes {
         self.due_changes.clear();
     }
 
-    // What is kept, the items of the table and what is due follow the state. The change of the table is the last that may
-    // be refused memory; due summaries have room for theirs by then.
+    // Updates the calculation, the items of the table and the due summaries. The change of the
+    // table is the last step that can run out of memory: by then the plan has reserved the memory
+    // of the due summaries.
     fn follow(&mut self, alloc: Global, state: &State, named: Affected) -> Result<(), Memory>
         requires few { state.now.limits.area_lsas ≤ max_routers }
         requires before { (before : StateValue) × AreRoutesOf before self.old
@@ -281,7 +292,8 @@ impl Routes {
     }
 }
 
-// What is kept of the state, its table, what is due in its areas, and the work of building its trees.
+// Calculates everything for the state from scratch. Returns the calculation, the table, the due
+// summaries, and the work of building the trees.
 fn from_scratch(
     alloc: Global,
     state: &State,
@@ -297,14 +309,14 @@ fn from_scratch(
     ensures work { IfOk result (λ built. IsBuildWork state.now built.3) }
 {
     let (calculation, work) = Calculation::build(alloc, state, hashing)?;
-    // proof: what holds of the databases of every state.
+    // proof: its contract says that the databases of every state fit the configuration.
     let _ = state.config();
     let table = calculation.table(alloc, state.serial(), hashing)?;
     let summaries = calculation.summaries(alloc, state)?;
     Ok((calculation, table, summaries, work))
 }
 
-// The table, and the calculation that it is to follow.
+// The table before an update, and the calculation after it.
 #[derive(Clone, Copy)]
 struct TableUpdate<'a> {
     table: &'a Table,
@@ -312,7 +324,7 @@ struct TableUpdate<'a> {
 }
 
 impl TableUpdate<'_> {
-    // Those of the networks for which the table has to have another item, each with that item.
+    // Returns the new items of those networks whose item in the table differs.
     fn other_items(self, alloc: Global, networks: &[Prefix]) -> Result<Vec<NewItem>, Memory>
         requires { IsStrictlySortedBy network_cmp networks.now }
         ensures { IfOk result (λ items. AreOtherItems self.entry.calculation.now
@@ -326,7 +338,7 @@ impl TableUpdate<'_> {
         Ok(items)
     }
 
-    // Adds the item that the table has to have for the network, where it has another one.
+    // Appends the new item of the network, if its item in the table differs.
     fn push_other(
         self,
         alloc: Global,
@@ -345,7 +357,7 @@ impl TableUpdate<'_> {
     }
 }
 
-// The networks of the items.
+// Returns the networks of the items.
 fn networks_of(alloc: Global, items: &[NewItem]) -> Result<Vec<Prefix>, Memory>
     ensures { IfOk result (λ networks. networks.items ≡ keys_of items.now) }
 {

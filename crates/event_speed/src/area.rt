@@ -1,4 +1,4 @@
-//! A small area that changes at random, and the LSAs that its routers advertise.
+//! A small area that changes at random, and the LSAs of its routers.
 
 use crate::bytes::{Head, MAX_AGE, link, lsa};
 use crate::choices::{below, metric_below, one_in};
@@ -17,16 +17,20 @@ const MASK: u32 = 0xffff_ff00;
 #[derive(Drop)]
 pub struct Area {
     number: u32,
-    // By router and neighbour: 0 where there is no link.
+    // The metrics by router and neighbour, or 0 if there is no link.
     metrics: Vec<u16>,
-    // By router: 0 where there is no stub link.
+    // The metrics of stub links by router, or 0 if there is no stub link.
     stubs: Vec<u16>,
-    // By transit network and router: whether the router is attached.
+    // True if the router is attached, by transit network and router.
     members: Vec<bool>,
 }
 
 impl Area {
-    /// An area with links at random.
+    /// Creates an area with random links.
+    ///
+    /// # Errors
+    ///
+    /// Returns `Memory` if memory runs out.
     pub fn new(
         alloc: Global,
         random: &mut Xoshiro256PlusPlus,
@@ -50,14 +54,23 @@ impl Area {
         Ok(area)
     }
 
-    /// The event that a router's LSA is there.
+    /// Returns the event that installs the router-LSA of a router.
+    ///
+    /// # Errors
+    ///
+    /// Returns an error if memory runs out.
     pub fn install(&self, alloc: Global, place: u32, instance: u32) -> Result<Event> {
         let lsa = self.router_lsa(alloc, place, 1, instance)?;
         let scope = Scope::Area(self.number);
         Ok(Event::Install { scope, lsa })
     }
 
-    /// An event: something differs, or an LSA comes or goes.
+    /// Returns a random event: an LSA is installed, often after a change of the area, and sometimes
+    /// at MaxAge.
+    ///
+    /// # Errors
+    ///
+    /// Returns an error if memory runs out.
     pub fn change(
         &mut self,
         alloc: Global,
@@ -88,7 +101,8 @@ impl Area {
         Ok(Event::Install { scope, lsa })
     }
 
-    /// The event that some router-LSA, or one of the router's own, goes.
+    /// Returns an event that removes a random router-LSA: a flush of the router's own, or else a
+    /// purge.
     pub fn removal(&self, random: &mut Xoshiro256PlusPlus) -> Event {
         let scope = Scope::Area(self.number);
         let place = below(random, ROUTERS);
@@ -123,7 +137,7 @@ impl Area {
         }
     }
 
-    // Attaches the router to the network, or takes it off.
+    // Attaches the router to the network, or detaches it.
     fn attach(&mut self, network: u32, place: u32) {
         let index = network.wrapping_mul(ROUTERS).wrapping_add(place);
         if let Some(kept) = self.members.get_mut(index as usize) {
@@ -136,7 +150,7 @@ impl Area {
         self.members.get(index as usize).copied().unwrap_or(false)
     }
 
-    // The place of the Designated Router: the first that is attached.
+    // Returns the number of the Designated Router: the first router that is attached, or 0.
     fn designated(&self, network: u32) -> u32 {
         for place in 0..ROUTERS {
             if self.is_attached(network, place) {
@@ -166,7 +180,7 @@ impl Area {
         lsa(alloc, head, &body)
     }
 
-    // Adds the point-to-point links of the router.
+    // Appends the point-to-point links of the router.
     fn push_points(&self, place: u32, links: &mut Vec<u8>) -> Result<(), Memory> {
         for neighbour in 0..ROUTERS {
             let metric = self.metric(place, neighbour);
@@ -179,7 +193,7 @@ impl Area {
         Ok(())
     }
 
-    // Adds the links of the router to transit networks.
+    // Appends the links of the router to transit networks.
     fn push_transits(&self, place: u32, links: &mut Vec<u8>) -> Result<(), Memory> {
         for network in 0..NETWORKS {
             if self.is_attached(network, place) {
@@ -191,7 +205,7 @@ impl Area {
         Ok(())
     }
 
-    // Adds the stub link of the router, if it has one.
+    // Appends the stub link of the router, if it has one.
     fn push_stub(&self, place: u32, links: &mut Vec<u8>) -> Result<(), Memory> {
         let metric = self.stubs.get(place as usize).copied().unwrap_or(0);
         if metric > 0 {
@@ -220,12 +234,12 @@ impl Area {
     }
 }
 
-// The metric of a link, or 0 for no link in half of the cases.
+// Returns the metric of a link, or 0 for no link in half of the cases.
 fn some_metric(random: &mut Xoshiro256PlusPlus) -> u16 {
     metric_below(random, 8).saturating_sub(3)
 }
 
-// The bits B and E of a router-LSA (RFC 2328, A.4.2).
+// Returns the bits B and E of a router-LSA (RFC 2328, A.4.2).
 fn flags(place: u32) -> u8 {
     match place {
         BORDER => 1,

@@ -4,21 +4,25 @@ use anyhow::Result;
 use lsa_codec::{Checked, read, sum_of};
 use std::alloc::Global;
 
-/// The age of an LSA that leaves (RFC 2328, B: MaxAge).
+/// The age of an LSA that is removed, in seconds (RFC 2328, B: MaxAge).
 pub const MAX_AGE: u16 = 3600;
 
-/// What stands in the header of an LSA.
+/// Fields of the header of an LSA.
 #[derive(Clone, Copy)]
 pub struct Head {
     pub age: u16,
     pub kind: u8,
     pub id: u32,
     pub router: u32,
-    /// Counts the instances of all LSAs.
+    /// The number of the instance, counted over all LSAs.
     pub instance: u32,
 }
 
-/// The LSA with this body.
+/// Returns the LSA with this header and body.
+///
+/// # Errors
+///
+/// Returns an error if the LSA has a fault, or if memory runs out.
 pub fn lsa(alloc: Global, head: Head, body: &[u8]) -> Result<Checked> {
     let length = u16::try_from(body.len())?.wrapping_add(20);
     let mut bytes = Vec::from_slice(alloc, &header(head, length))?;
@@ -33,7 +37,7 @@ pub fn lsa(alloc: Global, head: Head, body: &[u8]) -> Result<Checked> {
     Ok(read(alloc, &bytes)?)
 }
 
-// The bytes of the header, without a checksum.
+// Returns the bytes of the header, with checksum 0.
 fn header(head: Head, length: u16) -> [u8; 20] {
     let [old, age] = head.age.to_be_bytes();
     let [a, b, c, d] = head.id.to_be_bytes();
@@ -46,7 +50,7 @@ fn header(head: Head, length: u16) -> [u8; 20] {
     ]
 }
 
-/// The twelve bytes of a link in a router-LSA.
+/// Returns the 12 bytes of a link in a router-LSA.
 pub fn link(id: u32, data: u32, kind: u8, metric: u16) -> [u8; 12] {
     let [a, b, c, d] = id.to_be_bytes();
     let [e, f, g, h] = data.to_be_bytes();
@@ -54,14 +58,14 @@ pub fn link(id: u32, data: u32, kind: u8, metric: u16) -> [u8; 12] {
     [a, b, c, d, e, f, g, h, kind, 0, high, low]
 }
 
-/// The body of a summary-LSA: a mask, and a metric of three bytes.
+/// Returns the body of a summary-LSA: a mask, and a metric of three bytes.
 pub fn summary(mask: u32, metric: u32) -> [u8; 8] {
     let [a, b, c, d] = mask.to_be_bytes();
     let [_, e, f, g] = metric.to_be_bytes();
     [a, b, c, d, 0, e, f, g]
 }
 
-/// The body of an AS-external-LSA, of a type 2 metric or else of type 1.
+/// Returns the body of an AS-external-LSA, with a metric of type 2 or else of type 1.
 pub fn external(mask: u32, is_type_2: bool, metric: u32, forward: u32) -> [u8; 16] {
     let [a, b, c, d] = mask.to_be_bytes();
     let [_, e, f, g] = metric.to_be_bytes();

@@ -1,5 +1,8 @@
-//! Tries what follows events beside what is built anew, through events at random in one area and in three. It prints how many
-//! events there were and how often the two differ. With the name of a recording it measures its last events.
+//! Compares cores that follow events with cores that are built, over random events in one area and
+//! in three.
+//!
+//! It prints how many events there were and how often the two cores differ. With the name of a
+//! recording it measures the recording's last events.
 #![tactic(auto)]
 
 mod area;
@@ -14,7 +17,7 @@ use speed::measure;
 use std::env;
 use trial::Trial;
 
-// How many events are measured, unless another number is given.
+// The number of events that are measured by default.
 const EVENTS: usize = 100;
 
 fn main(rt: HostRuntime) -> Result<()> {

@@ -1,15 +1,16 @@
-//! The addresses of routers, links and networks, by their places in an area.
+//! The addresses of routers, links and networks, by their numbers in an area. Addresses are in host
+//! order.
 
-/// How many routers an area has. The first of them is the calculating router.
+/// The number of routers of an area. Router 0 is the calculating router.
 pub const ROUTERS: u32 = 12;
-/// How many transit networks an area has.
+/// The number of transit networks of an area.
 pub const NETWORKS: u32 = 3;
-/// The place of a border router, and that of an AS boundary router.
+/// The numbers of an area border router and of an AS boundary router.
 pub const BORDER: u32 = 1;
 
 pub const BOUNDARY: u32 = 2;
 
-/// The Router ID of the router at the place.
+/// Returns the Router ID of the router with this number.
 pub fn router_id(area: u32, place: u32) -> u32 {
     let first = 0x0a00_0001;
     if place == 0 {
@@ -19,7 +20,7 @@ pub fn router_id(area: u32, place: u32) -> u32 {
     }
 }
 
-/// The address of a router on its link to a neighbour.
+/// Returns the address of a router on its link to a neighbour.
 pub fn point(area: u32, place: u32, neighbour: u32) -> u32 {
     (area << 16)
         .wrapping_add(place << 8)
@@ -27,7 +28,7 @@ pub fn point(area: u32, place: u32, neighbour: u32) -> u32 {
         .wrapping_add(0x6000_0000)
 }
 
-/// The address of a router on a transit network.
+/// Returns the address of a router on a transit network.
 pub fn member(area: u32, network: u32, place: u32) -> u32 {
     (area << 16)
         .wrapping_add(network << 8)
@@ -35,7 +36,7 @@ pub fn member(area: u32, network: u32, place: u32) -> u32 {
         .wrapping_add(0xc600_0001)
 }
 
-/// The network that the stub link of a router leads to, of 24 bits.
+/// Returns the address of the /24 to which a router's stub link leads.
 pub fn stub(area: u32, place: u32) -> u32 {
     (area << 16)
         .wrapping_add(place << 8)

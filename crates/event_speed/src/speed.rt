@@ -1,4 +1,4 @@
-//! Measures how long a core takes for the last events of a recording, event by event.
+//! Measures the time that a core takes for each of the last events of a recording.
 
 use anyhow::Result;
 use event_core::Core;
@@ -11,8 +11,13 @@ use std::random::RandomSource;
 use std::rt::Files;
 use std::time::{Clock, Instant};
 
-/// Runs the recording, and prints in nanoseconds how long its last events took: the median, the 90th and the 99th percentile,
-/// and the greatest. The reading of lines is not part of it.
+/// Runs the recording, and prints in nanoseconds the times of its last events: the median, the 90th
+/// and the 99th percentile, and the greatest. Reading lines is not included.
+///
+/// # Errors
+///
+/// Returns an error if the recording cannot be read or is not valid, if memory runs out, or if the
+/// clock or standard output fails.
 pub fn measure<R: Files + AllocGlobal + RandomSource + Clock + Print>(
     rt: &R,
     name: &str,
@@ -50,7 +55,7 @@ fn run(core: &mut Core, line: Line) {
     }
 }
 
-// Prints what takes longest of so many in a hundred, from times in order.
+// Prints the percentiles of sorted times.
 fn print(rt: &impl Print, times: &[u64]) -> Result<()> {
     let count = times.len();
     let (median, most) = (percentile(times, 50), percentile(times, 100));
@@ -60,7 +65,7 @@ fn print(rt: &impl Print, times: &[u64]) -> Result<()> {
     )?)
 }
 
-// The least time that so many in a hundred do not exceed.
+// Returns the least time that `hundredth` in a hundred times do not exceed.
 fn percentile(times: &[u64], hundredth: usize) -> u64 {
     let rank = times.len().saturating_mul(hundredth).div_ceil(100);
     times.get(rank.saturating_sub(1)).copied().unwrap_or(0)

@@ -1,4 +1,5 @@
-//! Compares the routes and the due summaries of a core that follows events with those of one that opens its base.
+//! Compares the routes and the due summaries of a core that follows events with those of a core
+//! that opens its base.
 
 use crate::area::Area;
 use crate::bytes::{Head, external, lsa, summary};
@@ -20,29 +21,33 @@ use std::io;
 use std::io::Print;
 use std::random::RandomSource;
 
-// How many events there are.
+// The number of events.
 const EVENTS: u32 = 500;
-// So many items have to change, or the events would try little.
+// The number of changed items that has to be exceeded, or the events would test little.
 const ENOUGH: u64 = 250;
-// How many interfaces the calculating router has in an area.
+// The number of interfaces of the calculating router in an area.
 const PLACES: u32 = ROUTERS + NETWORKS;
 // LSInfinity (RFC 2328, B).
 const INFINITY: u32 = 0x00ff_ffff;
 
-/// A core, the areas that its events are of, and what came of them.
+/// A core, the areas of its events, and the results.
 #[derive(Drop)]
 pub struct Trial {
     core: Core,
     areas: Vec<Area>,
     random: Xoshiro256PlusPlus,
-    // How many items of the table changed.
+    // The number of table items that changed.
     changes: u64,
-    // After how many events routes or due summaries differ.
+    // The number of events after which routes or due summaries differ.
     differ: u64,
 }
 
 impl Trial {
-    /// Changes so many areas at random, and compares after each event.
+    /// Changes `areas` areas at random, and compares after each event.
+    ///
+    /// # Errors
+    ///
+    /// Returns an error if memory runs out, or if an event or roll is refused that has to be taken.
     pub fn run<R: AllocGlobal + RandomSource>(rt: &R, areas: u32) -> Result<Trial> {
         let mut trial = Trial::new(rt, areas)?;
         trial.raise_interfaces()?;
@@ -66,7 +71,7 @@ impl Trial {
         println!(rt; "events after which something differs: {}", self.differ)
     }
 
-    // Areas, and a core with no interfaces and no LSAs.
+    // Creates random areas, and a core with no interfaces and no LSAs.
     fn new<R: AllocGlobal + RandomSource>(rt: &R, count: u32) -> Result<Trial> {
         let alloc = rt.alloc();
         let mut random = Xoshiro256PlusPlus::seed_from_u64(1);
@@ -84,7 +89,7 @@ impl Trial {
         })
     }
 
-    // All interfaces of the calculating router come up.
+    // Brings up all interfaces of the calculating router.
     fn raise_interfaces(&mut self) -> Result<()> {
         for area in 0..self.count() {
             for place in 0..PLACES {
@@ -94,7 +99,7 @@ impl Trial {
         Ok(())
     }
 
-    // The LSAs of all routers come.
+    // Installs the router-LSAs of all routers.
     fn install_all(&mut self, alloc: Global) -> Result<()> {
         for area in &self.areas {
             for place in 0..ROUTERS {
@@ -108,7 +113,7 @@ impl Trial {
         u32::try_from(self.areas.len()).unwrap_or(0)
     }
 
-    // An event at random.
+    // Returns a random event.
     fn event(&mut self, alloc: Global, instance: u32) -> Result<Event> {
         let count = self.count();
         let area = below(&mut self.random, count);
@@ -126,7 +131,7 @@ impl Trial {
         }
     }
 
-    // Something of an area's own differs.
+    // Returns a random event of one area's own LSAs.
     fn change(&mut self, alloc: Global, area: u32, kind: u32, instance: u32) -> Result<Event> {
         let random = &mut self.random;
         match self.areas.get_mut(area as usize) {
@@ -136,7 +141,7 @@ impl Trial {
         }
     }
 
-    // The core takes the event, or refuses it.
+    // Applies the event, which may be refused.
     fn take(&mut self, event: Event) {
         if self.core.apply(event).is_ok() {
             let changes = self.core.changes().len() as u64;
@@ -144,7 +149,7 @@ impl Trial {
         }
     }
 
-    // Compares the core with one that opens the recording of its base.
+    // Rolls the core, and compares it with a core that is opened from the printed base.
     fn compare<R: AllocGlobal + RandomSource>(&mut self, rt: &R) -> Result<()> {
         self.core.roll()?;
         let text = printed(rt.alloc(), &self.core)?;
@@ -156,7 +161,7 @@ impl Trial {
     }
 }
 
-// The recording of the core's base.
+// Returns the recording of the core's base.
 fn printed(alloc: Global, core: &Core) -> Result<Vec<u8>> {
     let base = core.base().copy(alloc)?;
     let recording = Recording::of(Version::Three, base, Vec::new(alloc));
@@ -167,14 +172,14 @@ fn printed(alloc: Global, core: &Core) -> Result<Vec<u8>> {
     Ok(text)
 }
 
-// The core that a recording begins with.
+// Opens a core from the base of a recording.
 fn opened<R: AllocGlobal + RandomSource>(rt: &R, text: &[u8]) -> Result<Core> {
     let recording = parse(rt.alloc(), text)?;
     let (_, base, _) = recording.into_parts();
     Ok(Core::open_from(rt.alloc(), base, RandomState::new(rt)?)?)
 }
 
-// Whether both have the same routes, and the same summary-LSAs are due.
+// Returns true if both cores have the same routes and the same due summaries.
 fn are_same(one: &Core, other: &Core) -> bool {
     have_same_routes(one.table(), other.table())
         && have_same_summaries(one.summaries(), other.summaries())
@@ -207,7 +212,7 @@ fn have_same_summaries(one: &DueSummaries, other: &DueSummaries) -> bool {
         })
 }
 
-// A router with so many areas and no ranges (RFC 2328, C.1, C.2).
+// Returns the configuration of a router with `count` areas and no ranges (RFC 2328, C.1, C.2).
 fn config(alloc: Global, count: u32) -> Result<Config, Memory> {
     let mut areas = Areas::new(alloc);
     for id in 0..count {
@@ -224,7 +229,8 @@ fn config(alloc: Global, count: u32) -> Result<Config, Memory> {
     })
 }
 
-// The interface of the calculating router to a neighbour, or behind these to a transit network.
+// Returns the event for an interface of the calculating router. The first `ROUTERS` interfaces lead
+// to neighbours, and the others to transit networks.
 fn interface(area: u32, place: u32, up: bool) -> Event {
     let id = u8::try_from(area.wrapping_mul(PLACES).wrapping_add(place)).unwrap_or(0);
     let (address, peer) = match place.checked_sub(ROUTERS) {
@@ -240,7 +246,7 @@ fn interface(area: u32, place: u32, up: bool) -> Event {
     }
 }
 
-// A range over the stub networks of some routers comes, in place of another, or goes.
+// Returns an event that sets or drops a range over the stub networks of some routers.
 fn range(random: &mut Xoshiro256PlusPlus, area: u32) -> Event {
     let mask = 0xffff_fc00;
     let prefix = Prefix::from_mask(stub(area, below(random, ROUTERS)) & mask, mask);
@@ -255,7 +261,8 @@ fn range(random: &mut Xoshiro256PlusPlus, area: u32) -> Event {
     }
 }
 
-// A border router tells of a network outside the area, or of an AS boundary router (RFC 2328, A.4.4).
+// Returns the install of a border router's summary-LSA, for a network outside the area or an AS
+// boundary router (RFC 2328, A.4.4).
 fn summary_event(
     alloc: Global,
     random: &mut Xoshiro256PlusPlus,
@@ -285,7 +292,8 @@ fn summary_event(
     Ok(Event::Install { scope, lsa })
 }
 
-// An AS boundary router of the area, or one beyond, tells of a network outside the AS (RFC 2328, A.4.5).
+// Returns the install of an AS-external-LSA, of an AS boundary router in the area or outside it
+// (RFC 2328, A.4.5).
 fn external_event(
     alloc: Global,
     random: &mut Xoshiro256PlusPlus,

@@ -1,4 +1,4 @@
-//! Which LSAs an event may bring into use, take out of use or change, known before it is taken.
+//! The LSAs that an event may affect, listed before the event is taken.
 ghost use Rattle.std.specs.Prelude.{◌≡◌, ◌++◌, [], ◌∷◌, IfOk, OnOk};
 ghost use Rattle.event_state.specs.Affected.{AreListed, IsAmong, NamesAll, with_scope};
 
@@ -10,8 +10,10 @@ use ospf_types::memory::Memory;
 use std::alloc::Global;
 
 impl State {
-    /// The keys of the LSAs that the event may bring into use, take out of use or change, each with its
-    /// scope: that of its LSA, or of each LSA that a second brings to MaxAge (RFC 2328, 14).
+    /// Returns the scopes and keys of the LSAs that the event may bring into use, take out of use,
+    /// or change.
+    ///
+    /// They are the LSA of the event, or each LSA that a second brings to MaxAge (RFC 2328, 14).
     pub fn named(&self, alloc: Global, event: &Event) -> Result<Vec<(Scope, Key)>, Memory>
         ensures { IfOk result (λ named. NamesAll self.now event.now named.items) }
     {
@@ -25,7 +27,7 @@ impl State {
         }
     }
 
-    // Those that a second brings to MaxAge, of each area and of the AS.
+    // Returns the LSAs of all scopes that a second brings to MaxAge.
     fn coming(&self, alloc: Global) -> Result<Vec<(Scope, Key)>, Memory>
         ensures { IfOk result (λ named. (at : Scope) → AreListed named.items self.now at) }
     {
@@ -37,7 +39,7 @@ impl State {
         Ok(named)
     }
 
-    // Those of one scope.
+    // Appends the LSAs of one scope that a second brings to MaxAge.
     fn add_coming(&self, scope: Scope, named: &mut Vec<(Scope, Key)>) -> Result<(), Memory>
         ensures kept { OnOk result (IsAmong named.old.items named.new.items) }
         ensures listed { OnOk result (AreListed named.new.items self.now scope) }
@@ -60,7 +62,7 @@ fn one(alloc: Global, scope: Scope, key: Key) -> Result<Vec<(Scope, Key)>, Memor
     Ok(Vec::from_slice(alloc, &[(scope, key)])?)
 }
 
-// Adds the keys, each with the scope, at the end.
+// Appends the keys, each with the scope.
 fn add_all(scope: Scope, keys: &[Key], named: &mut Vec<(Scope, Key)>) -> Result<(), Memory>
     ensures { OnOk result (named.new.items ≡ named.old.items ++ with_scope scope keys.now) }
 {

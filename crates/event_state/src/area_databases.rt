@@ -1,4 +1,5 @@
-//! The databases of the areas, and of the AS behind them: a change to the one at a place.
+//! The databases of the areas and, after them, the database of the AS: changes to the database at
+//! an index.
 ghost use Rattle.std.specs.Prelude.{◌≡◌, ◌↔◌, ◌<◌, None, false, OnOk, OnErr, IfOk, All, length, map as list_map};
 ghost use Rattle.std.specs.FinMap as map;
 ghost use Rattle.lsa_codec.specs.Spelling.{IsLegal};
@@ -17,7 +18,8 @@ use ospf_types::key::Key;
 use ospf_types::memory::Memory;
 use std::alloc::Global;
 
-// Puts the LSA into the database at the place. The answer is whether what is used of it differs.
+// Installs the LSA in the database at the index. Returns true if this changes what calculations
+// use.
 pub(crate) fn put_at(databases: &mut [Database], place: usize, lsa: Checked) -> Result<bool, Memory>
     requires within { place < length databases.old }
     requires fits { FitsAt databases.old place lsa }
@@ -30,7 +32,7 @@ pub(crate) fn put_at(databases: &mut [Database], place: usize, lsa: Checked) -> 
     database.put(lsa)
 }
 
-// Puts copies of the LSAs of the base into the empty databases of its areas.
+// Installs copies of the base's LSAs in the empty databases of its scopes.
 pub(crate) fn put_all(
     alloc: Global,
     databases: &mut [Database],
@@ -50,8 +52,8 @@ pub(crate) fn put_all(
     Ok(())
 }
 
-// Brings the LSA under the key in the database at the place to MaxAge. The answer is whether it was
-// used before.
+// Sets the age of the LSA with this key to MaxAge, in the database at the index. Returns true if
+// the LSA was usable before.
 pub(crate) fn age_out_at(databases: &mut [Database], place: usize, key: Key) -> bool
     requires { place < length databases.old }
     ensures done { IsChange databases.old databases.new place (λ d. aged_out d key) }
@@ -64,7 +66,7 @@ pub(crate) fn age_out_at(databases: &mut [Database], place: usize, key: Key) -> 
     }
 }
 
-// Takes the LSA under the key, which is at MaxAge, out of the database at the place.
+// Removes the LSA with this key, which is at MaxAge, from the database at the index.
 pub(crate) fn purge_at(databases: &mut [Database], place: usize, key: Key)
     requires within { place < length databases.old }
     requires allowed { CanBePurgedAt databases.old place key }
@@ -77,7 +79,7 @@ pub(crate) fn purge_at(databases: &mut [Database], place: usize, key: Key)
     }
 }
 
-// A second passes in each database. The answer is whether an LSA came to MaxAge.
+// Ages the LSAs of all databases by one second. Returns true if an LSA reached MaxAge.
 pub(crate) fn age_all(databases: &mut [Database]) -> bool
     ensures done { databases.new ≡ list_map aged_value databases.old }
     ensures changed { (result ≡ false) ↔ All (λ d. NoneComes d.lsas) databases.old }

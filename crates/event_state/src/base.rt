@@ -1,4 +1,4 @@
-//! What a run of events begins with.
+//! The base: the state before the first event of a journal.
 ghost use Rattle.std.specs.Prelude.{◌≡◌, IfOk};
 ghost use Rattle.event_state.specs.Bases.{bare};
 
@@ -9,20 +9,20 @@ use ospf_types::listed::Listed;
 use ospf_types::memory::Memory;
 use std::alloc::Global;
 
-/// A state without its past: what a run of events begins with.
+/// The state before the first event of a journal.
 #[derive(Debug)]
 pub struct Base {
-    /// The configuration, with the ranges of that time.
+    /// The configuration, with the address ranges of that time.
     pub config: Config,
-    /// That of the last event which is in it; 0 before the first one.
+    /// The serial of the last event that the base reflects, or 0 if there was none.
     pub serial: u64,
-    /// The interfaces, each with its id.
+    /// The interfaces with their ids.
     pub interfaces: Listed<(u8, Interface)>,
-    /// The LSAs, each with its scope, and with its present age in the age field.
+    /// The LSAs with their scopes. The age field of each LSA is its present age.
     pub lsas: Listed<(Scope, Checked)>,
 }
 
-// proof: one call drops it, in place of a drop of each part wherever one is held.
+// proof: a value is dropped by one call, not part by part at each exit of a function.
 impl Drop for Base {
     fn drop(self) {
         let Base {
@@ -35,7 +35,7 @@ impl Drop for Base {
 }
 
 impl Base {
-    /// A configuration only: serial 0, no interfaces and no LSAs.
+    /// Creates a base of a configuration only: serial 0, no interfaces and no LSAs.
     pub fn bare(alloc: Global, config: Config) -> Base
         ensures { result ≡ bare config }
     {
@@ -47,7 +47,7 @@ impl Base {
         }
     }
 
-    /// An equal value.
+    /// Returns a copy of the base.
     pub fn copy(&self, alloc: Global) -> Result<Base, Memory>
         ensures { IfOk result (λ base. base ≡ self.now) }
     {

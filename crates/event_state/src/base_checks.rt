@@ -1,4 +1,4 @@
-//! Whether a state can be made from a base.
+//! The checks of a base before a state is made from it.
 ghost use Rattle.std.specs.Prelude.{◌≡◌, true, None, IfErr, IfOk, length, is_none, nat_lt};
 ghost use Rattle.std.specs.List.{list_any};
 ghost use Rattle.config_faults.specs.Configs.{config_fault_of};
@@ -21,7 +21,7 @@ use std::alloc::Global;
 use std::cmp::Ordering;
 use std::collections::BTreeSet;
 
-// Under which scope and which key an LSA is listed.
+// The scope and the key under which an LSA is listed.
 #[derive(Clone, Copy, Debug, PartialEq, Eq, PartialOrd, Ord)]
 struct ScopedKey {
     scope: Scope,
@@ -45,15 +45,15 @@ impl ScopedKey {
     }
 }
 
-/// Whether the interfaces ascend by id, and the LSAs by scope, LS type, Link State ID and Advertising Router. None is
-/// listed twice then.
+/// Returns true if the interfaces ascend by id, and the LSAs by scope, LS type, Link State ID and
+/// Advertising Router. Then nothing is listed twice.
 pub fn is_ordered(base: &Base) -> bool
     ensures { result ≡ is_ordered base.now }
 {
     ids_ascend(base.interfaces.as_slice()) && is_ascending(base.lsas.as_slice())
 }
 
-/// The first fault of a base that is ordered. It takes no memory.
+/// Returns the first fault of an ordered base, or `None`. It allocates no memory.
 pub fn fault_in_ordered(base: &Base, limits: Limits) -> Option<BaseFault>
     requires { is_ordered base.now ≡ true }
     ensures { result ≡ base_fault_of limits base.now }
@@ -73,7 +73,11 @@ fn as_fault(unfit: Option<EntryFault>) -> Option<BaseFault>
     }
 }
 
-/// The first fault that the base has, which is never `Memory`. A base that is ordered takes no memory.
+/// Returns the first fault of the base, or `None`. No memory is allocated if the base is ordered.
+///
+/// # Errors
+///
+/// Returns `Memory` if memory runs out. The configuration has no fault then.
 pub fn fault_in_base(
     alloc: Global,
     base: &Base,
@@ -106,7 +110,7 @@ fn is_doubled(alloc: Global, base: &Base) -> Result<bool, Memory>
     has_doubled_lsa(alloc, base.lsas.as_slice())
 }
 
-// Whether two interfaces have one id.
+// Returns true if two interfaces have the same id.
 fn has_doubled_id(alloc: Global, interfaces: &[(u8, Interface)]) -> Result<bool, Memory>
     ensures { IfOk result (λ doubled. doubled ≡ has_twice is_same_id interfaces.now) }
 {
@@ -119,7 +123,7 @@ fn has_doubled_id(alloc: Global, interfaces: &[(u8, Interface)]) -> Result<bool,
     Ok(false)
 }
 
-// Whether two LSAs have one scope and one key.
+// Returns true if two LSAs have the same scope and key.
 fn has_doubled_lsa(alloc: Global, lsas: &[(Scope, Checked)]) -> Result<bool, Memory>
     ensures { IfOk result (λ doubled. doubled ≡ has_twice is_same_place lsas.now) }
 {
@@ -132,7 +136,7 @@ fn has_doubled_lsa(alloc: Global, lsas: &[(Scope, Checked)]) -> Result<bool, Mem
     Ok(false)
 }
 
-// Whether each interface stands before the next one, by id.
+// Returns true if the interfaces ascend by id.
 fn ids_ascend(interfaces: &[(u8, Interface)]) -> bool
     ensures { result ≡ ids_ascend interfaces.now }
 {
@@ -153,7 +157,7 @@ fn is_before_first_id(interface: (u8, Interface), interfaces: &[(u8, Interface)]
     }
 }
 
-// Whether each LSA stands before the next one, by scope and then by key.
+// Returns true if the LSAs ascend by scope and then by key.
 fn is_ascending(lsas: &[(Scope, Checked)]) -> bool
     ensures { result ≡ is_ascending lsas.now }
 {
@@ -176,8 +180,10 @@ fn is_before_first(lsa: &(Scope, Checked), lsas: &[(Scope, Checked)]) -> bool
     }
 }
 
-/// What no event could have made of the base's configuration. If nothing in the base is listed twice, this is
-/// its fault behind those of the configuration.
+/// Returns the first fault of the base's interfaces and LSAs, or `None`.
+///
+/// Faults of the configuration come before it, and so does an id or key that is listed twice. This
+/// function does not look for them.
 pub fn entry_fault_in(base: &Base, limits: Limits) -> Option<EntryFault>
     ensures { result ≡ unfit_of limits base.now }
 {
@@ -194,7 +200,7 @@ pub fn entry_fault_in(base: &Base, limits: Limits) -> Option<EntryFault>
     }
 }
 
-// Whether the area of an interface, or that of an LSA's scope, is not configured.
+// Returns true if the area of an interface, or of an LSA's scope, is not configured.
 fn lacks_an_area(base: &Base) -> bool
     ensures { result ≡ lacks_an_area base.now }
 {
@@ -223,7 +229,7 @@ fn is_outside(areas: &[AreaConfig], scope: Scope) -> bool
     place_of(areas, scope).is_none()
 }
 
-// Whether an LSA stands in a scope that it does not belong to.
+// Returns true if an LSA is listed for a scope that it does not belong to.
 fn has_misplaced(lsas: &[(Scope, Checked)]) -> bool
     ensures { result ≡ list_any (λ x. is_out_of_scope x.0 x.1.header.kind) lsas.now }
 {
@@ -236,7 +242,8 @@ fn is_misplaced(scope: Scope, lsa: &Checked) -> bool
     is_out_of_scope(scope, lsa.header().kind)
 }
 
-// Whether a configured scope has more LSAs than it may. There are at most 16 areas by then.
+// Returns true if a configured scope has more LSAs than it may have. A configuration without faults
+// has at most 16 areas.
 fn is_overfull(base: &Base, limits: Limits) -> bool
     ensures { result ≡ is_overfull limits base.now }
 {
@@ -257,7 +264,7 @@ fn is_more(count: usize, most: u32) -> bool
     count as u64 > u64::from(most)
 }
 
-// How many LSAs the scope has.
+// Returns the number of LSAs of the scope.
 fn count_under(lsas: &[(Scope, Checked)], scope: Scope) -> usize
     ensures { result ≡ length (lsas_under lsas.now scope) }
 {
@@ -268,7 +275,8 @@ fn count_under(lsas: &[(Scope, Checked)], scope: Scope) -> usize
     count
 }
 
-// Whether two interfaces that are up have one address. There are at most 256 by then.
+// Returns true if two interfaces that are up have the same address. There are at most 256
+// interfaces if no id is listed twice.
 fn has_shared_address(interfaces: &[(u8, Interface)]) -> bool
     ensures { result ≡ has_twice is_same_address interfaces.now }
 {

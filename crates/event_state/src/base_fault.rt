@@ -5,20 +5,21 @@ use config_faults::ConfigFault;
 use std::fmt;
 use thiserror::Error;
 
-/// What no event could have made of a configuration: the first of these, in this order.
+/// A fault in the interfaces and LSAs of a base, which no events could have led to: the first of
+/// these, in this order, that holds.
 #[derive(Clone, Copy, Debug, PartialEq, Eq, Error)]
 pub enum EntryFault {
-    /// The area of an interface, or that of an LSA's scope, is not configured.
+    /// The area of an interface, or of an LSA's scope, is not configured.
     NoArea,
-    /// An AS-external-LSA stands under an area, or another one under the AS.
+    /// An AS-external-LSA is listed for an area, or an LSA of another type for the AS.
     Scope,
-    /// A scope has more LSAs than its database may hold.
+    /// A scope has more LSAs than its database may have.
     Full,
-    /// Two interfaces that are up have one address.
+    /// Two interfaces that are up have the same address.
     AddressTaken,
 }
 
-/// The number and the name of the refusal that an event would have had, as `20 NoArea`.
+/// The fault as the number and name of the refusal that an event would get, such as `20 NoArea`.
 impl fmt::Display for EntryFault {
     ghost output = { λ unfit. Some (unfit_text unfit) };
 
@@ -32,18 +33,18 @@ impl fmt::Display for EntryFault {
     }
 }
 
-/// What is wrong with a base: the first of these, in this order.
+/// A fault of a base: the first of these, in this order, that holds.
 #[derive(Clone, Copy, Debug, PartialEq, Eq, Error)]
 pub enum BaseFault {
-    /// The configuration has this fault.
+    /// The configuration has a fault.
     Config(ConfigFault),
     /// An interface id, or a key in a scope, is listed twice.
     Doubled,
-    /// No event could have made it.
+    /// No events could have led to the interfaces and LSAs of the base.
     EntryFault(EntryFault),
 }
 
-/// The number and the name, as `47 Doubled`.
+/// The fault as a number and a name, such as `47 Doubled`.
 impl fmt::Display for BaseFault {
     ghost output = { λ fault. Some (base_fault_text fault) };
 

@@ -6,7 +6,8 @@ use ospf_types::memory::Memory;
 use ospf_types::prefix::Prefix;
 use std::alloc::Global;
 
-/// What happens to the router's databases, interfaces and area address ranges.
+/// A change to the router's databases, interfaces or address ranges. Area IDs and addresses are
+/// `u32` in host order.
 #[derive(Debug, Drop)]
 pub enum Event {
     /// An LSA is installed in the database of its scope (RFC 2328, 13.2).
@@ -14,17 +15,19 @@ pub enum Event {
         scope: Scope,
         lsa: Checked,
     },
-    /// An LSA of the router's own is aged prematurely: it comes to MaxAge at once (RFC 2328, 14.1).
+    /// One of the router's own LSAs is flushed: its age becomes MaxAge at once (RFC 2328, 14.1).
     Flush {
         scope: Scope,
         key: Key,
     },
-    /// An LSA at MaxAge leaves its database, as no neighbour needs it any more (RFC 2328, 14).
+    /// An LSA at MaxAge is removed from its database, because no neighbour needs it any more (RFC
+    /// 2328, 14).
     Purge {
         scope: Scope,
         key: Key,
     },
-    /// An interface takes the place of what the id held. A peer of 0 means none.
+    /// An interface is set, in place of the previous one with this id. A peer of 0 means that there
+    /// is none.
     Interface {
         id: u8,
         area: u32,
@@ -32,24 +35,24 @@ pub enum Event {
         peer: u32,
         up: bool,
     },
-    /// An area address range is configured (RFC 2328, C.2), in place of the one with its prefix. Its Status is
-    /// Advertise, or else DoNotAdvertise, which hides its networks from the other areas.
+    /// An area address range is configured (RFC 2328, C.2), in place of the previous one with its
+    /// prefix. Without `advertise` it is hidden (DoNotAdvertise).
     RangeSet {
         area: u32,
         prefix: Prefix,
         advertise: bool,
     },
-    /// An area address range is configured no longer (RFC 2328, C.2).
+    /// An area address range is removed from the configuration (RFC 2328, C.2).
     RangeDrop {
         area: u32,
         prefix: Prefix,
     },
-    /// A second passes, and each age below MaxAge rises by one (RFC 2328, 14).
+    /// A second passes: each age below MaxAge rises by one (RFC 2328, 14).
     Second,
 }
 
 impl Event {
-    /// An equal value.
+    /// Returns a copy of the event.
     pub fn copy(&self, alloc: Global) -> Result<Event, Memory>
         ensures { IfOk result (λ event. event ≡ self.now) }
     {

@@ -1,4 +1,4 @@
-//! The interfaces of the root, by their ids.
+//! The router's interfaces by their ids.
 ghost use Rattle.std.specs.Prelude.{◌≡◌, false, OnOk, OnErr, IfOk};
 ghost use Rattle.std.specs.List.{list_any};
 ghost use Rattle.std.specs.Ordering.{nat_cmp};
@@ -13,7 +13,7 @@ use ospf_types::memory::Memory;
 use std::alloc::Global;
 use std::collections::BTreeMap;
 
-// Whether an interface that is up and has another id has the address.
+// Returns true if another interface that is up has the address.
 pub(crate) fn is_address_taken(interfaces: &BTreeMap<u8, Interface>, id: u8, address: u32) -> bool
     ensures value { result ≡ list_any (has_address id address) interfaces.now.entries }
     ensures in_order { IsOrdered nat_cmp interfaces.now }
@@ -23,7 +23,7 @@ pub(crate) fn is_address_taken(interfaces: &BTreeMap<u8, Interface>, id: u8, add
         && interface.address == address)
 }
 
-// Puts the interface in place of what the id held. The answer is whether it differs.
+// Sets the interface in place of the previous one with this id. Returns true if it differs.
 pub(crate) fn put_interface(
     interfaces: &mut BTreeMap<u8, Interface>,
     id: u8,
@@ -39,7 +39,7 @@ pub(crate) fn put_interface(
     }
 }
 
-// The interfaces of a list by their ids.
+// Returns a map of the listed interfaces by their ids.
 pub(crate) fn by_id(
     alloc: Global,
     interfaces: &[(u8, Interface)],

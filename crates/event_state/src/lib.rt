@@ -1,5 +1,5 @@
-//! The state of an OSPF area border router (RFC 2328): its link-state databases, its interfaces, and
-//! the journal of the events that made them, one event a step.
+//! The state of an OSPF area border router (RFC 2328): its link-state databases, its interfaces and
+//! address ranges, and the journal of the events that made them.
 #![tactic(auto)]
 
 mod area_databases;

@@ -1,16 +1,16 @@
-/// How much a core holds.
+/// The sizes that a state may grow to.
 #[derive(Clone, Copy, Debug, PartialEq, Eq)]
 pub struct Limits {
-    /// LSAs in the database of an area.
+    /// The maximum number of LSAs in the database of an area.
     pub area_lsas: u32,
-    /// AS-external-LSAs.
+    /// The maximum number of AS-external-LSAs.
     pub externals: u32,
-    /// Events in the journal.
+    /// The maximum number of events in the journal.
     pub events: u64,
 }
 
 impl Limits {
-    /// 16,384 LSAs in an area, 65,536 AS-external-LSAs, and 1,000,000 events.
+    /// The standard limits: 16,384 LSAs in an area, 65,536 AS-external-LSAs, and 1,000,000 events.
     pub const STANDARD: Limits = Limits {
         area_lsas: 16_384,
         externals: 65_536,

@@ -1,4 +1,4 @@
-//! Area address ranges (RFC 2328, 3.5 and C.2): what refuses a change to those of an area, and the areas after it.
+//! Area address ranges (RFC 2328, 3.5 and C.2): the refusals of a change, and the areas after it.
 ghost use Rattle.std.specs.Prelude.{◌≡◌, ◌↔◌, ◌≤◌, false, IfOk, IfSome, IsTrue, is_none, length, position, map as list_map};
 ghost use Rattle.std.specs.List.{list_any, insert as list_insert};
 ghost use Rattle.ospf_types.specs.RangeChanges.{is_same_prefix, has_range, in_place, in_order, set_range, drop_range, with_ranges, areas_without_ranges};
@@ -17,19 +17,19 @@ use ospf_types::prefix::Prefix;
 use std::alloc::Global;
 use std::cmp::Ordering;
 
-// An area has at most so many ranges.
+// The maximum number of ranges of an area.
 const MOST_RANGES: usize = 32;
 
-// What becomes of the ranges of an area.
+// A change to the ranges of an area.
 #[derive(Debug, Drop)]
 pub(crate) enum RangeChange {
-    // The range takes the place of the one with its prefix; if there is none, it comes in order.
+    // Set the range in place of the one with its prefix, or insert it in order if there is none.
     Set(Range),
-    // The range with the prefix leaves them.
+    // Remove the range with the prefix.
     Drop(Prefix),
 }
 
-// The ranges of the area with the Area ID, if it is configured.
+// Returns the ranges of the area with this Area ID, or `None` if it is not configured.
 pub(crate) fn ranges_of(areas: &[AreaConfig], id: u32) -> Option<&[Range]>
     ensures none { is_none result ≡ is_none (place_of areas.now (Scope.Area id)) }
     ensures some { IfSome result (λ ranges. ranges.now ≡ ranges_of areas.now id) }
@@ -38,7 +38,7 @@ pub(crate) fn ranges_of(areas: &[AreaConfig], id: u32) -> Option<&[Range]>
     Some(areas[place].ranges.as_slice())
 }
 
-// What refuses a range that is to be set beside these.
+// Returns the reason why the range cannot be set in an area with these ranges.
 pub(crate) fn set_refusal(range: &Range, ranges: &[Range]) -> Option<Refusal>
     ensures { result ≡ set_refusal_of range.now ranges.now }
 {
@@ -51,7 +51,7 @@ pub(crate) fn set_refusal(range: &Range, ranges: &[Range]) -> Option<Refusal>
     }
 }
 
-// What refuses to drop the one of these ranges that has the prefix.
+// Returns the reason why the range with this prefix cannot be dropped.
 pub(crate) fn drop_refusal(prefix: Prefix, ranges: &[Range]) -> Option<Refusal>
     ensures { result ≡ drop_refusal_of prefix ranges.now }
 {
@@ -62,7 +62,7 @@ pub(crate) fn drop_refusal(prefix: Prefix, ranges: &[Range]) -> Option<Refusal>
     }
 }
 
-// Whether another of the ranges covers the range, or is covered by it.
+// Returns true if a range with another prefix covers this one, or is covered by it.
 fn overlaps_another(range: &Range, ranges: &[Range]) -> bool
     ensures { result ≡ overlaps_another range.now ranges.now }
 {
@@ -71,7 +71,7 @@ fn overlaps_another(range: &Range, ranges: &[Range]) -> bool
     })
 }
 
-// Whether there is no room for one more range, and the prefix would be one more.
+// Returns true if the prefix is new and the area has as many ranges as it may have.
 fn is_one_too_many(prefix: Prefix, ranges: &[Range]) -> bool
     ensures { result ≡ is_one_too_many prefix ranges.now }
 {
@@ -104,7 +104,7 @@ fn is_cover(outer: Prefix, inner: Prefix) -> bool
     outer.covers(inner)
 }
 
-// Copies of the areas, with the ranges of the one with the Area ID changed.
+// Returns copies of the areas, with the change made to the area with this Area ID.
 pub(crate) fn with_ranges(
     alloc: Global,
     areas: &[AreaConfig],
@@ -157,7 +157,7 @@ fn set_range(alloc: Global, ranges: &[Range], range: &Range) -> Result<Ranges, M
     }
 }
 
-// The ranges, with this one in place of the one with its prefix.
+// Returns the ranges, with this one in place of the range with its prefix.
 fn replaced(alloc: Global, ranges: &[Range], range: &Range) -> Result<Ranges, Memory>
     ensures { IfOk result (λ new. new ≡ list_map (in_place range.now) ranges.now) }
 {
@@ -178,7 +178,8 @@ fn in_place(range: &Range, other: &Range) -> Range
     }
 }
 
-// The ranges and this one, which comes before the first that is greater, by address and then by length.
+// Returns the ranges with this one inserted before the first greater one, by address and then by
+// length.
 fn added(alloc: Global, ranges: &[Range], range: &Range) -> Result<Ranges, Memory>
     ensures { IfOk result (λ new. new ≡ in_order range.now ranges.now) }
 {
@@ -223,7 +224,7 @@ fn drop_range(alloc: Global, ranges: &[Range], prefix: Prefix) -> Result<Ranges,
     Ok(new)
 }
 
-// Whether a range of an area is another one than before.
+// Returns true if the ranges of an area differ from before.
 pub(crate) fn ranges_differ(areas: &[AreaConfig], new: &[AreaConfig]) -> bool
     requires { areas_without_ranges new.now ≡ areas_without_ranges areas.now }
     ensures { (result ≡ false) ↔ (new.now ≡ areas.now) }

@@ -6,48 +6,51 @@ use lsdb::InstallRefusal;
 use std::fmt;
 use thiserror::Error;
 
-/// Why an event was not taken: the first of these, in this order, that holds. It left everything as it
-/// was. The last three are never refusals of an event, but two of several workers at once, and one of a roll.
+/// The reason why an event was not taken: the first of these variants, in this order, that holds.
+/// Nothing is changed.
+///
+/// The last three variants never refuse a single event. `Spawn` and `Workers` refuse the lists of
+/// several workers, and `NotCurrent` refuses a roll.
 #[derive(Clone, Copy, Debug, PartialEq, Eq, Error)]
 pub enum Refusal {
     /// The area of the scope, of the interface or of the range is not configured.
     NoArea,
-    /// An AS-external-LSA's key for an area, or another one's for the AS.
+    /// The key of an AS-external-LSA for an area, or a key of another LS type for the AS.
     Scope,
-    /// The database's instance is newer (RFC 2328, 13.1).
+    /// The database instance is newer (RFC 2328, 13.1).
     Older,
-    /// The database has the same instance.
+    /// The database instance is the same (RFC 2328, 13.1).
     Same,
-    /// The database has no LSA under the key.
+    /// The database has no LSA with this key.
     NoLsa,
-    /// The LSA to be aged prematurely is not the router's own (RFC 2328, 14.1).
+    /// The LSA to be flushed is not one of the router's own (RFC 2328, 14.1).
     NotOwn,
     /// The LSA to be purged is not at MaxAge (RFC 2328, 14).
     NotMaxAge,
     /// The LSA has a new key, and the database is at its limit.
     Full,
-    /// The journal has as many events as it may hold.
+    /// The journal has as many events as it may have, or the serial has no successor.
     JournalFull,
-    /// The interface is up, and another one that is up has its address.
+    /// The interface is up, and another interface that is up has its address.
     AddressTaken,
-    /// Another range of the area covers the one to be set, or is covered by it (RFC 2328, 3.5).
+    /// Another range of the area covers the new range, or is covered by it (RFC 2328, 3.5).
     RangeOverlaps,
-    /// The area has no range with the prefix of the one to be dropped.
+    /// The area has no range with the prefix to be dropped.
     NoRange,
-    /// The range has a new prefix, and the area has as many ranges as it may.
+    /// The range has a new prefix, and the area has as many ranges as it may have.
     RangeFull,
     /// Memory ran out.
     Memory,
-    /// A worker's thread could not be started. Only several workers have this.
+    /// The thread of a worker could not be started. Only several workers return this.
     Spawn,
-    /// There are more lists than there may be workers. Only several workers have this.
+    /// There are more lists than there may be workers. Only several workers return this.
     Workers,
-    /// Table, due summaries or publication are behind. Only a roll has this.
+    /// The table, the due summaries or the publication are behind. Only a roll returns this.
     NotCurrent,
 }
 
 impl Refusal {
-    // What a database's refusal of an LSA is as one of the event.
+    // Returns the refusal of an event that installs an LSA, for the database's refusal of the LSA.
     pub(crate) fn of_install(refusal: InstallRefusal) -> Refusal
         ensures { result ≡ refusal_for refusal }
     {
@@ -60,7 +63,7 @@ impl Refusal {
     }
 }
 
-/// The number and the name, as `23 Same`.
+/// The refusal as a number and a name, such as `23 Same`.
 impl fmt::Display for Refusal {
     ghost output = { λ refusal. Some (refusal_text refusal) };
 

@@ -1,4 +1,4 @@
-//! Scopes: where the database of one stands, and which LSAs belong to it.
+//! Scopes: the index of a scope's database, and the LS types that belong to a scope.
 ghost use Rattle.std.specs.Prelude.{◌≡◌};
 ghost use Rattle.event_state.specs.Bases.{is_scope};
 ghost use Rattle.event_state.specs.States.{place_of};
@@ -8,7 +8,8 @@ use ospf_types::config::AreaConfig;
 use ospf_types::key::Scope;
 use ospf_types::lsa::AS_EXTERNAL_LSA;
 
-// Where the database of the scope stands: that of the AS behind those of the areas.
+// Returns the index of the scope's database. The database of the AS comes after the databases of
+// the areas.
 pub(crate) fn place_of(areas: &[AreaConfig], scope: Scope) -> Option<usize>
     ensures { result ≡ place_of areas.now scope }
 {
@@ -24,7 +25,7 @@ fn place_of_area(areas: &[AreaConfig], id: u32) -> Option<usize>
     areas.iter().position(|area| area.id == id)
 }
 
-// Whether a key of this LS type belongs to another scope.
+// Returns true if LSAs of this LS type do not belong to the scope.
 pub(crate) fn is_out_of_scope(scope: Scope, kind: u8) -> bool
     ensures { result ≡ is_out_of_scope scope kind }
 {
@@ -34,7 +35,7 @@ pub(crate) fn is_out_of_scope(scope: Scope, kind: u8) -> bool
     }
 }
 
-// Whether both are one scope.
+// Returns true if the scopes are equal.
 pub(crate) fn is_scope(scope: Scope, other: Scope) -> bool
     ensures { result ≡ is_scope scope other }
 {

@@ -33,10 +33,11 @@ use std::collections::{BTreeMap, btree_map};
 use std::hash::RandomState;
 use std::marker::Model;
 
-// From how many events on the journal has room for all that it may have.
+// The number of events at which the journal reserves memory for all events that it may have.
 const MANY_EVENTS: usize = 65_536;
 
-/// The link-state databases, the interfaces and the ranges, what they began with, and the journal of the events since.
+/// The link-state databases, the interfaces and the address ranges, with the base that they began
+/// with and the journal of the events since.
 pub struct State {
     base: Base,
     config: Config,
@@ -46,7 +47,7 @@ pub struct State {
     journal: Vec<Event>,
 }
 
-// proof: one call drops it, in place of a drop of each part wherever one is held.
+// proof: a value is dropped by one call, not part by part at each exit of a function.
 impl Drop for State {
     fn drop(self) {
         let State {
@@ -94,14 +95,24 @@ impl Model for State {
 }
 
 impl State {
-    /// No interfaces, empty databases and an empty journal, with the standard limits.
+    /// Creates a state with no interfaces, empty databases and an empty journal, within the
+    /// standard limits. `hashing` supplies the keys of hash functions.
+    ///
+    /// # Errors
+    ///
+    /// Returns `Memory` if memory runs out.
     pub fn new(alloc: Global, config: Config, hashing: RandomState) -> Result<State, Memory>
         ensures { IfOk result (λ state. state ≡ opening (bare config) standard_limits) }
     {
         State::within(alloc, config, Limits::STANDARD, hashing)
     }
 
-    /// No interfaces, empty databases and an empty journal, with limits of one's own.
+    /// Creates a state with no interfaces, empty databases and an empty journal, within the given
+    /// limits.
+    ///
+    /// # Errors
+    ///
+    /// Returns `Memory` if memory runs out.
     pub fn within(
         alloc: Global,
         config: Config,
@@ -122,7 +133,11 @@ impl State {
         })
     }
 
-    /// The databases and interfaces of the base, and an empty journal.
+    /// Creates a state with the base's databases, interfaces and ranges, and an empty journal.
+    ///
+    /// # Errors
+    ///
+    /// Returns `Memory` if memory runs out.
     pub fn from_base(
         alloc: Global,
         base: Base,
@@ -147,7 +162,7 @@ impl State {
         })
     }
 
-    /// What the events of the journal began with.
+    /// Returns the base: the state before the first event of the journal.
     pub fn base(&self) -> &Base
         ensures value { result.now ≡ self.now.base }
         ensures sound { config_fault_of self.now.config ≡ None → CanBeRolled self.now }
@@ -155,7 +170,7 @@ impl State {
         &self.base
     }
 
-    /// The serial of the last event, counted on from that of the base.
+    /// Returns the serial: the base's serial plus the number of events in the journal.
     pub fn serial(&self) -> u64
         ensures value { result ≡ serial_of self.now }
         ensures within { result ≤ most_serial }
@@ -163,7 +178,8 @@ impl State {
         self.base.serial + self.journal.len() as u64
     }
 
-    /// Takes the state as it is for the base, and empties the journal: the events since are forgotten.
+    /// Makes `base` the base, and empties the journal. `base` must describe the present state. The
+    /// databases, interfaces and ranges are unchanged.
     pub fn set_base(&mut self, base: Base)
         requires { IsBaseOf self.old base }
         ensures since { self.new ≡ since base self.old }
@@ -173,7 +189,7 @@ impl State {
         self.journal = Vec::new(*self.journal.allocator());
     }
 
-    /// The configuration, with the ranges of now.
+    /// Returns the configuration, with the present address ranges.
     pub fn config(&self) -> &Config
         ensures value { result.now ≡ self.now.config }
         ensures fit { HasFitDatabases self.now }
@@ -181,14 +197,14 @@ impl State {
         &self.config
     }
 
-    /// The interfaces with their ids, ascending by these.
+    /// Returns the interfaces with their ids, in ascending order of id.
     pub fn interfaces(&self) -> btree_map::Iter<'_, u8, Interface>
         ensures { result ≡ map.entries self.now.interfaces }
     {
         self.interfaces.iter()
     }
 
-    /// The events that were taken since the base, in their order.
+    /// Returns the events taken since the base, in order.
     pub fn journal(&self) -> &[Event]
         ensures value { result.now ≡ self.now.journal }
         ensures fit { HasFitDatabases self.now }
@@ -196,7 +212,7 @@ impl State {
         self.journal.as_slice()
     }
 
-    /// The database of a scope; none for an area that is not configured.
+    /// Returns the database of the scope, or `None` for an area that is not configured.
     pub fn database(&self, scope: Scope) -> Option<&Database>
         ensures value { option_map (λ d. d.now.lsas) result ≡ database_of self.now scope }
         ensures limit { IfSome result (λ d. d.now.limit ≡ limit_of self.now.limits scope) }
@@ -208,7 +224,7 @@ impl State {
 }
 
 impl State {
-    /// The first refusal that holds for the event, memory aside.
+    /// Returns the first refusal that holds for the event, memory aside, or `None`.
     pub fn refusal(&self, event: &Event) -> Option<Refusal>
         ensures { result ≡ refusal_of self.now event.now }
     {
@@ -354,8 +370,13 @@ impl State {
 }
 
 impl State {
-    /// Takes the event, or refuses it and leaves everything as it was. The answer is its serial, and
-    /// whether the usable LSAs (key, Options, body), the interfaces or the ranges differ from before.
+    /// Takes the event. Returns its serial, and true if the usable LSAs (key, Options, body), the
+    /// interfaces or the ranges differ from before.
+    ///
+    /// # Errors
+    ///
+    /// Returns the first refusal that holds for the event (20 to 29, 34 to 36), or 30 Memory if
+    /// memory runs out. The state is then unchanged.
     pub fn step(&mut self, event: Event) -> Result<(u64, bool), Refusal>
         ensures refused { IfErr result (IsRefusalOf self.old event) }
         ensures unchanged { OnErr result (self.new ≡ self.old) }
@@ -373,7 +394,7 @@ impl State {
         }
     }
 
-    // The event joins the journal, and is carried out.
+    // Appends the event to the journal, and carries it out.
     fn take(&mut self, event: Event) -> Result<bool, Memory>
         requires accepted { IsAccepted self.old event }
         requires room { serial_of self.old < most_serial }
@@ -393,7 +414,7 @@ impl State {
         }
     }
 
-    // What the event does to the databases, the interfaces and the ranges.
+    // Changes the databases, the interfaces or the ranges as the event says.
     fn carry_out(&mut self, event: Event) -> Result<bool, Memory>
         requires { IsAccepted self.old event }
         ensures unchanged { OnErr result (self.new ≡ self.old) }
@@ -401,11 +422,11 @@ impl State {
         ensures changed { IfOk result (TellsChangeBy self.old event) }
     {
         match event {
-            // 13.2: an LSA is installed in the database.
+            // 13.2: the LSA is installed in the database.
             Event::Install { scope, lsa } => self.install(scope, lsa),
             // 14.1: premature ageing.
             Event::Flush { scope, key } => Ok(self.flush(scope, key)),
-            // 14: an LSA at MaxAge leaves the database.
+            // 14: an LSA at MaxAge is removed from the database.
             Event::Purge { scope, key } => Ok(self.purge(scope, key)),
             Event::Interface {
                 id,
@@ -447,7 +468,7 @@ impl State {
         }
     }
 
-    // Whether the LSA was used before.
+    // Returns true if the LSA was usable before.
     fn flush(&mut self, scope: Scope, key: Key) -> bool
         ensures done { self.new ≡ changed_by self.old (Event.Flush scope key) }
         ensures changed { TellsChangeBy self.old (Event.Flush scope key) result }
@@ -458,7 +479,7 @@ impl State {
         }
     }
 
-    // The LSA was not used before: the answer is no.
+    // Returns false: the LSA was not usable before.
     fn purge(&mut self, scope: Scope, key: Key) -> bool
         requires { IsAccepted self.old (Event.Purge scope key) }
         ensures done { self.new ≡ changed_by self.old (Event.Purge scope key) }
@@ -499,8 +520,10 @@ impl State {
     }
 }
 
-// Makes room for all events that the journal may have, once it has many. So large a piece of memory goes back to the
-// system in a roll, and not to a heap that keeps it. If memory runs out, room is made event by event.
+// Reserves memory for all events that the journal may have, once it has many.
+//
+// An allocation of that size goes back to the system in a roll, and is not kept by the heap. If
+// memory runs out here, the journal grows event by event.
 fn make_room(journal: &mut Vec<Event>, most: u64)
     ensures { journal.new.items ≡ journal.old.items }
 {
@@ -513,7 +536,7 @@ fn make_room(journal: &mut Vec<Event>, most: u64)
     }
 }
 
-// An empty database for each area, and one for the AS.
+// Creates an empty database for each area, and one for the AS.
 fn empty_databases(
     alloc: Global,
     areas: &[AreaConfig],

@@ -1,4 +1,4 @@
-//! A recording is read and run, and then a question about its end is answered.
+//! The replay of a recording, and the answer to a question about its end.
 ghost use Rattle.std.specs.Prelude.{◌≡◌, ◌⊎◌, ℕ, List, IfErr, IfOk, OnErr, OnOk, string_bytes};
 ghost use Rattle.std.specs.Io.KnownBytes.{Appends};
 ghost use Rattle.recording.specs.Faults.{IsFaultOf};
@@ -24,11 +24,19 @@ use std::alloc::Global;
 use std::hash::RandomState;
 use std::io;
 
-/// Reads its input to the end as a recording, runs it on one thread, and writes the answer to the question about the table that
-/// it leaves. For a fault of the input, and where memory runs out, over an event too, nothing is written. Where a write fails,
-/// a beginning of the answer is written. A failed write is told as `Closed` where the writer's error is of the kind `BrokenPipe`,
-/// and else as `Write`. If `explaining.progress` is set, `faults` is shown how many lines are done; what cannot be written there
-/// is left out. The line that is written over is left for the caller to end.
+/// Reads the whole input as a recording, replays it on one thread, and writes the answer to the
+/// question about the core that it leaves.
+///
+/// If `explaining.progress` is set, the number of lines done is shown on `faults`. Failed writes
+/// there are ignored. The caller has to end the line that shows the progress.
+///
+/// # Errors
+///
+/// - `Read` if the input cannot be read, and `Line` if it is not a valid recording. Nothing is
+///   written then.
+/// - `Memory` if memory runs out, also during an event. Nothing is written then.
+/// - `Closed` if a write fails with an error of the kind `BrokenPipe`, and `Write` if it fails
+///   otherwise. A beginning of the answer may be written then.
 pub fn explain_one<R: io::Read, W: io::Write, F: io::Write>(
     alloc: Global,
     hashing: RandomState,
@@ -63,7 +71,7 @@ pub fn explain_one<R: io::Read, W: io::Write, F: io::Write>(
     }
 }
 
-// The answer to the question about the core's table.
+// Returns the answer to the question about the core.
 fn answer(alloc: Global, format: Format, question: Question, core: &Core) -> Result<String, Memory>
     ensures { IfOk result (λ text. IsAnswer question format core.now (string_bytes text)) }
 {
@@ -73,7 +81,8 @@ fn answer(alloc: Global, format: Format, question: Question, core: &Core) -> Res
     }
 }
 
-// Why the table has what it has for the address. It is behind only where memory ran out.
+// Returns the explanation of the table's items for the address. The core is behind only if memory
+// ran out.
 fn answer_address(
     alloc: Global,
     format: Format,
@@ -96,7 +105,7 @@ fn answer_address(
     Ok(text)
 }
 
-// Why the summary is due in the area, or is not.
+// Returns the explanation of the summary in the area. The core is behind only if memory ran out.
 fn answer_due(
     alloc: Global,
     format: Format,

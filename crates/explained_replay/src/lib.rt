@@ -1,5 +1,5 @@
-//! A recording is run, and it is told why the routing table has then what it has for an address, or why a summary is due in an
-//! area.
+//! The replay of a recording, followed by an explanation of the routing table's items for an
+//! address, or of a summary in an area.
 #![tactic(auto)]
 
 mod explaining;

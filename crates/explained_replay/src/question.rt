@@ -1,24 +1,25 @@
-//! What is to be explained.
+//! Questions about the end of a recording.
 
 use ospf_types::key::Dest;
 use output_format::Format;
 
-/// What is asked for.
+/// A question about the core that a replay leaves.
 #[derive(Clone, Copy, Debug, PartialEq, Eq)]
 pub enum Question {
-    /// Why the routing table has what it has for this address, in host order.
+    /// The explanation of the routing table's items for this address, in host order.
     Address(u32),
-    /// Why a summary for the destination, a network or the Router ID of an AS boundary router, is due in the area with this Area
-    /// ID, or is not.
+    /// The reason why a summary for the destination is due in the area with this Area ID, or is not
+    /// due there. The destination is a network, or an AS boundary router by its Router ID.
     Due(u32, Dest),
 }
 
-/// A question, and how it is answered.
+/// A question, and the form of its answer.
 #[derive(Clone, Copy, Debug, PartialEq, Eq)]
 pub struct Explaining {
+    /// The question.
     pub question: Question,
-    /// The form of the lines.
+    /// The format of the lines.
     pub format: Format,
-    /// Whether it is shown on standard error how many lines of the recording are done.
+    /// True if the number of lines done is shown on standard error.
     pub progress: bool,
 }

@@ -1,4 +1,4 @@
-//! What the databases of a router offer of networks.
+//! The offers of all databases of a router.
 ghost use Rattle.std.specs.Prelude.{◌≡◌, ◌++◌, IfOk, OnOk};
 ghost use Rattle.ospf_types.specs.RangeChanges.{is_same_prefix};
 ghost use Rattle.explanation.specs.Groups.{offers_for};
@@ -15,7 +15,7 @@ use ospf_types::prefix::Prefix;
 use std::alloc::Global;
 
 impl Layers<'_, '_> {
-    /// What the LSAs of the areas offer, and then the AS-external-LSAs.
+    /// Returns the offers of the areas' LSAs, and then those of the AS-external-LSAs.
     pub(crate) fn all_offers(self, alloc: Global, wanted: Wanted<'_>) -> Result<Vec<Offer>, Memory>
         ensures { IfOk result (λ offers.
             offers.items ≡ all_wanted (is_wanted wanted.entry) self.entry) }
@@ -45,7 +45,7 @@ fn add_areas(
     Ok(())
 }
 
-/// Those of the offers that are of the network, in their order.
+/// Returns the offers for this network, in their order.
 pub(crate) fn of_network(
     alloc: Global,
     network: Prefix,

@@ -1,4 +1,4 @@
-//! Why the routing table has what it has for an address (RFC 2328, 11.1 and 16).
+//! The explanation of the routing table's items for an address (RFC 2328, 11.1 and 16).
 ghost use Rattle.std.specs.Prelude.{IfNone, IfOk, IfSome, OnOk, option_copied};
 ghost use Rattle.calculation.specs.Calculations.{IsCalculationOf};
 ghost use Rattle.event_core.specs.Cores.{IsCurrent, state_of};
@@ -25,19 +25,22 @@ use route_layers::active_areas;
 use state_trees::area_inputs;
 use std::alloc::Global;
 
-/// An offer, and what became of it.
+/// An offer with its verdict.
 #[derive(Debug)]
 pub struct Candidate {
+    /// The offer.
     pub offer: Offer,
-    /// What its paths cost; of a type 2 external metric, to the forwarding address or the AS boundary router. None where it has
-    /// no path.
+    /// The cost of its paths, or `None` if it has no path. For a type 2 external metric, it is the
+    /// cost to the forwarding address or to the AS boundary router.
     pub cost: Option<u32>,
+    /// The verdict on the offer.
     pub verdict: Verdict,
-    /// If it is taken, a trace for each path that it gives to its network's route; else none.
+    /// A trace for each path that the offer gives to its network's route, if it is taken. Otherwise
+    /// the list is empty.
     pub traces: Vec<Trace>,
 }
 
-// proof: one call drops it, in place of a drop of each part wherever one is held.
+// proof: a value is dropped by one call, not part by part at each exit of a function.
 impl Drop for Candidate {
     fn drop(self) {
         let Candidate {
@@ -49,9 +52,16 @@ impl Drop for Candidate {
     }
 }
 
-/// What became of all that LSAs offer of networks that contain the address, network by network in the table's order; of each
-/// network first what LSAs of the areas offer, in the order of the configuration, and then the AS-external-LSAs, those of a
-/// database as `Core::lsas` has them. None where the core's table is behind.
+/// Returns all offers for networks that contain the address (in host order), each with its verdict.
+/// Returns `None` if the core is behind.
+///
+/// The candidates are listed network by network, in the table's order. Within a network, the offers
+/// of the areas come first, in the order of the configuration, and then those of the
+/// AS-external-LSAs. Within a database, they have the order of `Core::lsas`.
+///
+/// # Errors
+///
+/// Returns `Memory` if memory runs out.
 pub fn explain(alloc: Global, core: &Core, address: u32) -> Result<Option<Vec<Candidate>>, Memory>
     ensures current { IfOk result (λ found. IfSome found (λ _. IsCurrent core.now)) }
     ensures none { IfOk result (λ found. IfNone found (IsCurrent core.now → ⊥)) }
@@ -67,7 +77,7 @@ pub fn explain(alloc: Global, core: &Core, address: u32) -> Result<Option<Vec<Ca
     }
 }
 
-// By what is calculated of a state.
+// Explains the address by a state and the results calculated from it.
 fn explain_by(alloc: Global, found: Calculated<'_>, address: u32) -> Result<Vec<Candidate>, Memory>
     requires { IsCalculationOf found.state.now found.calculation.now }
     ensures { IfOk result (λ candidates.
@@ -86,7 +96,7 @@ fn explain_by(alloc: Global, found: Calculated<'_>, address: u32) -> Result<Vec<
 }
 
 impl Layers<'_, '_> {
-    // What became of each offer.
+    // Returns the candidates of all offers.
     fn explain(self, alloc: Global, address: u32) -> Result<Vec<Candidate>, Memory>
         requires { AreAreas self.areas.now }
         ensures right { IfOk result (λ candidates. AreCandidates self.entry
@@ -104,7 +114,7 @@ impl Layers<'_, '_> {
         Ok(candidates)
     }
 
-    // Adds what became of the offers of a network.
+    // Appends the candidates of a network.
     fn push_network(
         self,
         network: Prefix,
@@ -126,7 +136,7 @@ impl Layers<'_, '_> {
         Ok(())
     }
 
-    // Adds what became of an offer.
+    // Appends the candidate of an offer.
     fn push_candidate(
         self,
         offer: &Offer,
@@ -152,7 +162,8 @@ impl Layers<'_, '_> {
         Ok(())
     }
 
-    // If the offer is taken, traces of it for the paths of its network's route.
+    // Returns the traces of the offer for the paths of its network's route. The list is empty if
+    // the offer is not taken.
     fn traces_if(
         self,
         alloc: Global,
@@ -175,7 +186,7 @@ impl Layers<'_, '_> {
         Ok(traces)
     }
 
-    // Traces of the offer for these paths, in their order.
+    // Returns the traces of the offer for these paths, in their order.
     fn traces(
         self,
         alloc: Global,
@@ -212,7 +223,7 @@ impl Layers<'_, '_> {
     }
 }
 
-// The networks of the offers.
+// Returns the networks of the offers.
 fn networks_of(alloc: Global, offers: &[Offer]) -> Result<Networks, Memory>
     ensures { IfOk result (AreNetworks offers.now) }
 {

@@ -1,4 +1,5 @@
-//! The traces of the paths that an AS-external-LSA gives by way of its forwarding address (RFC 2328, 16.4 (3)).
+//! The traces of the paths that an AS-external-LSA gives through its forwarding address (RFC 2328,
+//! 16.4 (3)).
 ghost use Rattle.std.specs.Prelude.{◌≡◌, ◌↔◌, Contains, IfOk, IsTrue, OnOk};
 ghost use Rattle.ospf_types.specs.External.{toward};
 ghost use Rattle.explanation.specs.Giving.{Adds};
@@ -22,13 +23,13 @@ use ospf_types::memory::Memory;
 use ospf_types::prefix::Prefix;
 use std::alloc::Global;
 
-/// The longest match of forwarding addresses, and the traces to it.
+/// The longest match of forwarding addresses, with the traces to it.
 pub(crate) struct ForwardingMatch {
     pub(crate) network: Prefix,
     pub(crate) traces: Vec<Trace>,
 }
 
-// proof: one call drops it, in place of a drop of each part wherever one is held.
+// proof: a value is dropped by one call, not part by part at each exit of a function.
 impl Drop for ForwardingMatch {
     fn drop(self) {
         let ForwardingMatch {
@@ -38,14 +39,14 @@ impl Drop for ForwardingMatch {
     }
 }
 
-/// The longest matches of the forwarding addresses of several offers, and the traces to each.
+/// The longest matches of the forwarding addresses of several offers, with the traces to each.
 pub(crate) struct Forwards {
     pub(crate) networks: Networks,
-    /// One for each of the networks, in their order.
+    /// An item for each of the networks, in their order.
     pub(crate) items: Vec<ForwardingMatch>,
 }
 
-// proof: one call drops it, in place of a drop of each part wherever one is held.
+// proof: a value is dropped by one call, not part by part at each exit of a function.
 impl Drop for Forwards {
     fn drop(self) {
         let Forwards {
@@ -56,7 +57,7 @@ impl Drop for Forwards {
 }
 
 impl Forwards {
-    // The traces to the network, which is one of them.
+    // Returns the traces to the network. It must be one of `networks`.
     fn traces_to(&self, network: Prefix) -> &[Trace]
         requires listed { networks_of self.now.items.items ≡ self.now.networks }
         requires among { Contains self.now.networks network }
@@ -69,7 +70,8 @@ impl Forwards {
     }
 }
 
-/// An AS-external-LSA with a forwarding address, and the paths of the route that it is to give.
+/// An AS-external-LSA with a forwarding address (in host order), and the paths of the route that it
+/// should give.
 #[derive(Clone, Copy)]
 pub(crate) struct Forwarded<'a> {
     pub(crate) offer: &'a Offer,
@@ -78,7 +80,8 @@ pub(crate) struct Forwarded<'a> {
 }
 
 impl Layers<'_, '_> {
-    /// The longest matches of the forwarding addresses of the offers, and the traces to each. All LSAs are gone through once.
+    /// Returns the longest matches of the forwarding addresses of the offers, with the traces to
+    /// each. All LSAs are read only once.
     pub(crate) fn forwards(self, alloc: Global, offers: &[Offer]) -> Result<Forwards, Memory>
         requires { AreAreas self.areas.now }
         ensures right { IfOk result (λ f. AreForwards self.entry f.networks f.items.items) }
@@ -93,7 +96,7 @@ impl Layers<'_, '_> {
         Ok(Forwards { networks, items })
     }
 
-    // The longest matches of the forwarding addresses of the offers.
+    // Returns the longest matches of the forwarding addresses of the offers.
     fn matched_networks(self, alloc: Global, offers: &[Offer]) -> Result<Networks, Memory>
         ensures { IfOk result (λ networks. AreMatched self.entry networks offers.now) }
     {
@@ -106,7 +109,7 @@ impl Layers<'_, '_> {
         Ok(Networks::of(networks))
     }
 
-    // The longest match of the forwarding address.
+    // Returns the longest match of the offer's forwarding address.
     fn matched_by(self, kind: OfferKind) -> Option<Prefix>
         ensures { result ≡ match_by self.entry kind }
     {
@@ -116,7 +119,7 @@ impl Layers<'_, '_> {
         }
     }
 
-    // The network that is the longest match of the address.
+    // Returns the network that is the longest match of the address, or `None`.
     fn matched(self, address: u32) -> Option<Prefix>
         ensures { result ≡ match_at self.entry address }
     {
@@ -126,7 +129,7 @@ impl Layers<'_, '_> {
         }
     }
 
-    // What LSAs offer of the networks, network by network.
+    // Returns the offers of all LSAs for the networks, network by network.
     fn groups_of(self, alloc: Global, networks: &Networks) -> Result<Vec<Group>, Memory>
         ensures { IfOk result (λ groups. AreGroups networks.now
             (all_wanted (is_one_of networks.now) self.entry) groups.items) }
@@ -139,7 +142,7 @@ impl Layers<'_, '_> {
         Ok(groups)
     }
 
-    // Adds the network and the traces to it.
+    // Appends the group's network with the traces to it.
     fn push_forward(self, group: &Group, forwards: &mut Vec<ForwardingMatch>) -> Result<(), Memory>
         requires areas { AreAreas self.areas.now }
         requires all { AreAllOf self group.now }
@@ -147,14 +150,14 @@ impl Layers<'_, '_> {
             forwards.new.items) }
     {
         let network = group.network;
-        // proof: a network has its own address.
+        // proof: its contract shows that the address of a network lies in the network.
         let _address = network.address();
         let traces = self.network_traces(*forwards.allocator(), network, &group.offers)?;
         forwards.push(ForwardingMatch { network, traces })?;
         Ok(())
     }
 
-    // The traces to the network of these offers, by those that are taken.
+    // Returns the traces to the network by its offers that are taken.
     fn network_traces(
         self,
         alloc: Global,
@@ -176,7 +179,7 @@ impl Layers<'_, '_> {
         Ok(traces)
     }
 
-    // Adds what the offer gives to its network's route within the AS.
+    // Appends the traces that the offer gives to its network's route within the AS.
     fn push_route(self, by: &Offer, traces: &mut Vec<Trace>) -> Result<(), Memory>
         requires { AreAreas self.areas.now }
         ensures { OnOk result (Adds (GivesRoute self.entry by.now) traces.old.items
@@ -193,7 +196,8 @@ impl Layers<'_, '_> {
         Ok(())
     }
 
-    /// A trace for each of those paths.
+    /// Returns a trace for each of the AS-external-LSA's paths that leads through the forwarding
+    /// address.
     pub(crate) fn forward_traces(
         self,
         alloc: Global,
@@ -216,7 +220,8 @@ impl Layers<'_, '_> {
     }
 }
 
-// Adds the trace to the network, and on from there, if it is one of the paths.
+// Appends the trace to the network, continued by the AS-external-LSA, if its path is one of the
+// paths.
 fn push_onward(
     network: Prefix,
     inner: &Trace,
@@ -240,14 +245,14 @@ fn push_onward(
     Ok(())
 }
 
-/// Whether the paths of the offer are among those of the route.
+/// Returns true if the paths of the offer are among those of its network's route.
 pub(crate) fn is_taken(verdict: Verdict) -> bool
     ensures { IsTrue result ↔ (verdict ≡ Verdict.Taken) }
 {
     matches!(verdict, Verdict::Taken)
 }
 
-// The next hop toward the address: on a network of the root that is the address itself.
+// Returns the next hop toward the address: on a network of the root, it is the address itself.
 fn toward(address: u32, hop: NextHop) -> NextHop
     ensures { result ≡ toward address hop }
 {

@@ -1,4 +1,4 @@
-//! What LSAs offer of some networks, network by network.
+//! Offers grouped by their networks.
 ghost use Rattle.std.specs.Prelude.{◌≡◌, ◌<◌, IfNone, IfOk, IfSome, OnOk, length};
 ghost use Rattle.explanation.specs.Groups.{AreEmpty, AreGroups, IsOneMore};
 
@@ -8,13 +8,13 @@ use ospf_types::memory::Memory;
 use ospf_types::prefix::Prefix;
 use std::alloc::Global;
 
-/// A network, and what LSAs offer of it.
+/// A network with its offers.
 pub(crate) struct Group {
     pub(crate) network: Prefix,
     pub(crate) offers: Vec<Offer>,
 }
 
-// proof: one call drops it, in place of a drop of each part wherever one is held.
+// proof: a value is dropped by one call, not part by part at each exit of a function.
 impl Drop for Group {
     fn drop(self) {
         let Group {
@@ -24,7 +24,7 @@ impl Drop for Group {
     }
 }
 
-/// For each network those of the offers that are of it, in their order. Each offer is looked at once.
+/// Returns a group for each network, with its offers in their order. Each offer is read only once.
 pub(crate) fn grouped(
     alloc: Global,
     networks: &Networks,
@@ -41,7 +41,7 @@ pub(crate) fn grouped(
     Ok(groups)
 }
 
-// A group for each of the networks, with nothing in it.
+// Returns an empty group for each of the networks.
 fn empty_groups(alloc: Global, networks: &[Prefix]) -> Result<Vec<Group>, Memory>
     ensures { IfOk result (λ groups. AreEmpty networks.now groups.items) }
 {
@@ -55,7 +55,7 @@ fn empty_groups(alloc: Global, networks: &[Prefix]) -> Result<Vec<Group>, Memory
     Ok(groups)
 }
 
-// Adds the offer to the group at this place.
+// Appends the offer to the group at this place.
 fn put(groups: &mut [Group], place: usize, offer: &Offer) -> Result<(), Memory>
     requires { place < length groups.now }
     ensures { OnOk result (IsOneMore place offer.now groups.old groups.new) }

@@ -1,4 +1,4 @@
-//! What becomes of an offer beside others for its network (RFC 2328, 16.1, 16.2 and 16.4).
+//! The verdict on an offer among the other offers for its network (RFC 2328, 16.1, 16.2 and 16.4).
 ghost use Rattle.std.specs.Prelude.{◌≡◌, ◌↔◌, ◌<◌, IfErr, IfNone, IfOk, IfSome, IsTrue, option_copied};
 ghost use Rattle.explanation.specs.Layers.{AreAreas};
 ghost use Rattle.explanation.specs.Judging.{HasKey, HasNoKey, IsCostWithin, IsFateOutside, IsFateWithin, IsGreater, IsGreatestId, IsJudged, IsJudgedBy, IsLeastKey, IsLesser, IsRivalsOf, IsSummary, IsTransitAt, LacksCostWithin, fate_beside, rank};
@@ -11,27 +11,28 @@ use ospf_types::entry::{Entry, PathType};
 use ospf_types::key::Scope;
 use ospf_types::prefix::Prefix;
 
-/// What an offer comes to.
+/// The cost and the verdict of an offer.
 #[derive(Clone, Copy, Debug, PartialEq, Eq)]
 pub(crate) struct Judged {
-    /// What its paths cost; none where it has none.
+    /// The cost of its paths, or `None` if it has none.
     pub(crate) cost: Option<u32>,
     pub(crate) verdict: Verdict,
 }
 
-/// What the offers for a network are compared with.
+/// The values that the offers for a network are compared with.
 #[derive(Clone, Copy)]
 pub(crate) struct Rivals<'c> {
-    /// The network's intra-area route, else its inter-area one.
+    /// The network's intra-area route, else its inter-area route.
     pub(crate) internal: Option<&'c Entry>,
-    /// The greatest Link State ID of a transit network that is the network, in the area of the route and at its cost.
+    /// The greatest Link State ID of the network's transit networks in the area of that route and
+    /// at its cost.
     pub(crate) greatest: Option<u32>,
     /// The least key of an AS-external-LSA for the network.
     pub(crate) least: Option<ExternalKey>,
 }
 
 impl Rivals<'_> {
-    // What an offer within the AS comes to, by the cost that was found.
+    // Judges an offer within the AS, by its cost or by the reason why it has none.
     fn judge_within(&self, offer: &Offer, area: u32, found: Result<u32, Verdict>) -> Judged
         ensures { IsJudgedBy (λ cost. cost) (IsFateWithin (option_copied self.now.internal)
             self.now.greatest offer.now area) found result }
@@ -52,25 +53,25 @@ impl Rivals<'_> {
         let Some(entry) = self.internal else {
             return Verdict::Unreached;
         };
-        // 16.2 (6)
+        // 16.2 (6): an intra-area route is preferred to inter-area routes.
         if is_summary(offer.kind) && is_intra(entry) {
             return Verdict::IntraArea;
         }
-        // 16.1 (2d), 16.2 (7)
+        // 16.1 (2d), 16.2 (7): the least cost is preferred.
         if cost > entry.cost {
             return Verdict::Costlier;
         }
         if entry.area != Some(area) {
             return Verdict::LesserArea;
         }
-        // 16.1 (4)
+        // 16.1 (4): at one cost, the transit network with the greatest Link State ID is preferred.
         if is_transit(offer.kind) && self.greatest != Some(offer.source.key.id) {
             return Verdict::LesserId;
         }
         Verdict::Taken
     }
 
-    // What an AS-external-LSA comes to, by the key that was found.
+    // Judges an AS-external-LSA, by its key or by the reason why it has none.
     fn judge_external(&self, found: Result<ExternalKey, Verdict>) -> Judged
         ensures { IsJudgedBy (λ key. key.cost) (IsFateOutside (option_copied self.now.internal)
             self.now.least) found result }
@@ -87,7 +88,7 @@ impl Rivals<'_> {
     fn fate_outside(&self, key: ExternalKey) -> Verdict
         ensures { IsFateOutside (option_copied self.now.internal) self.now.least key result }
     {
-        // 16.4 (6a)
+        // 16.4 (6a): intra-area and inter-area routes are preferred to AS external routes.
         if self.internal.is_some() {
             return Verdict::Internal;
         }
@@ -116,7 +117,7 @@ fn is_intra(entry: &Entry) -> bool
     matches!(entry.kind, PathType::Intra)
 }
 
-// The lesser of the two.
+// Returns the lesser key.
 fn lesser(least: Option<ExternalKey>, key: ExternalKey) -> ExternalKey
     ensures { IsLesser least key result }
 {
@@ -126,7 +127,7 @@ fn lesser(least: Option<ExternalKey>, key: ExternalKey) -> ExternalKey
     }
 }
 
-// The greater of the two.
+// Returns the greater Link State ID.
 fn greater(greatest: Option<u32>, id: u32) -> u32
     ensures { IsGreater greatest id result }
 {
@@ -137,7 +138,7 @@ fn greater(greatest: Option<u32>, id: u32) -> u32
 }
 
 impl ExternalKey {
-    // Whether this one is preferred.
+    // Returns true if this key is preferred to the other.
     fn is_before(self, other: ExternalKey) -> bool
         ensures { IsTrue result ↔ (rank self < rank other) }
     {
@@ -153,11 +154,11 @@ impl ExternalKey {
         self.cost < other.cost
     }
 
-    // What becomes of a path with this key beside one with the other.
+    // Returns the verdict on a path with this key, compared with the other key.
     fn fate_beside(self, other: ExternalKey) -> Verdict
         ensures { fate_beside self other result }
     {
-        // 16.4 (6b)
+        // 16.4 (6b): type 1 is preferred to type 2, and then the least metric of type 2.
         if self.is_type_2 && !other.is_type_2 {
             return Verdict::Type2;
         }
@@ -170,14 +171,14 @@ impl ExternalKey {
         if self.metric < other.metric {
             return Verdict::Taken;
         }
-        // 16.4 (6c)
+        // 16.4 (6c): the least class of 16.4.1 is preferred.
         if self.class > other.class {
             return Verdict::Class;
         }
         if self.class < other.class {
             return Verdict::Taken;
         }
-        // 16.4 (6d)
+        // 16.4 (6d): the least cost is preferred.
         if self.cost > other.cost {
             return Verdict::Costlier;
         }
@@ -186,7 +187,7 @@ impl ExternalKey {
 }
 
 impl<'c> Layers<'c, '_> {
-    /// What the offers for this network are compared with.
+    /// Returns the values that the offers for this network are compared with.
     pub(crate) fn rivals(self, network: Prefix, offers: &[Offer]) -> Rivals<'c>
         requires { AreAreas self.areas.now }
         ensures { IsRivalsOf self.entry network offers.now (option_copied result.internal)
@@ -203,7 +204,7 @@ impl<'c> Layers<'c, '_> {
         }
     }
 
-    /// What the offer comes to.
+    /// Judges the offer against the values of its network.
     pub(crate) fn judge(self, offer: &Offer, rivals: &Rivals<'_>) -> Judged
         requires { AreAreas self.areas.now }
         ensures { IsJudged self.entry (option_copied rivals.now.internal) rivals.now.greatest
@@ -221,7 +222,7 @@ impl<'c> Layers<'c, '_> {
         }
     }
 
-    // The cost of an offer within the AS.
+    // Returns the cost of an offer within the AS, or the reason why it has none.
     fn cost_within(self, area: u32, offer: &Offer) -> Result<u32, Verdict>
         requires { AreAreas self.areas.now }
         ensures cost { IfOk result (IsCostWithin self.entry area offer.now offer.now.kind) }
@@ -235,7 +236,7 @@ impl<'c> Layers<'c, '_> {
         }
     }
 
-    // The least key of the AS-external-LSAs among the offers.
+    // Returns the least key of the AS-external-LSAs among the offers.
     fn least_key(self, offers: &[Offer]) -> Option<ExternalKey>
         ensures { IsLeastKey self.entry offers.now result }
     {
@@ -248,7 +249,7 @@ impl<'c> Layers<'c, '_> {
         least
     }
 
-    // The key of the offer, if it is of an AS-external-LSA that has one.
+    // Returns the key of the offer, if it comes from an AS-external-LSA that has one.
     fn key_of(self, offer: &Offer) -> Option<ExternalKey>
         ensures some { IfSome result (HasKey self.entry offer.now.kind offer.now) }
         ensures none { IfNone result (HasNoKey self.entry offer.now.kind offer.now) }
@@ -264,7 +265,8 @@ impl<'c> Layers<'c, '_> {
         }
     }
 
-    // The greatest Link State ID of the transit networks among the offers that are in the area of the route and at its cost.
+    // Returns the greatest Link State ID of the transit networks among the offers, in the area of
+    // the route and at its cost.
     fn greatest_id(self, entry: &Entry, offers: &[Offer]) -> Option<u32>
         requires { AreAreas self.areas.now }
         ensures { IsGreatestId self.entry entry.now offers.now result }
@@ -278,7 +280,7 @@ impl<'c> Layers<'c, '_> {
         greatest
     }
 
-    // Whether the offer is of a transit network in the area of the route and at its cost.
+    // Returns true if the offer is a transit network in the area of the route and at its cost.
     fn is_at(self, entry: &Entry, offer: &Offer) -> bool
         requires { AreAreas self.areas.now }
         ensures { IsTrue result ↔ IsTransitAt self.entry entry.now offer.now }

@@ -1,4 +1,5 @@
-//! What explanations rest on: a state, what is calculated from it, and its areas with their databases and trees.
+//! The inputs of explanations: a state, the results calculated from it, and its areas with their
+//! databases and trees.
 ghost use Rattle.std.specs.Prelude.{◌≡◌, ◌<◌, IfSome, IfNone, option_copied};
 ghost use Rattle.spf.specs.Maps.{most_distance};
 ghost use Rattle.intra.specs.Intras.{most_cost, reached_at};
@@ -15,19 +16,19 @@ use path_choice::ReachedRouter;
 // The Area ID of the backbone (RFC 2328, 3.1).
 const BACKBONE: u32 = 0;
 
-/// What explanations rest on.
+/// The inputs of explanations.
 #[derive(Clone, Copy)]
 pub(crate) struct Layers<'c, 'a> {
     pub(crate) state: &'c State,
     pub(crate) calculation: &'c Calculation,
     /// The areas with their databases and trees, in the order of the configuration.
     pub(crate) areas: &'a [AreaInputs<'c>],
-    /// The Area IDs of those that are active.
+    /// The Area IDs of the active areas.
     pub(crate) active: &'a [u32],
 }
 
 impl<'c, 'a> Layers<'c, 'a> {
-    /// The area with this Area ID.
+    /// Returns the area with this Area ID, or `None`.
     pub(crate) fn area(self, id: u32) -> Option<&'a AreaInputs<'c>>
         ensures some { IfSome result (λ a. HasArea self.entry.areas.now id a.now) }
         ensures none { IfNone result (LacksArea self.entry.areas.now id) }
@@ -40,15 +41,15 @@ impl<'c, 'a> Layers<'c, 'a> {
         None
     }
 
-    /// The Router ID.
+    /// Returns the Router ID of the root.
     pub(crate) fn root(self) -> u32
         ensures { result ≡ self.entry.state.now.config.router }
     {
         self.state.config().router
     }
 
-    /// Whether the area's summary-LSAs are examined (16.2): those of the backbone where two areas or more are active, or else
-    /// those of the only active one.
+    /// Returns true if the area's summary-LSAs are examined (16.2). The examined area is the
+    /// backbone if two or more areas are active, or else the only active area.
     pub(crate) fn is_examined(self, area: u32) -> bool
         ensures { result ≡ is_examined self.entry.active.now area }
     {
@@ -59,7 +60,7 @@ impl<'c, 'a> Layers<'c, 'a> {
         }
     }
 
-    /// The distance of a vertex of the area.
+    /// Returns the distance of a vertex of the area, or `None` if it is not reached.
     pub(crate) fn distance(self, area: u32, vertex: Vertex) -> Option<u32>
         ensures value { IsDistanceOf self.entry.areas.now area vertex result }
         ensures bounded { IfSome result (λ distance. distance < most_distance) }
@@ -70,7 +71,7 @@ impl<'c, 'a> Layers<'c, 'a> {
         }
     }
 
-    /// The key of the LSA that stands for a vertex of the area.
+    /// Returns the key of the LSA that stands for a vertex of the area, or `None`.
     pub(crate) fn standing(self, area: u32, vertex: Vertex) -> Option<Key>
         requires { AreAreas self.areas.now }
         ensures { IsKeyStanding self.entry.areas.now area vertex result }
@@ -84,7 +85,7 @@ impl<'c, 'a> Layers<'c, 'a> {
         }
     }
 
-    /// The intra-area entry of the network, else its inter-area one.
+    /// Returns the intra-area route to the network, else its inter-area route.
     pub(crate) fn internal(self, network: Prefix) -> Option<&'c Entry>
         ensures value { option_copied result ≡ internal_at self.entry.calculation.now network }
         ensures bounded { IfSome result (λ entry. entry.now.cost < most_cost) }
@@ -95,7 +96,7 @@ impl<'c, 'a> Layers<'c, 'a> {
         }
     }
 
-    /// The AS boundary router or border router, where it is reached in the area.
+    /// Returns the area border router or AS boundary router, if it is reached in the area.
     pub(crate) fn reached(self, area: u32, router: u32) -> Option<&'c ReachedRouter>
         ensures { option_copied result ≡ reached_at self.entry.calculation.now.intra.areas area router }
     {

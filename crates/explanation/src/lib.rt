@@ -1,5 +1,6 @@
-//! Why the routing table has what it has for an address (RFC 2328, 11.1 and 16): which LSAs offer networks that contain it, what
-//! became of each of these offers and at which step, and over which links the paths of those that are taken lead.
+//! The explanation of the routing table's items for an address (RFC 2328, 11.1 and 16): the LSAs
+//! that offer networks which contain it, and the verdict on each offer. The offers that are taken
+//! have traces: the links that their paths lead over.
 #![tactic(auto)]
 
 mod all_offers;

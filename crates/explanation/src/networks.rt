@@ -1,4 +1,4 @@
-//! Networks in their order.
+//! A sorted set of networks.
 ghost use Rattle.std.specs.Prelude.{◌≡◌, Contains, IfNone, IfSome};
 ghost use Rattle.std.specs.List.Sorted.{IsStrictlySortedBy};
 ghost use Rattle.ospf_types.specs.Network.{network_cmp};
@@ -9,12 +9,12 @@ use ospf_types::prefix::Prefix;
 use result_map::ascending;
 use std::marker::Model;
 
-/// Networks in the order of addresses and then of lengths, each once.
+/// Networks in the order of addresses and then of prefix lengths, without duplicates.
 pub(crate) struct Networks {
     items: Vec<Prefix>,
 }
 
-// proof: one call drops it, in place of a drop of each part wherever one is held.
+// proof: a value is dropped by one call, not part by part at each exit of a function.
 impl Drop for Networks {
     fn drop(self) {
         let Networks { items: _items } = self;
@@ -49,7 +49,7 @@ impl Networks {
         self.items.as_slice()
     }
 
-    /// Where the network stands among them.
+    /// Returns the index of the network, or `None` if it is not one of them.
     pub(crate) fn place(&self, network: Prefix) -> Option<usize>
         ensures some { IfSome result (IsPlaceOf self.now network) }
         ensures none { IfNone result (Contains self.now network → ⊥) }

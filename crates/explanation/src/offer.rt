@@ -1,4 +1,4 @@
-//! What LSAs offer of networks.
+//! Offers: the networks that LSAs advertise.
 ghost use Rattle.std.specs.Prelude.{◌≡◌};
 ghost use Rattle.explanation.specs.Offers.{source_of};
 
@@ -10,9 +10,11 @@ use ospf_types::prefix::Prefix;
 /// An instance of an LSA, and the database that has it.
 #[derive(Clone, Copy, Debug, PartialEq, Eq)]
 pub struct LsaInstance {
+    /// The database.
     pub scope: Scope,
+    /// The key of the LSA.
     pub key: Key,
-    /// LS sequence number: the 32 bits of a signed number.
+    /// The LS sequence number: the 32 bits of a signed number.
     pub seq: u32,
 }
 
@@ -26,25 +28,28 @@ impl LsaInstance {
     }
 }
 
-/// An LSA that offers a network.
+/// A network that an LSA offers.
 #[derive(Clone, Copy, Debug, PartialEq, Eq)]
 pub struct Offer {
+    /// The network.
     pub network: Prefix,
+    /// The instance of the LSA.
     pub source: LsaInstance,
     /// The LSA's present age, in seconds.
     pub age: u16,
+    /// The part of the LSA that offers the network.
     pub kind: OfferKind,
 }
 
-/// How an LSA offers a network (RFC 2328, A.4).
+/// The part of an LSA that offers a network (RFC 2328, A.4).
 #[derive(Clone, Copy, Debug, PartialEq, Eq)]
 pub enum OfferKind {
-    /// By a stub link at this metric.
+    /// A stub link of a router-LSA, with its metric.
     Stub(u16),
-    /// It is that of the transit network.
+    /// A network-LSA, by its transit network.
     Transit,
-    /// By a summary at this metric.
+    /// A summary-LSA, with its metric.
     Summary(u32),
-    /// As an AS-external-LSA at this metric.
+    /// An AS-external-LSA, with its metric.
     AsExternal(u32, External),
 }

@@ -1,5 +1,5 @@
-//! What an offer comes to by itself, whatever others offer (RFC 2328, 16.1, 16.2 and 16.4): what its paths cost, or why it has
-//! none.
+//! The cost of an offer by itself, without other offers (RFC 2328, 16.1, 16.2 and 16.4), or the
+//! reason why it has none.
 ghost use Rattle.std.specs.Prelude.{ℕ, ◌≡◌, ◌↔◌, ◌<◌, IfErr, IfNone, IfOk, IfSome, IsTrue};
 ghost use Rattle.ospf_types.specs.Inter.{LSInfinity};
 ghost use Rattle.ospf_types.specs.Intra.{LiesIn};
@@ -16,8 +16,8 @@ use ospf_types::lsa::{External, LS_INFINITY, MAX_AGE};
 use ospf_types::prefix::Prefix;
 use state_trees::is_up_in;
 
-/// What AS-external-LSAs for one network are compared by (16.4 (6)): type 1 before type 2, the metric of type 2, the class of
-/// 16.4.1, and the cost.
+/// The values by which AS-external-LSAs for one network are compared, in this order (16.4 (6)):
+/// type 1 before type 2, the metric of type 2, the class of 16.4.1, and the cost.
 #[derive(Clone, Copy, Debug, PartialEq, Eq)]
 pub(crate) struct ExternalKey {
     pub(crate) is_type_2: bool,
@@ -27,12 +27,12 @@ pub(crate) struct ExternalKey {
 }
 
 impl Layers<'_, '_> {
-    /// The cost of a stub network (16.1, the second stage).
+    /// Returns the cost of a stub network (16.1, the second stage), or the reason why it has none.
     pub(crate) fn stub_cost(self, area: u32, offer: &Offer, metric: u16) -> Result<u32, Verdict>
         ensures cost { IfOk result (IsStubCost self.entry area offer.now metric) }
         ensures none { IfErr result (LacksStubCost self.entry area offer.now) }
     {
-        // 16.1 (2b)
+        // 16.1 (2b): an LSA at MaxAge is skipped.
         if offer.age >= MAX_AGE {
             return Err(Verdict::MaxAge);
         }
@@ -49,13 +49,13 @@ impl Layers<'_, '_> {
         }
     }
 
-    /// The cost of a transit network (16.1 (4)).
+    /// Returns the cost of a transit network (16.1 (4)), or the reason why it has none.
     pub(crate) fn transit_cost(self, area: u32, offer: &Offer) -> Result<u32, Verdict>
         requires { AreAreas self.areas.now }
         ensures cost { IfOk result (IsTransitCost self.entry area offer.now) }
         ensures none { IfErr result (LacksTransitCost self.entry area offer.now) }
     {
-        // 16.1 (2b)
+        // 16.1 (2b): an LSA at MaxAge is skipped.
         if offer.age >= MAX_AGE {
             return Err(Verdict::MaxAge);
         }
@@ -70,7 +70,7 @@ impl Layers<'_, '_> {
         }
     }
 
-    /// The cost of a summary (16.2).
+    /// Returns the cost of a summary-LSA (16.2), or the reason why it has none.
     pub(crate) fn summary_cost(self, area: u32, offer: &Offer, metric: u32) -> Result<u32, Verdict>
         ensures cost { IfOk result (IsSummaryCost self.entry area offer.now metric) }
         ensures none { IfErr result (LacksSummaryCost self.entry area offer.now metric) }
@@ -78,22 +78,23 @@ impl Layers<'_, '_> {
         if !self.is_examined(area) {
             return Err(Verdict::NotExamined);
         }
-        // 16.2 (1), (2)
+        // 16.2 (1), (2): an LSA at LSInfinity or MaxAge is skipped, and so is the router's own LSA.
         if let Some(verdict) = self.unfit(offer, metric) {
             return Err(verdict);
         }
-        // 16.2 (3)
+        // 16.2 (3): the prefix of an active range is skipped.
         if self.calculation.active().contains(offer.network) {
             return Err(Verdict::ActiveRange);
         }
-        // 16.2 (4)
+        // 16.2 (4): the border router has to be reached in the area.
         match self.reached(area, offer.source.key.router) {
             Some(border) if border.is_abr() => Ok(border.distance() + metric),
             _ => Err(Verdict::NoBorderRouter),
         }
     }
 
-    /// What an AS-external-LSA is compared by (16.4).
+    /// Returns the key by which an AS-external-LSA is compared (16.4), or the reason why it has
+    /// none.
     pub(crate) fn external_key(
         self,
         offer: &Offer,
@@ -103,11 +104,11 @@ impl Layers<'_, '_> {
         ensures key { IfOk result (IsExternalKey self.entry offer.now metric external) }
         ensures none { IfErr result (LacksKey self.entry offer.now metric external) }
     {
-        // 16.4 (1), (2)
+        // 16.4 (1), (2): an LSA at LSInfinity or MaxAge is skipped, and so is the router's own LSA.
         if let Some(verdict) = self.unfit(offer, metric) {
             return Err(verdict);
         }
-        // 16.4 (3)
+        // 16.4 (3): the AS boundary router has to be reached.
         let Some(preferred) = self
             .calculation
             .external()
@@ -122,7 +123,7 @@ impl Layers<'_, '_> {
         self.forwarded_key(metric, external)
     }
 
-    // What it is compared by where it has a forwarding address.
+    // Returns the key of an AS-external-LSA with a forwarding address.
     fn forwarded_key(self, metric: u32, external: External) -> Result<ExternalKey, Verdict>
         requires metric { metric < LSInfinity }
         requires some { 0 < external.forwarding }
@@ -136,7 +137,8 @@ impl Layers<'_, '_> {
         }
     }
 
-    // The class and the distance of a forwarding address.
+    // Returns the class and the distance of a forwarding address, or `None` if no route leads
+    // there.
     fn forward(self, address: u32) -> Option<(u8, u32)>
         requires { 0 < address }
         ensures some { IfSome result (λ found. (router : ℕ) → LeadsAt self.entry router address found.0 found.1) }
@@ -147,7 +149,7 @@ impl Layers<'_, '_> {
         Some((way.class(), way.cost()))
     }
 
-    // Why a summary-LSA or an AS-external-LSA is passed over at once.
+    // Returns the reason why a summary-LSA or an AS-external-LSA is skipped at once, or `None`.
     fn unfit(self, offer: &Offer, metric: u32) -> Option<Verdict>
         ensures some { IfSome result (IsUnfit self.entry offer.now metric) }
         ensures none { IfNone result (IsFit self.entry offer.now metric) }
@@ -164,7 +166,7 @@ impl Layers<'_, '_> {
         None
     }
 
-    // Whether the root has an interface of the area that is up and lies in the network.
+    // Returns true if the root has an interface of the area that is up and lies in the network.
     fn is_on(self, area: u32, network: Prefix) -> bool
         ensures { IsTrue result ↔ HasInterfaceOn self.entry area network }
     {
@@ -177,7 +179,7 @@ impl Layers<'_, '_> {
     }
 }
 
-// The distance X and the metric Y of an AS-external-LSA as it is compared (16.4 (4)).
+// Returns the key of an AS-external-LSA. `metric` is the Y of 16.4 (4), and `distance` is its X.
 fn key_by(is_type_2: bool, metric: u32, class: u8, distance: u32) -> ExternalKey
     requires metric { metric < LSInfinity }
     requires distance { distance < most_cost }
@@ -199,7 +201,8 @@ fn key_by(is_type_2: bool, metric: u32, class: u8, distance: u32) -> ExternalKey
     }
 }
 
-/// Whether the interface is one of the area's, is up, and lies in the network, by its address or by its peer's.
+/// Returns true if the interface belongs to the area, is up, and lies in the network by its address
+/// or by its peer's address.
 pub(crate) fn is_on(interface: &Interface, area: u32, network: Prefix) -> bool
     ensures { IsTrue result ↔ IsOn area network interface.now }
 {

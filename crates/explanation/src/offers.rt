@@ -1,4 +1,4 @@
-//! Which LSAs offer networks.
+//! The offers of LSAs.
 ghost use Rattle.std.specs.Prelude.{◌≡◌, ◌++◌, OnOk};
 ghost use Rattle.explanation.specs.Offers as said;
 ghost use Rattle.explanation.specs.Offers.{is_wanted, offers_among, offers_of, own_if};
@@ -11,12 +11,12 @@ use ospf_types::lsa::{Link, LinkKind};
 use ospf_types::memory::Memory;
 use ospf_types::prefix::Prefix;
 
-/// The networks that LSAs are asked for.
+/// The networks whose offers are wanted.
 #[derive(Clone, Copy)]
 pub(crate) enum Wanted<'n> {
-    /// Those that contain the address.
+    /// All networks that contain the address (in host order).
     Around(u32),
-    /// These.
+    /// These networks.
     Among(&'n Networks),
 }
 
@@ -31,7 +31,7 @@ impl Wanted<'_> {
     }
 }
 
-/// The LSAs of a database, and the networks that they are asked for.
+/// A database of LSAs, and the networks whose offers are wanted.
 #[derive(Clone, Copy)]
 pub(crate) struct Asked<'n> {
     pub(crate) scope: Scope,
@@ -39,7 +39,7 @@ pub(crate) struct Asked<'n> {
 }
 
 impl Asked<'_> {
-    /// Adds what these LSAs offer.
+    /// Appends the wanted offers of these LSAs.
     pub(crate) fn add_offers(self, lsas: &[Checked], offers: &mut Vec<Offer>) -> Result<(), Memory>
         ensures { OnOk result (offers.new.items
             ≡ offers.old.items ++ offers_among (is_wanted self.entry.wanted) self.entry.scope lsas.now) }
@@ -61,7 +61,7 @@ impl Asked<'_> {
         Ok(())
     }
 
-    // Adds the stub links of a router-LSA (A.4.2).
+    // Appends the wanted offers of the stub links of a router-LSA (A.4.2).
     fn add_stubs(self, lsa: &Checked, offers: &mut Vec<Offer>) -> Result<(), Memory>
         ensures { OnOk result (offers.new.items ≡ offers.old.items
             ++ said.stubs_of (is_wanted self.entry.wanted) self.entry.scope lsa.now) }
@@ -74,7 +74,7 @@ impl Asked<'_> {
         Ok(())
     }
 
-    // What a link of a router-LSA offers.
+    // Returns the offer of a link of a router-LSA, if it is a stub link to a wanted network.
     fn stub(self, lsa: &Checked, link: Link) -> Option<Offer>
         ensures { result ≡ said.stub_if (is_wanted self.entry.wanted) self.entry.scope lsa.now link }
     {
@@ -87,7 +87,8 @@ impl Asked<'_> {
         }
     }
 
-    // What a network-LSA, a summary-LSA of a network or an AS-external-LSA offers (A.4.3, A.4.4, A.4.5).
+    // Returns the offer of a network-LSA, a type 3 summary-LSA or an AS-external-LSA (A.4.3, A.4.4,
+    // A.4.5), if its network is wanted.
     fn own(self, lsa: &Checked) -> Option<Offer>
         ensures { result ≡ own_if (is_wanted self.entry.wanted) self.entry.scope lsa.now }
     {
@@ -113,7 +114,7 @@ impl Asked<'_> {
     }
 }
 
-// How an LSA that has a network offers it.
+// Returns the kind of the offer of an LSA that has a network.
 fn kind_of(lsa: &Checked) -> OfferKind
     ensures { result ≡ said.own_kind lsa.now }
 {

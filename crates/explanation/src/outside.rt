@@ -1,4 +1,5 @@
-//! The traces of the paths that an AS-external-LSA gives (RFC 2328, 16.4 (3)).
+//! The traces of the paths that an offer gives, within the AS or to an AS boundary router (RFC
+//! 2328, 16.4 (3)).
 ghost use Rattle.std.specs.Prelude.{ℕ, ◌↔◌, Contains, IfNone, IfOk, IfSome, IsTrue, OnOk};
 ghost use Rattle.explanation.specs.Layers.{AreAreas};
 ghost use Rattle.explanation.specs.declared.trace.Step.{Step};
@@ -15,8 +16,8 @@ use ospf_types::lsa::{ASBR_SUMMARY_LSA, MAX_AGE};
 use ospf_types::memory::Memory;
 use std::alloc::Global;
 
-/// An AS-external-LSA, the area whose border routers tell of its AS boundary router, and the paths of the route that it is to
-/// give.
+/// An AS-external-LSA, the area of the summary-LSAs that advertise its AS boundary router, and the
+/// paths of the route that it should give.
 #[derive(Clone, Copy)]
 struct Told<'a> {
     area: u32,
@@ -25,7 +26,7 @@ struct Told<'a> {
 }
 
 impl Layers<'_, '_> {
-    /// A trace for each of the paths that an offer of the area gives.
+    /// Returns a trace for each of the paths that an offer of the area gives.
     pub(crate) fn traces_within(
         self,
         alloc: Global,
@@ -44,7 +45,8 @@ impl Layers<'_, '_> {
         Ok(traces)
     }
 
-    /// A trace for each of the paths that an AS-external-LSA without a forwarding address gives.
+    /// Returns a trace for each of the paths that an AS-external-LSA without a forwarding address
+    /// gives.
     pub(crate) fn boundary_traces(
         self,
         alloc: Global,
@@ -66,7 +68,7 @@ impl Layers<'_, '_> {
         }
     }
 
-    // Whether it is of a stub network of the root itself.
+    // Returns true if the offer is a stub network of the root itself.
     fn is_own_stub(self, offer: &Offer) -> bool
         ensures { IsTrue result ↔ IsOwnStub self.entry offer.now }
     {
@@ -76,7 +78,7 @@ impl Layers<'_, '_> {
         }
     }
 
-    // The area of the preferred entry of the AS boundary router, if it is reached there.
+    // Returns the area of the AS boundary router's preferred route, if it is reached in that area.
     fn boundary_area(self, router: u32) -> Option<u32>
         ensures some { IfSome result (IsBoundaryIn self.entry router) }
         ensures none { IfNone result ((area : ℕ) → IsBoundaryIn self.entry router area → ⊥) }
@@ -90,7 +92,8 @@ impl Layers<'_, '_> {
         Some(area)
     }
 
-    // The step from a border router to the AS boundary router, as the summary-LSA of the border router tells it.
+    // Returns the step from a border router to the AS boundary router, by the border router's
+    // usable type 4 summary-LSA, or `None`.
     fn told_step(self, area: u32, border: u32, router: u32) -> Option<Step>
         requires { AreAreas self.areas.now }
         ensures some { IfSome result (IsToldStep self.entry area border router) }
@@ -117,7 +120,7 @@ impl Layers<'_, '_> {
 }
 
 impl Layers<'_, '_> {
-    // By way of border routers that tell of the AS boundary router (16.2).
+    // Returns the traces through border routers that advertise the AS boundary router (16.2).
     fn told_traces(self, alloc: Global, offer: &Offer, paths: &[Path]) -> Result<Vec<Trace>, Memory>
         requires { AreAreas self.areas.now }
         ensures { IfOk result (λ traces. AreTold self.entry offer.now paths.now traces.items) }
@@ -140,7 +143,8 @@ impl Layers<'_, '_> {
         Ok(traces)
     }
 
-    // Adds a trace by way of the border router that this path names, if the route has such a path.
+    // Appends a trace through the border router that advertised `within`, if the route has such a
+    // path.
     fn push_told(self, told: Told<'_>, within: &Path, traces: &mut Vec<Trace>) -> Result<(), Memory>
         requires { AreAreas self.areas.now }
         ensures { OnOk result (Adds (GivesTold self.entry told.entry.area told.entry.offer.now
@@ -169,7 +173,7 @@ impl Layers<'_, '_> {
     }
 }
 
-/// Whether it is one of the paths.
+/// Returns true if the path is one of the paths.
 pub(crate) fn has_path(paths: &[Path], path: Path) -> bool
     ensures { IsTrue result ↔ Contains paths.now path }
 {

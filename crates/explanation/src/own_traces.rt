@@ -1,4 +1,5 @@
-//! The traces of the root's own stub networks (RFC 2328, 16.1): a step each, over an interface.
+//! The traces of the root's own stub networks (RFC 2328, 16.1): each is a single step over an
+//! interface.
 ghost use Rattle.std.specs.Prelude.{◌↔◌, IfOk, IsTrue, OnOk};
 ghost use Rattle.explanation.specs.Giving.{Adds};
 ghost use Rattle.explanation.specs.Traces.{AreOwnTraces, GivesOwn, IsOver};
@@ -13,7 +14,8 @@ use ospf_types::memory::Memory;
 use std::alloc::Global;
 
 impl Layers<'_, '_> {
-    /// A trace for each of the paths that is over an interface of the area on the network.
+    /// Returns a trace for each of the paths that leads over an interface of the area on the
+    /// network.
     pub(crate) fn own_traces(
         self,
         alloc: Global,
@@ -31,7 +33,7 @@ impl Layers<'_, '_> {
         Ok(traces)
     }
 
-    // Adds a trace for the path, if it is over such an interface.
+    // Appends a trace for the path, if it leads over such an interface.
     fn push_own(
         self,
         area: u32,
@@ -51,7 +53,8 @@ impl Layers<'_, '_> {
         Ok(())
     }
 
-    // Whether the path is over an interface of the area that is up and lies in the network.
+    // Returns true if the path leads over an interface of the area that is up and lies in the
+    // network.
     fn is_over(self, area: u32, offer: &Offer, path: &Path) -> bool
         ensures { IsTrue result ↔ IsOver self.entry area offer.now path.now }
     {

@@ -1,4 +1,4 @@
-//! The traces by which an offer gives the paths of a route (RFC 2328, 16.1.1 and 16.2).
+//! The traces of the paths that an offer gives to a route (RFC 2328, 16.1.1 and 16.2).
 ghost use Rattle.std.specs.Prelude.{◌≡◌, ◌≢◌, [], ◌∷◌, IfNone, IfOk, IfSome, None, OnOk, All, Contains};
 ghost use Rattle.tree_paths.specs.LeastPaths.{links_at};
 ghost use Rattle.vertex_graph.specs.Graphs.{LinksOf};
@@ -19,19 +19,21 @@ use ospf_types::memory::Memory;
 use std::alloc::Global;
 use vertex_graph::Link;
 
-/// Where the paths of a route lead: to a vertex of an area, and on from there.
+/// The end of traces: a vertex of an area, and the steps from there on.
 #[derive(Clone, Copy)]
 pub(crate) struct Target<'a> {
     /// The Area ID.
     pub(crate) area: u32,
     pub(crate) vertex: Vertex,
-    /// The router that the paths name.
+    /// The advertiser of the paths, if they have one.
     pub(crate) advertiser: Option<u32>,
+    /// The steps after the vertex.
     pub(crate) on: &'a [Step],
 }
 
 impl Layers<'_, '_> {
-    /// A trace for each of the paths whose next hop the target's vertex has, in their order.
+    /// Returns a trace for each of the paths whose next hop the target's vertex has, in their
+    /// order.
     pub(crate) fn traces_to(
         self,
         alloc: Global,
@@ -49,7 +51,8 @@ impl Layers<'_, '_> {
         Ok(traces)
     }
 
-    /// A trace for each of the paths that an offer gives over its vertex in the area, in their order.
+    /// Returns a trace for each of the paths that an offer gives over its vertex in the area, in
+    /// their order.
     pub(crate) fn traces_by(
         self,
         alloc: Global,
@@ -72,7 +75,8 @@ impl Layers<'_, '_> {
         self.traces_to(alloc, target, paths)
     }
 
-    // Adds a trace for the path, if it names the target's advertiser, and if the vertex has its next hop.
+    // Appends a trace for the path, if it has the target's advertiser and the vertex has its next
+    // hop.
     fn push_trace(
         self,
         alloc: Global,
@@ -97,7 +101,8 @@ impl Layers<'_, '_> {
         Ok(())
     }
 
-    /// The links of a path of least cost to the vertex, by which it has this next hop, as steps; none where it has not.
+    /// Returns the links of a shortest path to the vertex by which it has this next hop, as steps.
+    /// The list is empty if the vertex does not have the next hop.
     pub(crate) fn steps_to(
         self,
         alloc: Global,
@@ -120,7 +125,7 @@ impl Layers<'_, '_> {
     }
 }
 
-// The links as steps.
+// Returns the links as steps.
 fn link_steps(alloc: Global, area: &AreaInputs<'_>, links: &[&Link]) -> Result<Vec<Step>, Memory>
     requires tree { HasTree area.now }
     requires links { AreLinksIn area.now links.now }
@@ -133,7 +138,7 @@ fn link_steps(alloc: Global, area: &AreaInputs<'_>, links: &[&Link]) -> Result<V
     Ok(steps)
 }
 
-// Adds the link as a step. The LSA that stands for its tail says so.
+// Appends the link as a step. Its source is the LSA that stands for the tail of the link.
 fn push_link(area: &AreaInputs<'_>, link: &Link, steps: &mut Vec<Step>) -> Result<(), Memory>
     requires tree { HasTree area.now }
     requires link { LinksOf area.now.tree.area.graph link.now.from link.now.to link.now.cost link.now.label }
@@ -152,7 +157,7 @@ fn push_link(area: &AreaInputs<'_>, link: &Link, steps: &mut Vec<Step>) -> Resul
     Ok(())
 }
 
-// The instance that stands for the vertex in the area, if there is one.
+// Returns the instance that stands for the vertex in the area, or `None`.
 fn source_at(area: &AreaInputs<'_>, vertex: Vertex) -> Option<LsaInstance>
     requires { HasTree area.now }
     ensures some { IfSome result (IsSourceAt area.now vertex) }
@@ -164,7 +169,7 @@ fn source_at(area: &AreaInputs<'_>, vertex: Vertex) -> Option<LsaInstance>
 }
 
 impl Offer {
-    /// The vertex that it leads over.
+    /// Returns the vertex that the offer leads over.
     pub(crate) fn vertex(&self) -> Vertex
         ensures { result ≡ vertex_by self.now.kind self.now.source.key }
     {
@@ -177,7 +182,7 @@ impl Offer {
         }
     }
 
-    /// The router that its paths name.
+    /// Returns the advertiser of the offer's paths, or `None` if they have none.
     pub(crate) fn advertiser(&self) -> Option<u32>
         ensures { result ≡ advertiser_by self.now.kind self.now.source.key }
     {
@@ -198,7 +203,7 @@ impl Offer {
         }
     }
 
-    /// The last step of its traces, from there to the network.
+    /// Returns the last step of the offer's traces, from `from` to the network.
     pub(crate) fn last_step(&self, from: TraceNode) -> Step
         ensures { result ≡ last_from from self.now }
     {

@@ -1,4 +1,4 @@
-//! Why the table has what it has for an address, line by line.
+//! The explanation of the table's items for an address, line by line.
 ghost use Rattle.std.specs.Prelude.{List, ℕ, ◌≡◌, ◌≤◌, ◌++◌, OnOk, string_bytes};
 ghost use Rattle.std.specs.List.{flat_map, list_any};
 ghost use Rattle.route_table.specs.declared.table.Match.{Match};
@@ -14,19 +14,24 @@ use ospf_types::prefix::Prefix;
 use output_format::Format;
 use route_table::{Match, Table};
 
-/// An address, and what explains the table's answer to it.
+/// An address, and the explanation of the table's items for it.
 #[derive(Clone, Copy)]
 pub struct Explained<'a> {
-    /// In host order.
+    /// The address, in host order.
     pub address: u32,
+    /// The routing table.
     pub table: &'a Table,
-    /// What LSAs offer of networks that contain the address, and what became of it.
+    /// The offers for networks that contain the address, with their verdicts.
     pub candidates: &'a [Candidate],
 }
 
-/// Appends why the table has what it has for the address: what it has for it, and then each network that contains the
-/// address, the longest first, with what is offered of it and what became of that. Costs are metrics. If memory runs
-/// out, the text may have a part of this.
+/// Appends the explanation of the table's items for the address: its longest match, and then each
+/// network that contains it, the longest first, with its offers and their verdicts. Costs are
+/// metrics.
+///
+/// # Errors
+///
+/// Returns `Memory` if memory runs out. The text may then have a part of the explanation.
 pub fn put_explanation(
     format: Format,
     explained: Explained<'_>,
@@ -41,11 +46,11 @@ pub fn put_explanation(
     explained.put_networks(format, text)
 }
 
-// How many lengths a network may have: 0 to 32 bits.
+// The number of prefix lengths: 0 to 32 bits.
 const LENGTHS: u8 = 33;
 
 impl Explained<'_> {
-    // The match of the address in the table.
+    // Appends the longest match of the address in the table.
     fn put_match(self, format: Format, text: &mut String) -> Result<(), Memory>
         ensures { OnOk result ((found : Match)
             × IsMatch self.entry.table.now.items self.entry.address found
@@ -57,7 +62,8 @@ impl Explained<'_> {
             address: self.address,
             serial: table.serial(),
         };
-        // proof: a match that is kept in a variable is not told to the borrow checker as one that may hold a route.
+        // proof: each arm makes its match again. The borrow checker does not know that a match kept
+        // in a variable may borrow a route.
         match table.lookup(self.address) {
             Match::Route(network, entry) => {
                 let found = Match::Route(network, entry);
@@ -68,7 +74,7 @@ impl Explained<'_> {
         }
     }
 
-    // Each network that contains the address, the longest first.
+    // Appends each network that contains the address, the longest first.
     fn put_networks(self, format: Format, text: &mut String) -> Result<(), Memory>
         ensures { OnOk result (string_bytes text.new ≡ string_bytes text.old
             ++ flat_map (network_text format self.entry.table.now.items self.entry.candidates.now)
@@ -81,7 +87,7 @@ impl Explained<'_> {
         Ok(())
     }
 
-    // What the table has for the network and what is offered of it, if there is anything.
+    // Appends the network's item and its offers, if it has an item or an offer.
     fn put_network(self, format: Format, network: Prefix, text: &mut String) -> Result<(), Memory>
         ensures { OnOk result (string_bytes text.new ≡ string_bytes text.old
             ++ network_text format self.entry.table.now.items self.entry.candidates.now network) }
@@ -96,7 +102,7 @@ impl Explained<'_> {
     }
 }
 
-// The network of so many bits that contains the address.
+// Returns the network of this prefix length that contains the address.
 fn network_around(address: u32, bits: u8) -> Prefix
     requires { bits ≤ 32 }
     ensures { result ≡ around address bits }
@@ -107,21 +113,21 @@ fn network_around(address: u32, bits: u8) -> Prefix
     }
 }
 
-// Whether there is an offer of the network.
+// Returns true if there is an offer for the network.
 fn is_offered(candidates: &[Candidate], network: Prefix) -> bool
     ensures { result ≡ list_any (is_offer_of network) candidates.now }
 {
     candidates.iter().any(|candidate| is_of(network, candidate))
 }
 
-// Whether it is an offer of the network.
+// Returns true if the candidate is an offer for the network.
 fn is_of(network: Prefix, candidate: &Candidate) -> bool
     ensures { result ≡ is_offer_of network candidate.now }
 {
     candidate.offer.network == network
 }
 
-// What is offered of the network.
+// Appends the offers for the network.
 fn put_offers(
     format: Format,
     network: Prefix,
@@ -137,7 +143,7 @@ fn put_offers(
     Ok(())
 }
 
-// Nothing of what is offered of another network.
+// Appends the candidate, if it is an offer for the network.
 fn put_if_of(
     format: Format,
     network: Prefix,
@@ -153,7 +159,7 @@ fn put_if_of(
     put_judged(format, candidate, text)
 }
 
-// An offer, and under one that is taken its traces.
+// Appends an offer, and its traces if it is taken.
 fn put_judged(format: Format, candidate: &Candidate, text: &mut String) -> Result<(), Memory>
     ensures { OnOk result (string_bytes text.new ≡ string_bytes text.old
         ++ candidate_text format candidate.now) }
@@ -175,7 +181,7 @@ fn put_traces(format: Format, traces: &[Trace], text: &mut String) -> Result<(),
     Ok(())
 }
 
-// A path, and each of its steps.
+// Appends a path and each of its steps.
 fn put_trace(format: Format, trace: &Trace, text: &mut String) -> Result<(), Memory>
     ensures { OnOk result (string_bytes text.new ≡ string_bytes text.old
         ++ trace_text format trace.now) }

@@ -1,9 +1,10 @@
-//! What is printed of an explanation: why the routing table has what it has for an address (RFC 2328, 11.1 and 16), in
-//! words or as JSON, one line a thing.
+//! The lines of an explanation of the routing table's items for an address (RFC 2328, 11.1 and 16),
+//! as text or as JSON.
 //!
-//! First comes what the table has for the address. Then each network that contains the address follows, the longest
-//! first, if the table has something for it or an LSA offers it: what the table has for this very network, each offer
-//! with its cost and what became of it, and under one that is taken each of its paths with the links that it leads over.
+//! The first line has the longest match of the address. Then the networks that contain the address
+//! follow, the longest first, if the table has an item for them or an LSA offers them. Each has a
+//! line with its own item or `none`, and a line for each offer with its cost and its verdict. An
+//! offer that is taken also has lines for its paths and for the links that they lead over.
 #![tactic(auto)]
 
 mod explained;

@@ -1,4 +1,4 @@
-//! The lines of an explanation, each appended to a text.
+//! The lines of an explanation, each of which is appended to a text.
 ghost use Rattle.std.specs.Prelude.{◌≡◌, ◌++◌, OnOk, option_copied, string_bytes};
 ghost use Rattle.explanation_lines.specs.Lines.{candidate_line, link_line, lookup_line, network_line, path_line};
 
@@ -10,14 +10,14 @@ use ospf_types::prefix::Prefix;
 use output_format::Format;
 use route_table::{Item, Match};
 
-/// A look-up of an address in the table that followed so many events.
+/// A lookup of an address in the table with this serial.
 #[derive(Clone, Copy)]
 pub(crate) struct Lookup {
     pub(crate) address: u32,
     pub(crate) serial: u64,
 }
 
-/// What the table had for the address: its longest match (RFC 2328, 11.1).
+/// Appends the result of the lookup: the longest match of the address (RFC 2328, 11.1).
 pub(crate) fn put_lookup(
     format: Format,
     lookup: Lookup,
@@ -33,7 +33,7 @@ pub(crate) fn put_lookup(
     }
 }
 
-/// What the table has for this very network.
+/// Appends the network and the table's item for it.
 pub(crate) fn put_network(
     format: Format,
     network: Prefix,
@@ -49,7 +49,7 @@ pub(crate) fn put_network(
     }
 }
 
-/// An offer, and what became of it.
+/// Appends an offer and its verdict.
 pub(crate) fn put_candidate(
     format: Format,
     candidate: &Candidate,
@@ -64,7 +64,7 @@ pub(crate) fn put_candidate(
     }
 }
 
-/// A path of a route.
+/// Appends a path of a route.
 pub(crate) fn put_path(format: Format, path: &Path, text: &mut String) -> Result<(), Memory>
     ensures { OnOk result (string_bytes text.new ≡ string_bytes text.old
         ++ path_line format path.now) }
@@ -75,7 +75,7 @@ pub(crate) fn put_path(format: Format, path: &Path, text: &mut String) -> Result
     }
 }
 
-/// A step of a path.
+/// Appends a step of a path.
 pub(crate) fn put_link(format: Format, step: &Step, text: &mut String) -> Result<(), Memory>
     ensures { OnOk result (string_bytes text.new ≡ string_bytes text.old
         ++ link_line format step.now) }

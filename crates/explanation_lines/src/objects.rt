@@ -103,7 +103,7 @@ fn candidate_object(alloc: Global, candidate: &Candidate) -> Result<Object, Memo
     Ok(object)
 }
 
-// An offer at this cost.
+// Returns an object with the offer and its cost.
 fn offered_object(alloc: Global, cost: Option<u32>, offer: &Offer) -> Result<Object, Memory>
     ensures { IfOk result (λ o. members_view o ≡ members_in (offered_members cost offer.now)) }
 {
@@ -131,7 +131,7 @@ fn offered_object(alloc: Global, cost: Option<u32>, offer: &Offer) -> Result<Obj
     Ok(object)
 }
 
-// The cost, or null for an offer that has no path.
+// Puts the cost of an offer into the object, or null if it has no path.
 fn put_cost(object: &mut Object, cost: Option<u32>) -> Result<(), Memory>
     ensures { OnOk result (PutsMember (codes "cost") (cost_data cost) object.old object.new) }
 {
@@ -141,7 +141,7 @@ fn put_cost(object: &mut Object, cost: Option<u32>) -> Result<(), Memory>
     }
 }
 
-// The key of an LSA, and its sequence number in hexadecimal, under `lsa`.
+// Puts the key of an LSA, and its sequence number in hexadecimal, into the object as `lsa`.
 fn put_source(object: &mut Object, source: &LsaInstance) -> Result<(), Memory>
     ensures { OnOk result (PutsMember (codes "lsa") (source_data source.now)
         object.old object.new) }
@@ -184,7 +184,8 @@ pub(crate) fn put_link(step: &Step, text: &mut String) -> Result<(), Memory>
     object.append_to(text)
 }
 
-// A router by its Router ID, a transit network by its Link State ID, or a network, as an object under the name.
+// Puts an end of a step into the object under this name. A router is given by its Router ID, a
+// transit network by its Link State ID, and a network by its prefix.
 fn put_place(object: &mut Object, name: &str, place: TraceNode) -> Result<(), Memory>
     ensures { OnOk result (PutsMember name.now (place_data place) object.old object.new) }
 {

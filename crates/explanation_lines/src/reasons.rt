@@ -1,17 +1,18 @@
-//! At which step of RFC 2328, 16 an offer was lost, and why.
+//! The step of RFC 2328, 16 at which an offer was lost, and the reason.
 ghost use Rattle.std.specs.Prelude.{◌≡◌};
 ghost use Rattle.explanation_lines.specs.Reasons as reasons;
 
 use explanation::{Verdict, OfferKind};
 
-/// Whether the paths of the offer are among those of the route.
+/// Returns true if the paths of the offer are among those of its network's route.
 pub(crate) fn is_taken(verdict: Verdict) -> bool
     ensures { result ≡ reasons.is_taken verdict }
 {
     matches!(verdict, Verdict::Taken)
 }
 
-/// The step that decides, as `16.2 (4)`; where the kind cannot have the verdict, the section that examines the kind.
+/// Returns the step that decides, for example `16.2 (4)`. If the kind of offer cannot have the
+/// verdict, returns the section that examines this kind.
 pub(crate) fn step_of(kind: OfferKind, verdict: Verdict) -> &'static str
     ensures { result.now ≡ reasons.step_text kind verdict }
 {
@@ -22,7 +23,7 @@ pub(crate) fn step_of(kind: OfferKind, verdict: Verdict) -> &'static str
     }
 }
 
-// Of what router-LSAs and network-LSAs offer.
+// Returns the step for the offers of router-LSAs and network-LSAs.
 fn intra_step(verdict: Verdict) -> &'static str
     ensures { result.now ≡ reasons.intra_step verdict }
 {
@@ -34,7 +35,7 @@ fn intra_step(verdict: Verdict) -> &'static str
     }
 }
 
-// Of what summary-LSAs offer.
+// Returns the step for the offers of summary-LSAs.
 fn inter_step(verdict: Verdict) -> &'static str
     ensures { result.now ≡ reasons.inter_step verdict }
 {
@@ -50,7 +51,7 @@ fn inter_step(verdict: Verdict) -> &'static str
     }
 }
 
-// Of what AS-external-LSAs offer.
+// Returns the step for the offers of AS-external-LSAs.
 fn external_step(verdict: Verdict) -> &'static str
     ensures { result.now ≡ reasons.external_step verdict }
 {
@@ -66,7 +67,7 @@ fn external_step(verdict: Verdict) -> &'static str
     }
 }
 
-/// Why the offer was lost, or that it was taken.
+/// Returns the reason why the offer was lost or taken.
 pub(crate) fn reason_of(verdict: Verdict) -> &'static str
     ensures { result.now ≡ reasons.reason_text verdict }
 {

@@ -1,4 +1,4 @@
-//! The lines of an explanation in words.
+//! The lines of an explanation as text.
 ghost use Rattle.std.specs.Prelude.{◌≡◌, ◌++◌, OnOk, codes, option_copied, string_bytes};
 ghost use Rattle.output_format.specs.declared.Format.TheVariants as format_value;
 ghost use Rattle.explanation_lines.specs.Reasons as reasons;
@@ -78,7 +78,7 @@ fn put_lost(candidate: &Candidate, text: &mut String) -> Result<(), Memory>
     Ok(())
 }
 
-// The cost of an offer, the offer and its LSA.
+// Appends the cost of an offer, the offer and its LSA.
 fn put_offered(candidate: &Candidate, text: &mut String) -> Result<(), Memory>
     ensures { OnOk result (string_bytes text.new ≡ string_bytes text.old
         ++ offered_text candidate.now) }
@@ -90,7 +90,7 @@ fn put_offered(candidate: &Candidate, text: &mut String) -> Result<(), Memory>
     put_source(&candidate.offer.source, text)
 }
 
-// A dash for an offer that has no path.
+// Appends the cost of an offer, or a dash if it has no path.
 fn put_cost(cost: Option<u32>, text: &mut String) -> Result<(), Memory>
     ensures { OnOk result (string_bytes text.new ≡ string_bytes text.old ++ cost_text cost) }
 {
@@ -117,14 +117,14 @@ fn put_offer(kind: OfferKind, text: &mut String) -> Result<(), Memory>
     Ok(())
 }
 
-/// The type of an external metric, 1 or 2.
+/// Returns the type of an external metric, 1 or 2.
 pub(crate) fn external_type(external: External) -> u8
     ensures { result ≡ type_of_external external }
 {
     if external.is_type_2 { 2 } else { 1 }
 }
 
-// The key of an LSA, and its sequence number in hexadecimal.
+// Appends the key of an LSA, and its sequence number in hexadecimal.
 fn put_source(source: &LsaInstance, text: &mut String) -> Result<(), Memory>
     ensures { OnOk result (string_bytes text.new ≡ string_bytes text.old
         ++ source_text source.now) }
@@ -177,7 +177,7 @@ pub(crate) fn put_link(step: &Step, text: &mut String) -> Result<(), Memory>
     Ok(())
 }
 
-// A vertex, or a network.
+// Appends a vertex or a network.
 fn put_place(place: TraceNode, text: &mut String) -> Result<(), Memory>
     ensures { OnOk result (string_bytes text.new ≡ string_bytes text.old ++ place_text place) }
 {
@@ -187,7 +187,7 @@ fn put_place(place: TraceNode, text: &mut String) -> Result<(), Memory>
     }
 }
 
-// A router by its Router ID, or a transit network by its Link State ID.
+// Appends a router by its Router ID, or a transit network by its Link State ID.
 fn put_vertex(vertex: Vertex, text: &mut String) -> Result<(), Memory>
     ensures { OnOk result (string_bytes text.new ≡ string_bytes text.old ++ vertex_text vertex) }
 {

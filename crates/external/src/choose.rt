@@ -1,4 +1,4 @@
-//! The entry of an external network: the best of what AS-external-LSAs offer.
+//! The choice of the entry of an external network: the best of the offers of AS-external-LSAs.
 ghost use Rattle.std.specs.Prelude.{◌≡◌, ◌<◌, None, Some, IfOk, OnOk};
 ghost use Rattle.std.specs.FinMap as map;
 ghost use Rattle.std.specs.List.Sorted.{IsStrictlySortedBy};
@@ -25,8 +25,9 @@ use result_map::{Choose, ResultMap};
 use std::alloc::Global;
 use std::marker::Model;
 
-// What external routes to one network are compared by: type 1 before type 2, the metric of type 2, the class of the way, and
-// then the cost, which is only the distance for type 2 (16.4 (6), b to d).
+// The key by which external routes to one network are compared (16.4 (6), b to d). Type 1 comes
+// before type 2. Then come the metric of type 2, the class of the path, and the cost, which for
+// type 2 is only the distance.
 #[derive(Clone, Copy, PartialEq, Eq, PartialOrd, Ord)]
 struct ExternalKey {
     kind: u8,
@@ -60,12 +61,13 @@ impl ExactOrd for ExternalKey {
 }
 
 impl ExternalKey {
-    // That of a route, over a way of this class and distance.
+    // Returns the key of a route over a path of this class and distance.
     fn of(route: AdvertisedRoute, class: u8, distance: u32) -> ExternalKey
         requires { distance < most_cost }
         ensures { result ≡ preference_of route class distance }
     {
-        // 16.4 (5): X is the distance and Y the metric. Type 1 costs X + Y, type 2 has X and Y apart.
+        // 16.4 (5): X is the distance and Y the metric. Type 1 costs X + Y. Type 2 keeps X and Y
+        // apart.
         if route.is_type_2() {
             ExternalKey {
                 kind: 2,
@@ -94,15 +96,15 @@ impl ExternalKey {
     }
 }
 
-/// What the entries of networks are chosen by.
+/// The inputs of a choice, and the results that it uses.
 #[derive(Drop)]
 pub(crate) struct Choosing<'a> {
     pub(crate) inputs: &'a ExternalInputs<'a>,
-    /// What AS-external-LSAs advertise.
+    /// The routes that AS-external-LSAs advertise.
     pub(crate) index: &'a AdvertisedIndex,
-    /// The preferred entries of AS boundary routers.
+    /// The preferred routes of AS boundary routers.
     pub(crate) preferred: &'a ResultMap<u32, AsbrRoute>,
-    /// Where forwarding addresses lead.
+    /// The matches of forwarding addresses, and the paths there.
     pub(crate) forwards: &'a ResultMap<u32, ForwardingMatch>,
 }
 
@@ -123,7 +125,8 @@ impl<'a> Choose<Prefix, Entry> for Choosing<'a> {
 }
 
 impl Choosing<'_> {
-    // The entry of the network; none where nothing is offered.
+    // Returns the entry of the network, or `None` if there are no offers or an internal path is
+    // preferred.
     fn choose_entry(&self, alloc: Global, network: Prefix) -> Result<Option<Entry>, Memory>
         ensures { IfOk result (IsEntryBy self.now.inputs.now self.now.index.now
             (preferred_in self.now.preferred.now) (forwards_in self.now.forwards.now) network) }
@@ -140,7 +143,7 @@ impl Choosing<'_> {
         }
     }
 
-    // Offers what is advertised to the network.
+    // Adds the offers of the routes to the network.
     fn offer_network(
         &self,
         alloc: Global,
@@ -157,7 +160,7 @@ impl Choosing<'_> {
         self.offer_keys(best, keys.as_slice())
     }
 
-    // Offers what is advertised under each of these keys.
+    // Adds the offers of the routes at these keys.
     fn offer_keys(&self, best: &mut Best<ExternalKey, Path>, keys: &[Key]) -> Result<(), Memory>
         ensures { OnOk result (TakesPaths (KeysOffer keys.now self.now.index.now.routes
             (preferred_in self.now.preferred.now) (forwards_in self.now.forwards.now))
@@ -169,7 +172,7 @@ impl Choosing<'_> {
         Ok(())
     }
 
-    // Offers what is advertised under the key, if its AS boundary router has an entry.
+    // Adds the offer of the route at the key, if its AS boundary router has a preferred route.
     fn offer_key(&self, best: &mut Best<ExternalKey, Path>, key: Key) -> Result<(), Memory>
         ensures { OnOk result (TakesPaths (KeyOffers self.now.index.now.routes
             (preferred_in self.now.preferred.now) (forwards_in self.now.forwards.now) key)
@@ -185,7 +188,7 @@ impl Choosing<'_> {
         }
     }
 
-    // Offers the route of an AS boundary router with this entry.
+    // Adds the offer of a route, given the preferred route of its AS boundary router.
     fn offer_route(
         &self,
         best: &mut Best<ExternalKey, Path>,
@@ -209,7 +212,7 @@ impl Choosing<'_> {
     }
 }
 
-// The external entry of a choice.
+// Returns the external entry of a choice.
 fn entry(choice: Choice<ExternalKey, Path>) -> Entry
     requires { IsStrictlySortedBy path_cmp choice.items }
     ensures { result ≡ entry_of
@@ -225,7 +228,8 @@ fn entry(choice: Choice<ExternalKey, Path>) -> Entry
     }
 }
 
-// Offers the route of the router over the way to its forwarding address, if there is one.
+// Adds the offer of the router's route over the path to its forwarding address, if there is such a
+// path.
 fn offer_forward(
     best: &mut Best<ExternalKey, Path>,
     router: u32,
@@ -241,7 +245,7 @@ fn offer_forward(
     }
 }
 
-// Offers the route of the router over the way to its forwarding address.
+// Adds the offer of the router's route over the path to its forwarding address.
 fn offer_way(
     best: &mut Best<ExternalKey, Path>,
     router: u32,

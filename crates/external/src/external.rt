@@ -27,8 +27,8 @@ use std::alloc::Global;
 use std::hash::RandomState;
 use std::marker::Model;
 
-/// The external routes of a router: the entry of each network outside the AS, and the preferred entry of each AS boundary
-/// router.
+/// The external routes of a router: the entry of each network outside the AS, and the preferred
+/// route of each AS boundary router.
 pub struct External {
     hashing: RandomState,
     index: AdvertisedIndex,
@@ -38,7 +38,7 @@ pub struct External {
     spent: bool,
 }
 
-// proof: one call drops it, in place of a drop of each part wherever one is held.
+// proof: a value is dropped by one call, not part by part at each exit of a function.
 impl Drop for External {
     fn drop(self) {
         let External {
@@ -76,7 +76,7 @@ impl Model for External {
 }
 
 impl External {
-    /// The routes of these inputs, from scratch.
+    /// Builds the routes of these inputs.
     pub fn build(
         alloc: Global,
         inputs: &ExternalInputs<'_>,
@@ -92,9 +92,16 @@ impl External {
         Ok(external)
     }
 
-    /// Works out again what may differ, and answers the destinations whose result does: networks, and AS boundary routers
-    /// with another preferred entry; ascending, each once. If memory runs out, all is spent: nothing is answered any
-    /// more, and only `build` makes another.
+    /// Recomputes the results that may be affected, and returns the destinations whose result
+    /// changed, in ascending order without duplicates.
+    ///
+    /// A destination is a network with another entry, or an AS boundary router with another
+    /// preferred route.
+    ///
+    /// # Errors
+    ///
+    /// Returns `Memory` if memory runs out. The routes are then spent: they are empty, and only
+    /// `build` makes others.
     pub fn update(
         &mut self,
         alloc: Global,
@@ -116,14 +123,14 @@ impl External {
         dests
     }
 
-    /// The entry of a network; none where it has none, or where all is spent.
+    /// Returns the entry of a network, or `None` if it has none or the routes are spent.
     pub fn get(&self, network: Prefix) -> Option<&Entry>
         ensures { option_copied result ≡ map.get self.now.entries network }
     {
         self.entries.get(network)
     }
 
-    /// The networks that have an entry, in no stated order, each once.
+    /// Returns the networks that have an entry, in no stated order, without duplicates.
     pub fn networks(&self, alloc: Global) -> Result<Vec<Prefix>, Memory>
         ensures exact { IfOk result (λ networks. ListsExactly (HasEntry self.now) networks.items) }
         ensures each_once { IfOk result (λ networks. AllPairs (λ p q. p ≢ q) networks.items) }
@@ -131,22 +138,25 @@ impl External {
         self.entries.keys(alloc)
     }
 
-    /// The preferred entry of an AS boundary router; none where it is not reached, or where all is spent.
+    /// Returns the preferred route of an AS boundary router, or `None` if it is not reached or the
+    /// routes are spent.
     pub fn preferred(&self, router: u32) -> Option<&AsbrRoute>
         ensures { option_copied result ≡ map.get self.now.preferred router }
     {
         self.preferred.get(router)
     }
 
-    /// Where a forwarding address leads (RFC 2328, 16.4 (3)); none where no AS-external-LSA that counts has it, or where
-    /// all is spent.
+    /// Returns the longest match of a forwarding address (in host order), and the path there (RFC
+    /// 2328, 16.4 (3)). Returns `None` if no advertised route has this address, or the routes are
+    /// spent.
     pub fn forward(&self, address: u32) -> Option<&ForwardingMatch>
         ensures { option_copied result ≡ map.get self.now.forwards address }
     {
         self.forwards.get(address)
     }
 
-    /// The AS boundary routers that have a preferred entry, in no stated order, each once.
+    /// Returns the Router IDs of the AS boundary routers that have a preferred route, in no stated
+    /// order, without duplicates.
     pub fn routers(&self, alloc: Global) -> Result<Vec<u32>, Memory>
         ensures exact { IfOk result (λ routers. ListsExactly (HasPreferred self.now) routers.items) }
         ensures each_once { IfOk result (λ routers. AllPairs (λ q r. q ≢ r) routers.items) }
@@ -154,7 +164,7 @@ impl External {
         self.preferred.keys(alloc)
     }
 
-    /// Whether an update ran out of memory.
+    /// Returns true if memory ran out in an update.
     pub fn spent(&self) -> bool
         ensures { result ≡ self.now.spent }
     {
@@ -163,7 +173,7 @@ impl External {
 }
 
 impl External {
-    // The routes where nothing is advertised.
+    // Returns the routes if no LSA advertises anything.
     fn blank(alloc: Global, hashing: RandomState) -> External
         ensures { result ≡ no_routes }
     {
@@ -177,7 +187,7 @@ impl External {
         }
     }
 
-    // Updates each part in turn. Out of memory, some parts have followed and others have not.
+    // Updates each part in turn. After an error some parts are updated and others are not.
     fn update_parts(
         &mut self,
         alloc: Global,
@@ -194,7 +204,7 @@ impl External {
         self.update_results(alloc, inputs, dirty.dests.as_slice(), affected)
     }
 
-    // The index follows. The answer is what may differ for it.
+    // Updates the index. Returns the destinations and addresses that this affects.
     fn follow(
         &mut self,
         alloc: Global,
@@ -219,7 +229,7 @@ impl External {
         Ok(affected)
     }
 
-    // The index takes what all LSAs say, where nothing was taken before. The answer is all that they advertise.
+    // Adds all LSAs to an empty index. Returns the destinations and addresses of their routes.
     fn follow_all(
         &mut self,
         alloc: Global,
@@ -238,7 +248,8 @@ impl External {
         Ok(affected)
     }
 
-    // Works out again what is named and affected. The answer is the destinations with another result, ascending, each once.
+    // Recomputes the results that the listed destinations and `affected` may change. Returns the
+    // destinations whose result changed, in ascending order without duplicates.
     fn update_results(
         &mut self,
         alloc: Global,
@@ -256,7 +267,8 @@ impl External {
             addresses,
         } = affected;
         let index = &self.index;
-        // AsbrRoute entries first, then where forwarding addresses lead, then the networks behind what differs.
+        // First the preferred routes, then the matches of forwarding addresses, then the networks
+        // that use what changed.
         let named = routers_among(alloc, dests)?;
         let preferring = Preferring { inputs };
         let routers = self.preferred.follow(alloc, named, &preferring)?;
@@ -288,7 +300,8 @@ impl External {
     }
 }
 
-// The AS boundary routers to which something leads.
+// Returns all routers that may have a preferred route: the routers that intra-area routes keep, and
+// the routers with an inter-area entry.
 fn boundary_routers(alloc: Global, inputs: &ExternalInputs<'_>) -> Result<Vec<Dest>, Memory>
     ensures { IfOk result (λ dests. HasBoundaryRouters inputs.now dests.items) }
 {

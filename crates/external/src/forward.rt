@@ -1,4 +1,4 @@
-//! Where a forwarding address leads (RFC 2328, 16.4).
+//! The longest match of a forwarding address, and the path there (RFC 2328, 16.4).
 ghost use Rattle.std.specs.Prelude.{◌≡◌, ◌↔◌, ◌<◌, Some, IfOk, IfSome, IsSome, IsTrue, option_copied};
 ghost use Rattle.ospf_types.specs.External.{toward};
 ghost use Rattle.inter.specs.Inters.{most_cost};
@@ -15,14 +15,14 @@ use result_map::{Same, are_same};
 use std::alloc::Global;
 use std::marker::Model;
 
-/// A way to a forwarding address: its class, its cost, and its next hops, each toward the address.
+/// A path to a forwarding address: its class, its cost, and its next hops, each toward the address.
 pub struct ForwardingPath {
     class: u8,
     cost: u32,
     hops: Vec<NextHop>,
 }
 
-// proof: one call drops it, in place of a drop of each part wherever one is held.
+// proof: a value is dropped by one call, not part by part at each exit of a function.
 impl Drop for ForwardingPath {
     fn drop(self) {
         let ForwardingPath {
@@ -46,15 +46,15 @@ impl Model for ForwardingPath {
 }
 
 impl ForwardingPath {
-    /// 0 where the entry is an intra-area path through another area than the backbone, and else 1; with RFC1583Compatibility
-    /// enabled 0 (RFC 2328, 16.4.1).
+    /// Returns the class: 0 if the entry is an intra-area path through another area than the
+    /// backbone, or else 1. With RFC1583Compatibility it is always 0 (RFC 2328, 16.4.1).
     pub fn class(&self) -> u8
         ensures { result ≡ self.now.class }
     {
         self.class
     }
 
-    /// The cost, a sum of metrics.
+    /// Returns the cost, the sum of metrics along the path.
     pub fn cost(&self) -> u32
         ensures value { result ≡ self.now.cost }
         ensures bounded { self.now.cost < most_cost }
@@ -62,14 +62,14 @@ impl ForwardingPath {
         self.cost
     }
 
-    /// The next hops, in the order of the entry's paths.
+    /// Returns the next hops, in the order of the entry's paths.
     pub fn hops(&self) -> &[NextHop]
         ensures { result.now ≡ self.now.hops }
     {
         self.hops.as_slice()
     }
 
-    // Whether class and cost are equal.
+    // Returns true if class and cost are equal.
     fn has_numbers_of(&self, other: &ForwardingPath) -> bool
         ensures { IsTrue result ↔ HaveOneCost self.now other.now }
     {
@@ -83,13 +83,13 @@ impl Same for ForwardingPath {
     }
 }
 
-/// The longest match of a forwarding address, and the way there; none where the match is a discard.
+/// The longest match of a forwarding address, and the path there, if there is one.
 pub struct ForwardingMatch {
     matched: Option<Prefix>,
     way: Option<ForwardingPath>,
 }
 
-// proof: one call drops it, in place of a drop of each part wherever one is held.
+// proof: a value is dropped by one call, not part by part at each exit of a function.
 impl Drop for ForwardingMatch {
     fn drop(self) {
         let ForwardingMatch {
@@ -108,14 +108,14 @@ impl Model for ForwardingMatch {
 }
 
 impl ForwardingMatch {
-    /// The longest match of the address; none where nothing contains it.
+    /// Returns the longest match of the address, or `None` if there is no match.
     pub fn matched(&self) -> Option<Prefix>
         ensures { result ≡ self.now.matched }
     {
         self.matched
     }
 
-    /// The way there; none where nothing matches, and where the match is a discard.
+    /// Returns the path to the address, or `None` if there is no match or the match is a discard.
     pub fn way(&self) -> Option<&ForwardingPath>
         ensures { option_copied result ≡ self.now.way }
     {
@@ -129,7 +129,8 @@ impl Same for ForwardingMatch {
     }
 }
 
-/// The longest match among the networks with an intra-area or inter-area entry and the active ranges.
+/// Looks up the address (in host order) among the networks with an intra-area or inter-area entry
+/// and the active ranges.
 pub(crate) fn look_up(
     alloc: Global,
     inputs: &ExternalInputs<'_>,
@@ -150,14 +151,14 @@ pub(crate) fn look_up(
     }
 }
 
-/// Whether the network has an intra-area or inter-area entry.
+/// Returns true if the network has an intra-area or inter-area entry.
 pub(crate) fn has_internal(inputs: &ExternalInputs<'_>, network: Prefix) -> bool
     ensures { IsTrue result ↔ IsSome (internal_entry inputs.now network) }
 {
     internal(inputs, network).is_some()
 }
 
-// The intra-area entry of the network, else its inter-area one.
+// Returns the intra-area entry of the network, or else its inter-area entry.
 fn internal<'a>(inputs: &ExternalInputs<'a>, network: Prefix) -> Option<&'a Entry>
     ensures value { option_copied result ≡ internal_entry inputs.now network }
     ensures bounded { IfSome result (λ e. e.now.cost < most_cost) }
@@ -168,7 +169,7 @@ fn internal<'a>(inputs: &ExternalInputs<'a>, network: Prefix) -> Option<&'a Entr
     }
 }
 
-// The longest match of the address; none where nothing contains it.
+// Returns the longest match of the address, or `None` if there is no match.
 fn longest_match(inputs: &ExternalInputs<'_>, address: u32) -> Option<Prefix>
     ensures { IsMatchOf inputs.now address result }
 {
@@ -184,14 +185,14 @@ fn longest_match(inputs: &ExternalInputs<'_>, address: u32) -> Option<Prefix>
     None
 }
 
-// Whether the network has an internal entry, or is the prefix of an active range.
+// Returns true if the network has an internal entry, or is the prefix of an active range.
 fn is_match(inputs: &ExternalInputs<'_>, network: Prefix) -> bool
     ensures { IsTrue result ↔ Matches inputs.now network }
 {
     has_internal(inputs, network) || inputs.active.contains(network)
 }
 
-// The way to the address by the network's entry; none where it has none.
+// Returns the path to the address by the network's entry, or `None` if the network has no entry.
 fn way_by(
     alloc: Global,
     inputs: &ExternalInputs<'_>,
@@ -210,7 +211,7 @@ fn way_by(
     }
 }
 
-// The class of the network's entry, which is in this area.
+// Returns the class of the network's entry. `area` is the area of the entry.
 fn class_at(inputs: &ExternalInputs<'_>, network: Prefix, area: Option<u32>) -> u8
     ensures { result ≡ class_at inputs.now network area }
 {
@@ -220,7 +221,7 @@ fn class_at(inputs: &ExternalInputs<'_>, network: Prefix, area: Option<u32>) -> 
     }
 }
 
-// The next hops of the paths, each toward the address.
+// Returns the next hops of the paths, each toward the address.
 fn hops_toward(alloc: Global, address: u32, paths: &[Path]) -> Result<Vec<NextHop>, Memory>
     ensures { IfOk result (λ hops. hops.items ≡ hops_toward address paths.now) }
 {
@@ -231,7 +232,7 @@ fn hops_toward(alloc: Global, address: u32, paths: &[Path]) -> Result<Vec<NextHo
     Ok(hops)
 }
 
-// The next hop toward the address: on a network of the root that is the address itself.
+// Returns the next hop toward the address: on a network attached to the root, the address itself.
 fn toward(address: u32, hop: NextHop) -> NextHop
     ensures { result ≡ toward address hop }
 {

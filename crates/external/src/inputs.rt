@@ -4,16 +4,16 @@ use intra::Intra;
 use lsdb::Database;
 use std::marker::Model;
 
-/// What external routes are calculated from.
+/// The inputs of external routes.
 #[derive(Drop)]
 pub struct ExternalInputs<'a> {
-    /// The Router ID of the router that calculates.
+    /// The Router ID of the calculating router.
     pub root: u32,
-    /// Whether RFC1583Compatibility is enabled (RFC 2328, 16.4.1 and C.1).
+    /// True if RFC1583Compatibility is enabled (RFC 2328, 16.4.1 and C.1).
     pub compat: bool,
     /// The Area IDs.
     pub areas: &'a [u32],
-    /// The AS-external-LSAs.
+    /// The database of AS-external-LSAs.
     pub database: &'a Database,
     pub intra: &'a Intra,
     pub active: &'a ActiveRanges,

@@ -1,4 +1,4 @@
-//! The preferred entry of an AS boundary router (RFC 2328, 16.4 and 16.4.1).
+//! The preferred route of an AS boundary router (RFC 2328, 16.4 and 16.4.1).
 ghost use Rattle.std.specs.Prelude.{◌≡◌, ◌↔◌, ◌<◌, Some, IfOk, OnOk, IsTrue};
 ghost use Rattle.ospf_types.specs.Boundary.{class_of};
 ghost use Rattle.path_choice.specs.Takes.{OnlyOffer, OfferedBySome};
@@ -18,8 +18,10 @@ use std::alloc::Global;
 use std::cmp::Reverse;
 use std::marker::Model;
 
-/// The preferred entry of an AS boundary router: an intra-area path through another area than the backbone before all
-/// others (unless RFC1583Compatibility is enabled), then the lesser cost, then the greater Area ID.
+/// The preferred route of an AS boundary router.
+///
+/// An intra-area path through another area than the backbone comes before all others, unless
+/// RFC1583Compatibility is enabled. Then comes the lower cost, and then the greater Area ID.
 pub struct AsbrRoute {
     class: u8,
     cost: u32,
@@ -27,7 +29,7 @@ pub struct AsbrRoute {
     hops: SmallVec<NextHop, 1>,
 }
 
-// proof: one call drops it, in place of a drop of each part wherever one is held.
+// proof: a value is dropped by one call, not part by part at each exit of a function.
 impl Drop for AsbrRoute {
     fn drop(self) {
         let AsbrRoute {
@@ -51,7 +53,8 @@ impl Model for AsbrRoute {
     ghost invariant = { λ p. p.cost < most_cost };
 }
 
-// What entries of one router are compared by: the lesser class (16.4.1), then the lesser cost, then the greater area (16.4 (3)).
+// The key by which the entries of one router are compared: the lower class (16.4.1), then the lower
+// cost, then the greater Area ID (16.4 (3)).
 #[derive(Clone, Copy, PartialEq, Eq, PartialOrd, Ord)]
 struct PreferenceKey {
     class: u8,
@@ -101,7 +104,7 @@ impl PreferenceKey {
 }
 
 impl AsbrRoute {
-    /// The cost, a sum of metrics.
+    /// Returns the cost, the sum of metrics along the path.
     pub fn cost(&self) -> u32
         ensures value { result ≡ self.now.preference.cost }
         ensures bounded { self.now.preference.cost < most_cost }
@@ -109,29 +112,29 @@ impl AsbrRoute {
         self.cost
     }
 
-    /// The Area ID of the area that the entry is associated with.
+    /// Returns the Area ID of the entry's area.
     pub fn area(&self) -> u32
         ensures { result ≡ self.now.preference.area }
     {
         self.area
     }
 
-    /// The next hops, ascending, each once.
+    /// Returns the next hops, in ascending order without duplicates.
     pub fn hops(&self) -> &[NextHop]
         ensures { result.now ≡ self.now.hops }
     {
         self.hops.as_slice()
     }
 
-    /// 0 where the entry is an intra-area path through another area than the backbone, and else 1; with RFC1583Compatibility
-    /// enabled 0 (RFC 2328, 16.4.1).
+    /// Returns the class: 0 if the entry is an intra-area path through another area than the
+    /// backbone, or else 1. With RFC1583Compatibility it is always 0 (RFC 2328, 16.4.1).
     pub fn class(&self) -> u8
         ensures { result ≡ self.now.preference.class }
     {
         self.class
     }
 
-    // Whether class, cost and area are equal.
+    // Returns true if class, cost and area are equal.
     fn has_preference_of(&self, other: &AsbrRoute) -> bool
         ensures { IsTrue result ↔ (self.now.preference ≡ other.now.preference) }
     {
@@ -145,7 +148,7 @@ impl Same for AsbrRoute {
     }
 }
 
-/// The preferred entry of the router; none where it has no entry.
+/// Returns the preferred route of the router, or `None` if the router has no entry.
 pub(crate) fn choose_preferred(
     alloc: Global,
     inputs: &ExternalInputs<'_>,
@@ -163,12 +166,12 @@ pub(crate) fn choose_preferred(
     }
 }
 
-/// The class of an entry (RFC 2328, 16.4.1), which is intra-area through this area, or no intra-area one: a path through
-/// another area than the backbone is preferred to all others. With RFC1583Compatibility enabled none is.
+/// Returns the class of an entry (RFC 2328, 16.4.1). `within` is the area of an intra-area entry,
+/// or `None` for other entries.
 pub(crate) fn class_of(compat: bool, within: Option<u32>) -> u8
     ensures { result ≡ class_of compat within }
 {
-    // 16.4.1: intra-area paths through other areas than the backbone are the most preferred.
+    // 16.4.1: intra-area paths through other areas than the backbone are preferred to all others.
     if compat {
         return 0;
     }
@@ -178,7 +181,7 @@ pub(crate) fn class_of(compat: bool, within: Option<u32>) -> u8
     }
 }
 
-// The preferred entry of a choice.
+// Returns the preferred route of a choice.
 fn from_choice(choice: Choice<PreferenceKey, NextHop>) -> AsbrRoute
     ensures { result ≡ record { preference = choice.key; hops = choice.items } }
 {
@@ -191,7 +194,7 @@ fn from_choice(choice: Choice<PreferenceKey, NextHop>) -> AsbrRoute
     }
 }
 
-// Offers each area where the router is reached as AS boundary router.
+// Adds the offer of each area in which the router is reached as an AS boundary router.
 fn offer_areas(
     best: &mut Best<PreferenceKey, NextHop>,
     inputs: &ExternalInputs<'_>,
@@ -205,7 +208,7 @@ fn offer_areas(
     Ok(())
 }
 
-// Offers the area, if the router is reached there as AS boundary router.
+// Adds the offer of the area, if the router is reached there as an AS boundary router.
 fn offer_area(
     best: &mut Best<PreferenceKey, NextHop>,
     inputs: &ExternalInputs<'_>,
@@ -220,7 +223,7 @@ fn offer_area(
     }
 }
 
-// Offers the area with a router that is reached there, if that is an AS boundary router.
+// Adds the offer of the area for a router that is reached there, if it is an AS boundary router.
 fn offer_reached(
     best: &mut Best<PreferenceKey, NextHop>,
     compat: bool,
@@ -237,7 +240,7 @@ fn offer_reached(
     offer_hops(best, key, reached.hops())
 }
 
-// Offers the router's inter-area entry.
+// Adds the offer of the router's inter-area entry.
 fn offer_entry(
     best: &mut Best<PreferenceKey, NextHop>,
     inputs: &ExternalInputs<'_>,
@@ -251,7 +254,7 @@ fn offer_entry(
     }
 }
 
-// Offers the entry over the next hop of each of its paths.
+// Adds the offer of the entry, over the next hop of each of its paths.
 fn offer_inter(
     best: &mut Best<PreferenceKey, NextHop>,
     compat: bool,
@@ -267,7 +270,7 @@ fn offer_inter(
     offer_paths(best, key, entry.paths.as_slice())
 }
 
-// Offers the next hop of each path.
+// Adds the next hop of each path.
 fn offer_paths(
     best: &mut Best<PreferenceKey, NextHop>,
     key: PreferenceKey,
@@ -282,7 +285,7 @@ fn offer_paths(
     Ok(())
 }
 
-// Offers each of these next hops.
+// Adds each of these next hops.
 fn offer_hops(
     best: &mut Best<PreferenceKey, NextHop>,
     key: PreferenceKey,
@@ -296,7 +299,7 @@ fn offer_hops(
     Ok(())
 }
 
-// Offers the next hop.
+// Adds the next hop.
 fn offer_hop(
     best: &mut Best<PreferenceKey, NextHop>,
     key: PreferenceKey,

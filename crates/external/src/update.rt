@@ -1,4 +1,4 @@
-//! What is worked out again where something may differ: preferred entries, then where forwarding addresses lead, then networks.
+//! The updates of results: preferred routes, then matches of forwarding addresses, then networks.
 ghost use Rattle.std.specs.Prelude.{◌↔◌, IfOk, OnOk, IsTrue, option_copied};
 ghost use Rattle.std.specs.Ordering.{nat_cmp};
 ghost use Rattle.result_map.specs.Chosen.{AreChosen, HasChanged};
@@ -19,9 +19,9 @@ use ospf_types::prefix::Prefix;
 use result_map::{Choose, ResultMap};
 use std::alloc::Global;
 
-// ---- what results are chosen by
+// ---- how results are chosen
 
-/// What preferred entries are chosen by.
+/// The inputs of preferred routes.
 #[derive(Drop)]
 pub(crate) struct Preferring<'a> {
     pub(crate) inputs: &'a ExternalInputs<'a>,
@@ -42,7 +42,7 @@ impl<'a> Choose<u32, AsbrRoute> for Preferring<'a> {
     }
 }
 
-/// What forwarding addresses are looked up by.
+/// The inputs of the matches of forwarding addresses.
 #[derive(Drop)]
 pub(crate) struct Forwarding<'a> {
     pub(crate) inputs: &'a ExternalInputs<'a>,
@@ -71,8 +71,9 @@ impl<'a> Choose<u32, ForwardingMatch> for Forwarding<'a> {
 // ---- forwarding addresses
 
 impl Forwarding<'_> {
-    /// Looks up again where the affected addresses lead, and those in a named network that is no shorter than their match. The
-    /// answer is those that lead elsewhere now, ascending, each once.
+    /// Looks up the affected addresses, and the addresses in a network in `named` that is no
+    /// shorter than their match. Returns the addresses whose result changed, in ascending order
+    /// without duplicates.
     pub(crate) fn update_forwards(
         &self,
         alloc: Global,
@@ -98,7 +99,7 @@ impl Forwarding<'_> {
     }
 }
 
-/// The forwarding addresses of what is advertised, with the longest match of each as it was last looked up.
+/// The forwarding addresses of advertised routes, with the longest match of each as last looked up.
 #[derive(Drop)]
 struct AddressMatches<'a> {
     index: &'a AdvertisedIndex,
@@ -106,7 +107,8 @@ struct AddressMatches<'a> {
 }
 
 impl AddressMatches<'_> {
-    // The affected addresses, and those in a named network that is no shorter than their match.
+    // Returns the affected addresses, and the addresses in a network in `named` that is no shorter
+    // than their match.
     fn list_due(
         &self,
         alloc: Global,
@@ -126,7 +128,7 @@ impl AddressMatches<'_> {
         Ok(due)
     }
 
-    // Adds the addresses in the network that the destination is, if that is no shorter than their match.
+    // Appends the addresses in the destination, if it is a network and no shorter than their match.
     fn list_due_at(&self, alloc: Global, dest: Dest, due: &mut Vec<u32>) -> Result<(), Memory>
         ensures { OnOk result (GainsAll
             (IsDueInDest self.now.index.now (forwards_in self.now.forwards.now) dest)
@@ -138,7 +140,7 @@ impl AddressMatches<'_> {
         }
     }
 
-    // Adds the addresses in the network, if that is no shorter than their match.
+    // Appends the addresses in the network, if it is no shorter than their match.
     fn list_due_in(&self, alloc: Global, network: Prefix, due: &mut Vec<u32>) -> Result<(), Memory>
         ensures { OnOk result (GainsAll
             (IsDueInNetwork self.now.index.now (forwards_in self.now.forwards.now) network)
@@ -152,7 +154,7 @@ impl AddressMatches<'_> {
         Ok(())
     }
 
-    // Adds the address if its match is no longer than the network.
+    // Appends the address if its match is not longer than the network.
     fn list_if_due(&self, network: Prefix, address: u32, due: &mut Vec<u32>) -> Result<(), Memory>
         ensures { OnOk result (GainsAll
             (IsDueAt (forwards_in self.now.forwards.now) network address)
@@ -166,7 +168,7 @@ impl AddressMatches<'_> {
     }
 }
 
-// Whether the network is as long as the match that is kept, or longer.
+// Returns true if the network is at least as long as the kept match, or there is no match.
 fn is_no_shorter(kept: Option<&ForwardingMatch>, network: Prefix) -> bool
     ensures { IsTrue result ↔ IsNoShorter (option_copied kept.entry) network }
 {
@@ -187,7 +189,7 @@ fn is_no_shorter_than(matched: Option<Prefix>, network: Prefix) -> bool
 
 // ---- networks
 
-/// Adds the destinations that the routers' LSAs lead to.
+/// Appends the destinations to which LSAs of these routers lead.
 pub(crate) fn list_dests_by_routers(
     index: &AdvertisedIndex,
     routers: &[u32],
@@ -202,7 +204,7 @@ pub(crate) fn list_dests_by_routers(
     Ok(())
 }
 
-/// Adds the destinations to which LSAs with these forwarding addresses lead.
+/// Appends the destinations to which LSAs with these forwarding addresses lead.
 pub(crate) fn list_dests_by_addresses(
     index: &AdvertisedIndex,
     addresses: &[u32],
@@ -217,7 +219,8 @@ pub(crate) fn list_dests_by_addresses(
     Ok(())
 }
 
-/// Adds those of the destinations that something leads to. To the others nothing is offered: they have no entry.
+/// Appends the destinations to which an LSA leads. The others have no offers, so they have no
+/// entry.
 pub(crate) fn list_dests_led_to(
     index: &AdvertisedIndex,
     dests: &[Dest],
@@ -232,7 +235,7 @@ pub(crate) fn list_dests_led_to(
     Ok(())
 }
 
-// Adds the destination if something leads to it.
+// Appends the destination if an LSA leads to it.
 fn list_if_led_to(index: &AdvertisedIndex, dest: &Dest, leading: &mut Vec<Dest>) -> Result<(), Memory>
     ensures { OnOk result (GainsAll (IsAlso index.now dest.now)
         leading.old.items leading.new.items) }

@@ -1,5 +1,7 @@
-//! An engine with two workers and one forwarder. Each worker submits a router-LSA, and the forwarder looks an address up in a
-//! table that follows both. README quotes it.
+//! An engine with two threads that submit events, and one forwarder.
+//!
+//! Each thread submits a router-LSA. Then the forwarder looks an address up in a table that
+//! reflects both. docs/LINKING.md quotes `run`.
 #![tactic(auto)]
 
 ghost use Rattle.std.specs.Prelude.{◌≡◌, IfOk, IfSome};
@@ -18,13 +20,15 @@ use std::thread::{Threads, join};
 
 const BACKBONE: Scope = Scope::Area(0);
 
-/// The router-LSA of 10.0.0.1, with a point-to-point link to 10.0.0.2 at metric 10 (RFC 2328, A.4.2).
+/// The router-LSA of 10.0.0.1, with a point-to-point link to 10.0.0.2 at metric 10 (RFC 2328,
+/// A.4.2).
 const OWN: [u8; 36] = [
     0, 1, 2, 1, 10, 0, 0, 1, 10, 0, 0, 1, 0x80, 0, 0, 1, 0xe6, 0xe2, 0, 36, 0, 0, 0, 1, 10, 0, 0,
     2, 198, 51, 100, 1, 1, 0, 0, 10,
 ];
 
-/// That of 10.0.0.2, with the link's other end, and a stub link to 203.0.113.0/24 at metric 1.
+/// The router-LSA of 10.0.0.2, with the other end of the link, and a stub link to 203.0.113.0/24 at
+/// metric 1.
 const PEER: [u8; 48] = [
     0, 1, 2, 1, 10, 0, 0, 2, 10, 0, 0, 2, 0x80, 0, 0, 1, 0xd6, 0xa2, 0, 48, 0, 0, 0, 2, 10, 0, 0,
     1, 198, 51, 100, 2, 1, 0, 0, 10, 203, 0, 113, 0, 255, 255, 255, 0, 3, 0, 0, 1,
@@ -37,12 +41,13 @@ fn main(rt: HostRuntime) -> Result<()> {
         Some(forwarder) => run(&rt, &engine, forwarder),
         None => Ok(()),
     };
-    // An engine is closed, whatever happened.
+    // The engine is closed even if `run` failed.
     drop(engine.close(&rt));
     ran
 }
 
-// Two threads submit an LSA each. What the forwarder sees then follows both.
+// Submits an LSA on each of two threads. If both answers have tokens, the forwarder then reads a
+// table that reflects both LSAs.
 fn run<R: Threads + Wait + Sync + Print>(
     rt: &R,
     engine: &Engine,
@@ -61,7 +66,8 @@ fn run<R: Threads + Wait + Sync + Print>(
     Ok(())
 }
 
-// The token is there where the published table has the event. From then on each look is at a table that has it.
+// Makes the forwarder learn the answer's token, if it has one. Every later lookup then uses a table
+// that contains the event.
 fn learn(forwarder: Forwarder, answer: Answer) -> Forwarder
     requires { IfSome answer.told (λ told. told.name ≡ forwarder.name) }
     ensures { result.name ≡ forwarder.name }
@@ -72,7 +78,7 @@ fn learn(forwarder: Forwarder, answer: Answer) -> Forwarder
     }
 }
 
-// Prints what is seen of the address, and ends the look, since a publication may wait for it.
+// Prints the match of the address, and ends the access, because a publication may wait for it.
 fn print_route(rt: &impl Print, forwarder: Forwarder, address: u32) -> io::Result<()> {
     match forwarder.lookup(address) {
         Ok(seen) => {
@@ -88,7 +94,7 @@ fn print_found(rt: &impl Print, seen: &Seen) -> io::Result<()> {
     println!(rt; "after {} events: {}", seen.serial(), seen.found())
 }
 
-// The interface of the link to 198.51.100.2 comes up.
+// Returns the event that the interface of the link to 198.51.100.2 comes up.
 fn link_up() -> Event {
     Event::Interface {
         id: 1,
@@ -99,7 +105,7 @@ fn link_up() -> Event {
     }
 }
 
-// A router with a backbone alone.
+// Returns the configuration of a router with the backbone only.
 fn one_area(alloc: Global) -> Result<Config, Memory> {
     let mut areas = Areas::new(alloc);
     areas.push(AreaConfig {

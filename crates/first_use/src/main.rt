@@ -1,5 +1,7 @@
-//! A border router of two areas on one thread. It takes its interfaces and an LSA, looks an address up, and prints the route,
-//! and what is due in the backbone. README quotes it.
+//! A border router of two areas on one thread.
+//!
+//! It applies two interface events and an LSA, looks an address up, and prints the route and the
+//! summaries due in the backbone. README quotes `main`.
 #![tactic(auto)]
 
 use abr_router::{
@@ -32,7 +34,7 @@ fn main(rt: HostRuntime) -> Result<()> {
     Ok(())
 }
 
-// A router with a backbone and the area 0.0.0.1 (C.1, C.2).
+// Returns the configuration of a router with the backbone and the area 0.0.0.1 (C.1, C.2).
 fn two_areas(alloc: Global) -> Result<Config, Memory> {
     let mut areas = Areas::new(alloc);
     for id in 0..2 {
@@ -49,7 +51,7 @@ fn two_areas(alloc: Global) -> Result<Config, Memory> {
     })
 }
 
-// An interface to a network comes up.
+// Returns the event that an interface to a network comes up.
 fn up(id: u8, area: u32, address: [u8; 4]) -> Event {
     Event::Interface {
         id,
@@ -60,7 +62,7 @@ fn up(id: u8, area: u32, address: [u8; 4]) -> Event {
     }
 }
 
-// The LS type of a summary-LSA, its destination and its metric (12.4.3).
+// Prints the LS type, the destination and the metric of a due summary-LSA (12.4.3).
 fn print_due(rt: &impl Print, due: &DueSummary) -> io::Result<()> {
     let (kind, metric) = (due.kind, due.metric);
     match due.dest {

@@ -1,4 +1,4 @@
-//! The ends that are at a vertex.
+//! The link ends at one vertex, in an ordered list of ends.
 ghost use Rattle.std.specs.Prelude.{◌≤◌, length};
 ghost use Rattle.std.specs.List.Sorted.{IsStrictlySortedBy};
 ghost use Rattle.graph_links.specs.EndOrder.{AreEndsAt, IsCountBelow, IsCountUpTo, end_cmp};
@@ -6,7 +6,7 @@ ghost use Rattle.graph_links.specs.EndOrder.{AreEndsAt, IsCountBelow, IsCountUpT
 use crate::link_end::LinkEnd;
 use ospf_types::entry::Vertex;
 
-/// The ends that are at the vertex.
+/// Returns the ends at the vertex.
 pub(crate) fn ends_at(ends: &[LinkEnd], vertex: Vertex) -> &[LinkEnd]
     requires { IsStrictlySortedBy end_cmp ends.now }
     ensures in_order { IsStrictlySortedBy end_cmp result.now }
@@ -17,7 +17,7 @@ pub(crate) fn ends_at(ends: &[LinkEnd], vertex: Vertex) -> &[LinkEnd]
     &ends[first..past]
 }
 
-/// How many ends are below the vertex.
+/// Returns the number of ends below the vertex.
 fn first_at(ends: &[LinkEnd], vertex: Vertex) -> usize
     requires { IsStrictlySortedBy end_cmp ends.now }
     ensures within { result ≤ length ends.now }
@@ -26,8 +26,9 @@ fn first_at(ends: &[LinkEnd], vertex: Vertex) -> usize
     ends.partition_point(|end| end.to.compare(vertex).is_lt())
 }
 
-/// How many ends are below the vertex or at it, if the first ones are below it and no other is. The ends at the vertex are
-/// passed one by one: who asks goes through them next.
+/// Returns the index past the ends at the vertex. `first` is the number of ends below it.
+///
+/// It steps over them one by one, because the caller reads them next.
 pub(crate) fn past_from(ends: &[LinkEnd], first: usize, vertex: Vertex) -> usize
     requires in_order { IsStrictlySortedBy end_cmp ends.now }
     requires within { first ≤ length ends.now }

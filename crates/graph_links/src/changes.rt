@@ -1,4 +1,4 @@
-//! The links that a change takes and brings, by the rows of vertices before it and after it.
+//! The links that a change removes and adds, by the rows before and after it.
 ghost use Rattle.std.specs.Prelude.{◌≡◌, ◌↔◌, ◌≤◌, length, take, IsTrue, IfOk, OnOk, Contains, option_copied};
 ghost use Rattle.graph_links.specs.Differing.{AddsAtMost, AddsUnless, AddsUnlike, HaveSameBack, HaveSameLinks, IsByCost, IsCountCheaper, KeepsApartWith};
 ghost use Rattle.graph_links.specs.Pairs.{AreApart};
@@ -11,8 +11,10 @@ use crate::graph_view::find_row;
 use ospf_types::memory::Memory;
 use std::alloc::Global;
 
-/// The links out of the vertices of the fresh rows that they had before and have no longer, and those that they have now and had
-/// not, each once.
+/// Returns the links that the row updates remove and add. `rows` are the rows before the change,
+/// and only links from updated vertices are compared.
+///
+/// If no two updates are for one vertex, no list has duplicates.
 pub fn changed_links(alloc: Global, rows: &Rows, fresh: &[RowUpdate]) -> Result<LinkChanges, Memory>
     requires { AreOwn rows.now.entries fresh.now }
     ensures gone { IfOk result (λ changes. HaveGone rows.now.entries fresh.now changes.gone.items) }
@@ -34,8 +36,8 @@ pub fn changed_links(alloc: Global, rows: &Rows, fresh: &[RowUpdate]) -> Result<
     Ok(changes)
 }
 
-// Lists the links that are only before among those that went, and the links that are only after among those that came.
-// Links at the front and at the back that are the same in both are left out.
+// Appends the links that are only in `before` to the removed links, and those only in `after` to
+// the added links. The common links at the start and at the end are skipped first.
 fn list_changes(
     alloc: Global,
     before: &[Link],
@@ -64,7 +66,7 @@ fn list_changes(
     Ok(())
 }
 
-/// The links out of a vertex by its row; none if it has no row.
+/// Returns the links from a vertex by its row. The slice is empty if the vertex has no row.
 pub fn out_links(row: Option<&Row>) -> &[Link]
     ensures { result.now ≡ out_of (option_copied row.entry) }
 {
@@ -74,7 +76,7 @@ pub fn out_links(row: Option<&Row>) -> &[Link]
     }
 }
 
-// How many links at the front are the same in both.
+// Returns the number of equal links at the start of both lists.
 fn same_front(one: &[Link], other: &[Link]) -> usize
     ensures within_one { result ≤ length one.now }
     ensures within_other { result ≤ length other.now }
@@ -89,7 +91,7 @@ fn same_front(one: &[Link], other: &[Link]) -> usize
     one.len()
 }
 
-// How many links at the back are the same in both.
+// Returns the number of equal links at the end of both lists.
 fn same_back(one: &[Link], other: &[Link]) -> usize
     ensures within_one { result ≤ length one.now }
     ensures within_other { result ≤ length other.now }
@@ -106,10 +108,11 @@ fn same_back(one: &[Link], other: &[Link]) -> usize
     same
 }
 
-// So many links are a few.
+// The maximum number of links that are searched one by one, without sorting them.
 const FEW: usize = 8;
 
-// Lists copies of the links that are not among others. A few others are compared one by one, where they stand.
+// Appends copies of the links in `has` that are not in `others`. A few others are searched one by
+// one.
 fn list_missing(
     alloc: Global,
     has: &[Link],
@@ -132,7 +135,7 @@ fn list_missing(
     Ok(())
 }
 
-// Lists a copy of the link, unless it is one of a few others.
+// Appends a copy of the link, unless it is one of the few others.
 fn list_unless_same(
     alloc: Global,
     link: &Link,
@@ -149,7 +152,7 @@ fn list_unless_same(
     Ok(())
 }
 
-// Whether the link is one of a few others.
+// Returns true if the link is one of the few others.
 fn is_one_of(link: &Link, others: &[Link]) -> bool
     ensures { IsTrue result ↔ Contains others.now link.now }
 {
@@ -182,7 +185,7 @@ fn copy(alloc: Global, link: &Link) -> Result<Link, Memory>
     })
 }
 
-// The links in ascending cost: there may be thousands between two routers.
+// Sorts the links by cost, because there may be thousands between two routers.
 fn by_cost(links: Vec<Link>) -> Vec<Link>
     ensures same { HaveSameLinks links.items result.items }
     ensures ascending { IsByCost result.items }
@@ -192,7 +195,7 @@ fn by_cost(links: Vec<Link>) -> Vec<Link>
     links
 }
 
-// Lists the links that are not among others.
+// Appends the links in `has` that are not in `others`, which is sorted by cost.
 fn list_unlike(has: Vec<Link>, others: &[Link], links: &mut Vec<Link>) -> Result<(), Memory>
     requires { IsByCost others.now }
     ensures unlike { OnOk result (AddsUnlike has.items others.now links.old.items links.new.items) }
@@ -204,7 +207,7 @@ fn list_unlike(has: Vec<Link>, others: &[Link], links: &mut Vec<Link>) -> Result
     Ok(())
 }
 
-// Lists the link, unless it is among others.
+// Appends the link, unless it is in `others`, which is sorted by cost.
 fn list_unless(link: Link, others: &[Link], links: &mut Vec<Link>) -> Result<(), Memory>
     requires { IsByCost others.now }
     ensures unlike { OnOk result (AddsUnless link others.now links.old.items links.new.items) }
@@ -217,7 +220,7 @@ fn list_unless(link: Link, others: &[Link], links: &mut Vec<Link>) -> Result<(),
     Ok(())
 }
 
-// Whether the link is among others, which are in ascending cost.
+// Returns true if the link is in `others`, which is sorted by cost.
 fn is_among(link: &Link, others: &[Link]) -> bool
     requires { IsByCost others.now }
     ensures { IsTrue result ↔ Contains others.now link.now }
@@ -226,7 +229,7 @@ fn is_among(link: &Link, others: &[Link]) -> bool
     is_among_first(link, &others[first..])
 }
 
-// How many links are cheaper.
+// Returns the number of links with a lower cost, which come first.
 fn first_at_cost(links: &[Link], cost: u16) -> usize
     requires { IsByCost links.now }
     ensures within { result ≤ length links.now }
@@ -235,7 +238,8 @@ fn first_at_cost(links: &[Link], cost: u16) -> usize
     links.partition_point(|link| link.cost < cost)
 }
 
-// Whether the link is among others, which are in ascending cost. What is dearer is not looked at.
+// Returns true if the link is in `others`, which is sorted by cost. Links with a higher cost are
+// not compared.
 fn is_among_first(link: &Link, others: &[Link]) -> bool
     requires { IsByCost others.now }
     ensures { IsTrue result ↔ Contains others.now link.now }
@@ -251,7 +255,7 @@ fn is_among_first(link: &Link, others: &[Link]) -> bool
     false
 }
 
-// Whether two links are the same.
+// Returns true if the links are equal.
 fn is_same(one: &Link, other: &Link) -> bool
     ensures { IsTrue result ↔ (one.now ≡ other.now) }
 {

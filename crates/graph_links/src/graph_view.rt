@@ -1,4 +1,4 @@
-//! The graph before or after a change.
+//! The graph as it is after a staged change.
 ghost use Rattle.std.specs.Prelude.{◌≡◌, OnOk, option_copied, option_map, is_some};
 ghost use Rattle.std.specs.FinMap.{find};
 ghost use Rattle.ospf_types.specs.Vertices.{vertex_cmp};
@@ -15,7 +15,7 @@ use ospf_types::memory::Memory;
 use std::alloc::Global;
 use vertex_map::HintedVertex;
 
-/// The graph with what is staged in the place of what its rows have.
+/// The rows of a graph with the staged ends over them. With nothing staged it is the present graph.
 #[derive(Clone, Copy)]
 pub struct GraphView<'a> {
     pub local: RootInterfaces<'a>,
@@ -23,7 +23,8 @@ pub struct GraphView<'a> {
     pub staged: &'a StagedEnds,
 }
 
-/// The vertex's row and its place. If another's is at the vertex's place, it is looked up by its hash.
+/// Returns the vertex's row and the place of that row. The vertex is hashed only if its hint is
+/// wrong.
 #[inline]
 pub fn find_row<'a>(rows: &'a Rows, vertex: &HintedVertex) -> (Option<&'a Row>, u32)
     ensures { option_copied result.0 ≡ find vertex_cmp vertex.now rows.now.entries }
@@ -34,7 +35,7 @@ pub fn find_row<'a>(rows: &'a Rows, vertex: &HintedVertex) -> (Option<&'a Row>, 
     }
 }
 
-// The vertex's row and its place, by its hash; the place past all if it has no row.
+// Hashes the vertex, and returns its row and the place of that row, or `u32::MAX` if it has none.
 #[inline(never)]
 fn hashed_row<'a>(rows: &'a Rows, vertex: Vertex) -> (Option<&'a Row>, u32)
     ensures { option_copied result.0 ≡ find vertex_cmp vertex rows.now.entries }
@@ -45,7 +46,7 @@ fn hashed_row<'a>(rows: &'a Rows, vertex: Vertex) -> (Option<&'a Row>, u32)
     }
 }
 
-// Where the vertex of a row leads, none if there is no row, and the place of the row.
+// Returns the link ends in the vertex's row, or `None` if it has no row, and the place of the row.
 fn placed_ends<'a>(rows: &'a Rows, vertex: &HintedVertex) -> (Option<&'a [LinkEnd]>, u32)
     ensures { option_map (λ ends. ends.now) result.0 ≡ sides.row_ends rows.now.entries vertex.now }
 {
@@ -58,7 +59,7 @@ fn placed_ends<'a>(rows: &'a Rows, vertex: &HintedVertex) -> (Option<&'a [LinkEn
     }
 }
 
-/// Where the vertex of a row leads, none if there is no row.
+/// Returns the link ends of the row, or `None` if there is no row.
 pub fn ends_of_row<'a>(row: Option<&'a Row>) -> Option<&'a [LinkEnd]>
     ensures { option_map (λ ends. ends.now) result ≡ sides.ends_of_row (option_copied row.entry) }
 {
@@ -68,7 +69,8 @@ pub fn ends_of_row<'a>(row: Option<&'a Row>) -> Option<&'a [LinkEnd]>
     }
 }
 
-/// The links of the row that is at the place, whichever it is: they know the places of the vertices that they lead to.
+/// Returns the links from the vertex whose row is at the place, whichever vertex it is. They only
+/// serve as hints.
 pub(crate) fn links_at(rows: &Rows, place: u32) -> &[Link] {
     match rows.get_index(place as usize) {
         Some((_, row)) => row.out.as_slice(),
@@ -76,12 +78,13 @@ pub(crate) fn links_at(rows: &Rows, place: u32) -> &[Link] {
     }
 }
 
-// A place as a number; past the greatest of them there are no rows.
+// Returns the place as a `u32`. A place that does not fit becomes `u32::MAX`, which is a wrong
+// hint.
 fn number(place: usize) -> u32 {
     u32::try_from(place).unwrap_or(u32::MAX)
 }
 
-/// What is staged of the vertex. Mostly that is one vertex or none, and then nothing is hashed.
+/// Returns the staged ends of the vertex. If at most one vertex is staged, nothing is hashed.
 fn find_staged<'a>(staged: &'a StagedEnds, vertex: Vertex) -> Option<&'a Option<Vec<LinkEnd>>>
     ensures { option_map (λ ends. ends.now) result ≡ find vertex_cmp vertex staged.now.entries }
 {
@@ -92,7 +95,7 @@ fn find_staged<'a>(staged: &'a StagedEnds, vertex: Vertex) -> Option<&'a Option<
     if *only == vertex { Some(ends) } else { None }
 }
 
-/// The ends that are staged, none if the LSA goes.
+/// Returns the staged ends, or `None` if the LSA is removed.
 pub fn staged_ends(ends: &Option<Vec<LinkEnd>>) -> Option<&[LinkEnd]>
     ensures { option_map (λ e. e.now) result ≡ option_map (λ e. e.items) ends.now }
 {
@@ -102,7 +105,7 @@ pub fn staged_ends(ends: &Option<Vec<LinkEnd>>) -> Option<&[LinkEnd]>
     }
 }
 
-/// The ends, none if there is no vertex.
+/// Returns the ends, or an empty slice if there are none.
 pub fn ends_or_empty<'a>(ends: Option<&'a [LinkEnd]>) -> &'a [LinkEnd]
     ensures { result.now ≡ sides.ends_or (option_map (λ e. e.now) ends.entry) }
 {
@@ -113,7 +116,8 @@ pub fn ends_or_empty<'a>(ends: Option<&'a [LinkEnd]>) -> &'a [LinkEnd]
 }
 
 impl<'a> GraphView<'a> {
-    /// Where the vertex leads, none if it is not there, and the place that its row has or will have.
+    /// Returns the link ends of the vertex, or `None` if it has no LSA, and the place that its row
+    /// has or will have.
     pub fn find(self, vertex: &HintedVertex) -> (Option<&'a [LinkEnd]>, u32)
         ensures { option_map (λ ends. ends.now) result.0 ≡ sides.ends_in self.entry vertex.now }
     {
@@ -123,7 +127,7 @@ impl<'a> GraphView<'a> {
         }
     }
 
-    // The place of the row of a vertex of which something is staged.
+    // Returns the place of the row of a staged vertex.
     fn staged_place(self, vertex: &HintedVertex) -> u32 {
         match find_row(self.rows, vertex) {
             (Some(_), place) => place,
@@ -131,8 +135,8 @@ impl<'a> GraphView<'a> {
         }
     }
 
-    // The place that the row of a vertex will have that has none now. New ones come behind all that are there, the last
-    // staged first.
+    // Returns the place that the row of a new vertex will have. New rows are added at the end, the
+    // last staged vertex first.
     #[inline(never)]
     fn new_place(self, vertex: Vertex) -> u32 {
         let place = self.staged.get_index_of(&vertex).unwrap_or(0);
@@ -140,15 +144,16 @@ impl<'a> GraphView<'a> {
         number(self.rows.len().saturating_add(later))
     }
 
-    /// Whether something is staged of the vertex.
+    /// Returns true if the vertex is staged.
     pub fn is_staged(self, vertex: Vertex) -> bool
         ensures { result ≡ is_some (find vertex_cmp vertex self.entry.staged.now.entries) }
     {
         find_staged(self.staged, vertex).is_some()
     }
 
-    /// Lists in the vertex's row the links between it and another that it leads to, out of it and into it, each once. It
-    /// is given with all its ends there.
+    /// Appends the links between the vertex `own` and `to` to the row of `own`, in both directions.
+    ///
+    /// `own` has all its ends at `to`.
     pub(crate) fn list_both(
         self,
         alloc: Global,

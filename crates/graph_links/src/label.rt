@@ -1,4 +1,4 @@
-//! What links tell of the next hop.
+//! Link labels: the part of a link that determines next hops.
 ghost use Rattle.std.specs.Prelude.{◌≡◌, ◌↔◌, [], ◌∷◌, IsTrue, IfOk};
 ghost use Rattle.ospf_types.specs.declared.label.Label.TheVariants.{At};
 ghost use Rattle.graph_links.specs.Labels.{addresses_of, interface_of};
@@ -10,14 +10,15 @@ use std::alloc::Global;
 use std::marker::Model;
 use std::slice::from_ref;
 
-/// What a link tells of the next hop (RFC 2328, 16.1.1). Contracts see it as a `Label`. One address takes no memory of
-/// its own.
+/// The part of a link that determines next hops (RFC 2328, 16.1.1). Contracts see it as a `Label`.
+///
+/// A label with one address allocates no memory.
 #[derive(Debug)]
 pub struct LinkLabel {
     kept: Kept,
 }
 
-// What a label has. Several addresses are boxed, so that every link takes less memory.
+// The forms of a label. Several addresses are boxed, to keep links small.
 #[derive(Debug, Drop)]
 enum Kept {
     Over(u8),
@@ -26,7 +27,7 @@ enum Kept {
     Plain,
 }
 
-// proof: one call drops it, in place of a drop of each part wherever one is held.
+// proof: a value is dropped by one call, not part by part at each exit of a function.
 impl Drop for LinkLabel {
     fn drop(self) {
         let LinkLabel { kept: _kept } = self;
@@ -43,7 +44,8 @@ impl Model for LinkLabel {
 }
 
 impl LinkLabel {
-    /// The label of a link out of a router: over this interface at the root, plain elsewhere.
+    /// Returns the label of a link from a router: over the given interface, or plain if there is
+    /// none. Links from the root have an interface.
     pub(crate) fn over(interface: Option<u8>) -> LinkLabel
         ensures { result ≡ label_over interface }
     {
@@ -54,7 +56,8 @@ impl LinkLabel {
         LinkLabel { kept }
     }
 
-    /// The label of a link out of a network, to a router with one address there. It takes no memory of its own.
+    /// Returns the label of a link from a network to a router with one address there. It allocates
+    /// nothing.
     pub(crate) fn at_one(address: u32) -> LinkLabel
         ensures { result ≡ At (address ∷ []) }
     {
@@ -63,7 +66,7 @@ impl LinkLabel {
         }
     }
 
-    /// The label of a link out of a network, to a router with these addresses there.
+    /// Returns the label of a link from a network to a router with these addresses there.
     pub(crate) fn at(alloc: Global, addresses: Listed<u32>) -> Result<LinkLabel, Memory>
         ensures { IfOk result (λ label. label ≡ At addresses) }
     {
@@ -73,7 +76,7 @@ impl LinkLabel {
         })
     }
 
-    /// The interface that the link leads over; none unless it is out of the root.
+    /// Returns the interface of a link from the root, or `None` for other links.
     pub fn interface(&self) -> Option<u8>
         ensures { result ≡ interface_of self.now }
     {
@@ -83,7 +86,8 @@ impl LinkLabel {
         }
     }
 
-    /// The addresses on the network that the link is out of; none if it is out of a router.
+    /// Returns the router's addresses (in host order) on the network that the link leaves from. The
+    /// slice is empty if the link leaves from a router.
     pub fn addresses(&self) -> &[u32]
         ensures { result.now ≡ addresses_of self.now }
     {
@@ -94,7 +98,7 @@ impl LinkLabel {
         }
     }
 
-    /// A label that tells what this one does.
+    /// Returns a copy of the label.
     pub(crate) fn copy(&self, alloc: Global) -> Result<LinkLabel, Memory>
         ensures { IfOk result (λ label. label ≡ self.now) }
     {
@@ -109,7 +113,7 @@ impl LinkLabel {
         Ok(LinkLabel { kept })
     }
 
-    /// Whether both labels tell one thing.
+    /// Returns true if the labels are equal.
     pub(crate) fn is_same(&self, other: &LinkLabel) -> bool
         ensures { IsTrue result ↔ (self.now ≡ other.now) }
     {

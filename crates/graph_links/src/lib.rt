@@ -1,5 +1,9 @@
-//! The links of an area's vertices (RFC 2328, 16.1), by where the LSA of each vertex leads, and the links that differ
-//! between two states of a graph.
+//! The links between the vertices of an area (RFC 2328, 16.1).
+//!
+//! A vertex's row has the link ends that its LSA lists, and its links out of and into other
+//! vertices. A link needs an end on both sides (16.1 (2b)). A change of LSAs or interfaces gives
+//! new rows (`row_updates`). These replace the old ones (`place`), and `changed_links` lists the
+//! links removed and added.
 #![tactic(auto)]
 
 mod at_vertex;

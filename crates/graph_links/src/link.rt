@@ -1,3 +1,4 @@
+//! Links, and the interfaces and changes of a graph.
 use crate::label::LinkLabel;
 use vertex_map::HintedVertex;
 
@@ -5,21 +6,24 @@ use vertex_map::HintedVertex;
 #[derive(Clone, Copy, Debug, PartialEq, Eq)]
 pub struct Up {
     pub id: u8,
-    /// Its IP address, in host order.
+    /// The IP interface address, in host order.
     pub address: u32,
 }
 
 /// A link of the graph, with its metric (RFC 2328, 16.1).
+///
+/// Its vertices have hints to their rows.
 #[derive(Debug)]
 pub struct Link {
     pub from: HintedVertex,
     pub to: HintedVertex,
-    /// The metric; 0 out of a network.
+    /// The metric; 0 for a link from a network.
     pub cost: u16,
+    /// The part of the link that determines next hops.
     pub label: LinkLabel,
 }
 
-// proof: one call drops it, in place of a drop of each part wherever one is held.
+// proof: a value is dropped by one call, not part by part at each exit of a function.
 impl Drop for Link {
     fn drop(self) {
         let Link {
@@ -31,14 +35,13 @@ impl Drop for Link {
     }
 }
 
-/// The links that a change took away, and those that it brought. One with another cost or label is
-/// one of each.
+/// The links that a change removed and added. A link whose cost or label changed is in both lists.
 pub struct LinkChanges {
     pub gone: Vec<Link>,
     pub came: Vec<Link>,
 }
 
-// proof: one call drops it, in place of a drop of each part wherever one is held.
+// proof: a value is dropped by one call, not part by part at each exit of a function.
 impl Drop for LinkChanges {
     fn drop(self) {
         let LinkChanges {

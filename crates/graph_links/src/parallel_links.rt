@@ -1,4 +1,4 @@
-//! The ways from a router to a vertex that it leads to.
+//! The parallel links from a router to another vertex.
 ghost use Rattle.std.specs.Prelude.{◌<◌, ◌≢◌, ◌∷◌, [], OnOk, IfOk};
 ghost use Rattle.std.specs.List.{AllPairs};
 ghost use Rattle.graph_links.specs.Pairs.{AddsRootWays, AddsWays, AreWays};
@@ -10,15 +10,18 @@ use ospf_types::memory::Memory;
 use smallvec::SmallVec;
 use std::alloc::Global;
 
-/// What tells a router's links to one vertex apart: the metric, and at the root the interface.
+/// One of the links of a router to the same vertex. They differ in the metric, and at the root in
+/// the interface too.
 #[derive(Clone, Copy, Default, PartialEq, Eq, PartialOrd, Ord)]
 pub(crate) struct ParallelLink {
     pub(crate) cost: u16,
     pub(crate) interface: Option<u8>,
 }
 
-/// The ways of a router over these of its ends, each once: there may be thousands of ends at one vertex. Up to two take
+/// Returns the router's parallel links over these of its ends, without duplicates. Up to two take
 /// no memory.
+///
+/// A router may have thousands of ends at one vertex.
 pub(crate) fn ways_over(
     alloc: Global,
     local: RootInterfaces<'_>,
@@ -34,7 +37,7 @@ pub(crate) fn ways_over(
     Ok(ways)
 }
 
-/// The ways over each of the ends in turn.
+/// Returns the links over each of the ends, which may have duplicates.
 fn all_ways(
     alloc: Global,
     local: RootInterfaces<'_>,
@@ -50,8 +53,8 @@ fn all_ways(
     Ok(ways)
 }
 
-/// Lists the ways of a router over one of its ends: none if the metric is 0, else one, or at the root
-/// one for each interface that has the address.
+/// Appends the router's links over one of its ends, unless the metric is 0. The root has a link for
+/// each interface with the address in Link Data, and another router has one link.
 fn list_over(
     local: RootInterfaces<'_>,
     router: u32,
@@ -73,7 +76,7 @@ fn list_over(
     Ok(())
 }
 
-/// Lists a way of the root over one of its ends for each interface that has the address.
+/// Appends a link of the root for each interface whose address is the end's Link Data.
 fn list_over_interfaces(
     interfaces: &[Up],
     root: u32,
@@ -89,7 +92,7 @@ fn list_over_interfaces(
     Ok(())
 }
 
-/// Lists a way of the root over one of its ends if the interface has the address.
+/// Appends a link of the root if the interface's address is the end's Link Data.
 fn list_over_interface(
     up: Up,
     root: u32,

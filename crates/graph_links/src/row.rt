@@ -1,18 +1,21 @@
-//! What the graph keeps of its vertices.
+//! The rows of a graph, one for each vertex.
 use crate::link_end::LinkEnd;
 use crate::link::Link;
 use indexmap::IndexMap;
 use ospf_types::entry::Vertex;
 use word_hash::WordHash;
 
-/// A vertex that is there: where its LSA leads, and its links.
+/// The row of a vertex: its link ends, and its links.
 pub struct Row {
+    /// The link ends of the vertex's LSA.
     pub ends: Vec<LinkEnd>,
+    /// The links from the vertex.
     pub out: Vec<Link>,
+    /// The links to the vertex.
     pub into: Vec<Link>,
 }
 
-// proof: one call drops it, in place of a drop of each part wherever one is held.
+// proof: a value is dropped by one call, not part by part at each exit of a function.
 impl Drop for Row {
     fn drop(self) {
         let Row {
@@ -23,8 +26,8 @@ impl Drop for Row {
     }
 }
 
-/// The vertices that are there.
+/// The rows of the vertices that have an LSA.
 pub type Rows = IndexMap<Vertex, Row, WordHash>;
 
-/// Where vertices lead whose LSAs change, none if the LSA goes.
+/// The new link ends of the vertices whose LSAs change, or `None` if the LSA is removed.
 pub type StagedEnds = IndexMap<Vertex, Option<Vec<LinkEnd>>, WordHash>;

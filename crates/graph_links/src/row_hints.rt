@@ -1,11 +1,11 @@
-//! What links know of the places of rows. Each is a place to look at first: a wrong one costs a hash and nothing else.
+//! Hints to rows, taken from links. A wrong hint only costs hashing the vertex.
 ghost use Rattle.std.specs.Prelude.{◌≡◌};
 
 use crate::link::Link;
 use ospf_types::entry::Vertex;
 use vertex_map::HintedVertex;
 
-/// The vertex, with the place that the link at this index has for where it leads.
+/// Returns the vertex, with the hint of the link at this index. Without such a link it has no hint.
 pub fn hinted_by(links: &[Link], index: usize, vertex: Vertex) -> HintedVertex
     ensures { result ≡ vertex }
 {
@@ -15,8 +15,10 @@ pub fn hinted_by(links: &[Link], index: usize, vertex: Vertex) -> HintedVertex
     }
 }
 
-/// The vertex, with the place that these links have for it. They are in the order of the vertices that they lead to, and
-/// vertices are asked for in that order: mostly each is where the first link leads that is not passed yet.
+/// Returns the vertex, with the hint that one of these links has for it.
+///
+/// The links are in the order of their heads, and a caller asks for vertices in that order. So the
+/// first link that is not passed yet usually leads to the vertex.
 #[inline]
 pub(crate) fn next_placed(links: &[Link], passed: &mut usize, vertex: Vertex) -> HintedVertex
     ensures { result ≡ vertex }
@@ -30,7 +32,7 @@ pub(crate) fn next_placed(links: &[Link], passed: &mut usize, vertex: Vertex) ->
     }
 }
 
-// The vertex, with the place of the first link that does not lead below it.
+// Skips the links to lower vertices, and takes the hint from the link after them.
 #[inline(never)]
 fn later_placed(links: &[Link], passed: &mut usize, vertex: Vertex) -> HintedVertex
     ensures { result ≡ vertex }
@@ -39,7 +41,7 @@ fn later_placed(links: &[Link], passed: &mut usize, vertex: Vertex) -> HintedVer
     hinted_by(links, *passed, vertex)
 }
 
-// How many links there are up to the first, from this one on, that leads to no vertex below.
+// Returns the index of the first link, at `first` or later, that does not lead to a lower vertex.
 fn below(links: &[Link], first: usize, vertex: Vertex) -> usize {
     let mut past = first;
     while past < links.len() && links[past].to.vertex().compare(vertex).is_lt() {

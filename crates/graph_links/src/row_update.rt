@@ -1,4 +1,4 @@
-//! The rows of vertices after a change.
+//! The new rows of vertices after a change.
 ghost use Rattle.std.specs.Prelude.{◌≡◌, ◌+◌, ◌≤◌, ◌<◌, [], ◌∷◌, IfOk, IfSome, OnOk, length};
 ghost use Rattle.std.specs.HashMap.{spare};
 ghost use Rattle.graph_links.specs.Places.{IsAt, PutsRow, PutsRowAt};
@@ -16,20 +16,22 @@ use std::alloc::Global;
 use std::mem::replace;
 use vertex_map::HintedVertex;
 
-/// What a vertex has after a change: a row, if it is there. The vertex knows the place of the row that it had or will have.
+/// The new row of a vertex, or `None` if the vertex is removed. The vertex's hint is the place of
+/// its row, before or after the change.
 #[derive(Drop)]
 pub struct RowUpdate {
     pub vertex: HintedVertex,
     pub row: Option<Row>,
 }
 
-/// The fresh rows of a change, and rows that are no longer needed, whose memory the next fresh ones take.
+/// The row updates of a change, and a few discarded rows whose memory the next updates use.
 pub struct RowPool {
+    /// The row updates, not yet placed.
     pub fresh: Vec<RowUpdate>,
     used: Vec<Row>,
 }
 
-// proof: one call drops it, in place of a drop of each part wherever one is held.
+// proof: a value is dropped by one call, not part by part at each exit of a function.
 impl Drop for RowPool {
     fn drop(self) {
         let RowPool {
@@ -40,7 +42,7 @@ impl Drop for RowPool {
 }
 
 impl RowPool {
-    /// No fresh row, and no memory.
+    /// Creates a pool with no row updates and no memory.
     pub fn new(alloc: Global) -> RowPool
         ensures { result.fresh.items ≡ [] }
     {
@@ -51,7 +53,11 @@ impl RowPool {
     }
 }
 
-/// Makes the rows of the vertices the fresh ones.
+/// Computes the rows of the vertices in this view, and makes them the row updates of the pool.
+///
+/// # Errors
+///
+/// Returns `Memory` if memory runs out. The pool then has the updates of the first vertices only.
 pub fn row_updates(
     alloc: Global,
     side: GraphView<'_>,
@@ -69,7 +75,8 @@ pub fn row_updates(
     Ok(())
 }
 
-// The row of a vertex, if it is there. The vertex has its place from then on.
+// Returns the row of a vertex, if it has an LSA, and gives the vertex the place of its row as a
+// hint.
 fn fresh_row(
     alloc: Global,
     side: GraphView<'_>,
@@ -96,7 +103,7 @@ fn fresh_row(
     Ok(RowUpdate { vertex, row })
 }
 
-// A row that is no longer needed, or one without memory. What it has does not count.
+// Returns a discarded row, or a new one. Its contents have no meaning.
 fn used_row(alloc: Global, used: &mut Vec<Row>) -> Row {
     match used.pop() {
         Some(row) => row,
@@ -108,7 +115,7 @@ fn used_row(alloc: Global, used: &mut Vec<Row>) -> Row {
     }
 }
 
-// Takes the items out, and makes room for so many, unless there is far too much.
+// Clears the list, and reserves room for `room` items. A list with far more room is replaced.
 fn empty<T: Drop>(alloc: Global, list: &mut Vec<T>, room: usize) -> Result<(), Memory>
     ensures items { OnOk result (list.new.items ≡ []) }
 {
@@ -121,7 +128,7 @@ fn empty<T: Drop>(alloc: Global, list: &mut Vec<T>, room: usize) -> Result<(), M
     Ok(())
 }
 
-// Puts a copy of the ends in the place of what the list has.
+// Makes the list a copy of the ends.
 fn copy_ends(alloc: Global, ends: &[LinkEnd], list: &mut Vec<LinkEnd>) -> Result<(), Memory>
     ensures { OnOk result (list.new.items ≡ ends.now) }
 {
@@ -130,7 +137,8 @@ fn copy_ends(alloc: Global, ends: &[LinkEnd], list: &mut Vec<LinkEnd>) -> Result
     Ok(())
 }
 
-// The row of a vertex that is there. Its ends are in order, so those at one vertex stand together.
+// Returns the row of a vertex with an LSA, in the memory of `used`. The ends are in order, so the
+// ends at one vertex are adjacent.
 fn row_of(alloc: Global, side: GraphView<'_>, all: Facing<'_>, used: Row) -> Result<Row, Memory>
     requires in_order { IsInOrder (ends_in side) }
     requires ends { all.ends.now ≡ all_ends side all.vertex }
@@ -161,7 +169,8 @@ fn row_of(alloc: Global, side: GraphView<'_>, all: Facing<'_>, used: Row) -> Res
     Ok(row)
 }
 
-/// Puts each fresh row in the place of what its vertex had, the last first, and takes out the vertices that are not there.
+/// Replaces the rows of the updated vertices, from the last to the first, and removes the vertices
+/// without a new row.
 pub fn place(rows: &mut Rows, room: &mut RowPool)
     requires room { length room.old.fresh.items ≤ spare rows.old }
     ensures { IsPlaced room.old.fresh.items rows.old.entries rows.new.entries }
@@ -171,7 +180,7 @@ pub fn place(rows: &mut Rows, room: &mut RowPool)
     }
 }
 
-// Puts the fresh row in the place of what its vertex had, or takes out a vertex that is not there.
+// Replaces the row of the vertex, or removes a vertex without a new row.
 fn place_one(rows: &mut Rows, fresh: RowUpdate, used: &mut Vec<Row>)
     requires room { 0 < spare rows.old }
     ensures placed { IsPlaced (fresh ∷ []) rows.old.entries rows.new.entries }
@@ -186,7 +195,7 @@ fn place_one(rows: &mut Rows, fresh: RowUpdate, used: &mut Vec<Row>)
     }
 }
 
-// Puts the row in the place of what its vertex had, whose memory may be used again.
+// Replaces or inserts the row of the vertex. The memory of the old row may be kept.
 fn put_in_room(rows: &mut Rows, vertex: &HintedVertex, row: Row, used: &mut Vec<Row>)
     requires { 0 < spare rows.old }
     ensures placed { PutsRow vertex.now row rows.old.entries rows.new.entries }
@@ -199,7 +208,7 @@ fn put_in_room(rows: &mut Rows, vertex: &HintedVertex, row: Row, used: &mut Vec<
     keep(before, used);
 }
 
-// Where the vertex has its row, if that is at the vertex's place.
+// Returns the place of the vertex's row, if the vertex's hint is right.
 fn standing(rows: &Rows, vertex: &HintedVertex) -> Option<usize>
     ensures { IfSome result (λ place. IsAt rows.now.entries vertex.now place) }
 {
@@ -210,18 +219,18 @@ fn standing(rows: &Rows, vertex: &HintedVertex) -> Option<usize>
     }
 }
 
-// Puts the row in the place of the one that is there, and gives that back.
+// Replaces the row at the place, and returns the old one.
 fn exchange(rows: &mut Rows, place: usize, row: Row) -> Row
     requires { place < length rows.old.entries }
     ensures placed { PutsRowAt place row rows.old.entries rows.new.entries }
     ensures room { spare rows.old ≤ spare rows.new + 1 }
 {
-    // proof: no vertex has two rows.
+    // proof: the map's invariant, that no vertex has two rows, is known by this call.
     let _ = rows.len();
     replace(&mut rows[place], row)
 }
 
-// Puts the row in the place of what its vertex had, which is looked up by its hash, and gives that back.
+// Hashes the vertex, replaces or inserts its row, and returns the old one.
 fn insert_in_room(rows: &mut Rows, vertex: Vertex, row: Row) -> Option<Row>
     requires { 0 < spare rows.old }
     ensures placed { PutsRow vertex row rows.old.entries rows.new.entries }
@@ -233,7 +242,7 @@ fn insert_in_room(rows: &mut Rows, vertex: Vertex, row: Row) -> Option<Row>
     }
 }
 
-// So many rows that are no longer needed are kept for their memory.
+// The maximum number of discarded rows that are kept for their memory.
 const KEPT: usize = 8;
 
 // Keeps the row for its memory, unless enough are kept or memory runs out.

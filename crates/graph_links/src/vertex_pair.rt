@@ -1,4 +1,4 @@
-//! The links from one vertex to another.
+//! The links from one vertex to another that links back to it.
 ghost use Rattle.std.specs.Prelude.{◌≡◌, ◌<◌, length, OnOk, IsOk, IfOk};
 ghost use Rattle.ospf_types.specs.declared.label.Label.TheVariants.{At};
 ghost use Rattle.graph_links.specs.Pairs.{AddsBetween, AddsBy, AddsOnce, AddsOnto, AddsOver, AddsPlain, AreCheap, KeepsApart, details_of, link_by, turned};
@@ -13,7 +13,7 @@ use ospf_types::memory::Memory;
 use std::alloc::Global;
 use vertex_map::HintedVertex;
 
-/// A vertex, the place of its row, and the ends of its LSA that are at another.
+/// A vertex, the place of its row, and its link ends at another vertex.
 #[derive(Clone, Copy)]
 pub(crate) struct Facing<'a> {
     pub(crate) vertex: Vertex,
@@ -21,14 +21,16 @@ pub(crate) struct Facing<'a> {
     pub(crate) ends: &'a [LinkEnd],
 }
 
-/// What the links of a router rest on beside LSAs: the Router ID of the root, and its interfaces.
+/// The root and its interfaces, which its links depend on in addition to LSAs.
 #[derive(Clone, Copy)]
 pub struct RootInterfaces<'a> {
+    /// The Router ID of the root.
     pub root: u32,
+    /// The interfaces of the area that are up.
     pub interfaces: &'a [Up],
 }
 
-/// Two vertices that name each other: links lead from the one to the other.
+/// Two vertices whose LSAs list each other, so that there are links from `from` to `to`.
 #[derive(Clone, Copy)]
 pub(crate) struct VertexPair<'a> {
     pub(crate) local: RootInterfaces<'a>,
@@ -37,7 +39,7 @@ pub(crate) struct VertexPair<'a> {
 }
 
 impl<'a> VertexPair<'a> {
-    /// The pair seen from the other vertex.
+    /// Returns the pair for the opposite direction.
     pub(crate) fn turned(self) -> VertexPair<'a>
         ensures { result ≡ turned self.entry }
     {
@@ -48,7 +50,7 @@ impl<'a> VertexPair<'a> {
         }
     }
 
-    /// Lists the links from the one vertex to the other, each once.
+    /// Appends the links from `from` to `to`.
     pub(crate) fn list_links(&self, alloc: Global, links: &mut Vec<Link>) -> Result<(), Memory>
         ensures listed { OnOk result (AddsBetween self.now links.old.items links.new.items) }
         ensures cheap { OnOk result (AreCheap links.old.items → AreCheap links.new.items) }
@@ -61,7 +63,7 @@ impl<'a> VertexPair<'a> {
         }
     }
 
-    // Lists the links of a router by its ways over its ends at the other vertex. Mostly it has one.
+    // Appends the links from a router. The usual case is one end at the other vertex.
     fn list_from_router(
         &self,
         alloc: Global,
@@ -77,7 +79,7 @@ impl<'a> VertexPair<'a> {
         }
     }
 
-    // Lists the links of any router by its ways over all its ends at the other vertex.
+    // Appends the links from any router, over all its ends at the other vertex.
     #[inline(never)]
     fn list_over_all(&self, alloc: Global, router: u32, links: &mut Vec<Link>) -> Result<(), Memory>
         ensures listed { OnOk result (AddsOver self.now router links.old.items links.new.items) }
@@ -87,7 +89,8 @@ impl<'a> VertexPair<'a> {
         self.list_by_ways(ways.as_slice(), links)
     }
 
-    // Lists the link of a router other than the root that has this one end at the other vertex, unless the metric is 0.
+    // Appends the link from a router that is not the root over its only end, unless the metric is
+    // 0.
     fn list_over_end(&self, end: LinkEnd, links: &mut Vec<Link>) -> Result<(), Memory>
         ensures listed { OnOk result (AddsPlain self.now end links.old.items links.new.items) }
         ensures cheap { OnOk result (AreCheap links.old.items → AreCheap links.new.items) }
@@ -103,7 +106,7 @@ impl<'a> VertexPair<'a> {
         Ok(())
     }
 
-    // Lists the links of a router by these ways.
+    // Appends a link for each of the parallel links.
     fn list_by_ways(&self, ways: &[ParallelLink], links: &mut Vec<Link>) -> Result<(), Memory>
         ensures listed { OnOk result (AddsBy self.now ways.now links.old.items links.new.items) }
         ensures cheap { OnOk result (AreCheap links.old.items → AreCheap links.new.items) }
@@ -114,7 +117,7 @@ impl<'a> VertexPair<'a> {
         Ok(())
     }
 
-    // The link of a router by this way.
+    // Returns the link for one of the parallel links.
     fn link_by(&self, way: ParallelLink) -> Link
         ensures value { result ≡ link_by self.now.from.vertex self.now.to.vertex way }
         ensures cheap { result.cost < 65536 }
@@ -122,7 +125,7 @@ impl<'a> VertexPair<'a> {
         self.link(way.cost, LinkLabel::over(way.interface))
     }
 
-    // Lists the link of a network, if the other vertex is a router.
+    // Appends the link from a network, if the other vertex is a router.
     #[inline(never)]
     fn list_from_network(&self, alloc: Global, links: &mut Vec<Link>) -> Result<(), Memory>
         ensures listed { OnOk result (AddsOnto self.now links.old.items links.new.items) }
@@ -134,12 +137,12 @@ impl<'a> VertexPair<'a> {
             return Ok(());
         };
         let label = label_onto(alloc, self.to.ends)?;
-        // A.4.3: the distance from a network to its routers is zero.
+        // A.4.3: the distance from a network to its routers is 0.
         links.push(self.link(0, label))?;
         Ok(())
     }
 
-    // The link with this cost and label.
+    // Returns the link with this cost and label.
     fn link(&self, cost: u16, label: LinkLabel) -> Link
         ensures { result ≡ record {
           from = self.now.from.vertex;
@@ -157,12 +160,13 @@ impl<'a> VertexPair<'a> {
     }
 }
 
-/// The label of a link of a network to a router that has these ends there. Mostly it has one.
-/// 16.1.1: the Link Data of each link back to the network is the address of a next hop.
+/// Returns the label of a link from a network to a router with these ends there, usually one.
+///
+/// RFC 2328, 16.1.1: the Link Data of each link back to the network is the address of a next hop.
 fn label_onto(alloc: Global, ends: &[LinkEnd]) -> Result<LinkLabel, Memory>
     ensures label { IfOk result (λ label. label ≡ At (details_of ends.now)) }
 
-    // One address takes no memory.
+    // A label with one address takes no memory.
     ensures one { length ends.now ≡ 1 → IsOk result }
 {
     match ends {
@@ -171,7 +175,7 @@ fn label_onto(alloc: Global, ends: &[LinkEnd]) -> Result<LinkLabel, Memory>
     }
 }
 
-/// The Link Data of the ends, without what equals the one before it.
+/// Returns the Link Data of the ends, without repetitions of the previous one.
 fn each_once(alloc: Global, ends: &[LinkEnd]) -> Result<Listed<u32>, Memory>
     ensures { IfOk result (λ details. details ≡ details_of ends.now) }
 {
@@ -184,7 +188,7 @@ fn each_once(alloc: Global, ends: &[LinkEnd]) -> Result<Listed<u32>, Memory>
     Ok(details)
 }
 
-/// Lists the Link Data unless it is what came last.
+/// Appends the Link Data unless it repeats the previous one.
 fn list_once(details: &mut Listed<u32>, last: Option<u32>, detail: u32) -> Result<(), Memory>
     ensures { OnOk result (AddsOnce last detail details.old details.new) }
 {

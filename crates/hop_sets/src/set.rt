@@ -1,4 +1,4 @@
-//! The set, and what is put into it.
+//! A set of next hops.
 ghost use Rattle.std.specs.Prelude.{◌≡◌, ◌≤◌, ◌+◌, ◌<◌, ◌↔◌, ◌⊎◌, [], length, IsTrue, IsOk, IfOk, IfErr, OnOk, OnErr, Contains, insert, true};
 ghost use Rattle.std.specs.List.Sorted.{IsStrictlySortedBy};
 ghost use Rattle.std.specs.Set.{sorted_merge};
@@ -11,12 +11,12 @@ use std::alloc::Global;
 use std::cmp::Ordering;
 use std::marker::Model;
 
-/// Next hops, ascending, each once. Up to two stand in the value; more take memory.
+/// A set of next hops, in ascending order. Up to two are stored in the value; more take memory.
 pub struct HopSet {
     items: SmallVec<NextHop, 2>,
 }
 
-// proof: one call drops it, in place of a drop of each part wherever one is held.
+// proof: a value is dropped by one call, not part by part at each exit of a function.
 impl Drop for HopSet {
     fn drop(self) {
         let HopSet { items: _items } = self;
@@ -37,7 +37,7 @@ impl Model for HopSet {
 }
 
 impl HopSet {
-    /// The set of no next hops. It takes no memory.
+    /// Creates an empty set, which allocates no memory.
     #[tactic(auto, using(crate::proofs::Empty::empty_in_order))]
     pub fn new(alloc: Global) -> HopSet
         ensures { result ≡ [] }
@@ -47,7 +47,7 @@ impl HopSet {
         }
     }
 
-    /// The next hops, by kind, interface and address.
+    /// Returns the next hops, in the order of kind, interface and address.
     pub fn as_slice(&self) -> &[NextHop]
         ensures value { result.now ≡ self.now }
         ensures in_order { IsStrictlySortedBy hop_cmp self.now }
@@ -55,38 +55,45 @@ impl HopSet {
         self.items.as_slice()
     }
 
+    /// Returns the number of next hops.
     pub fn len(&self) -> usize
         ensures { result ≡ length self.now }
     {
         self.items.len()
     }
 
+    /// Returns true if the set has no next hops.
     pub fn is_empty(&self) -> bool
         ensures { IsTrue result ↔ (self.now ≡ []) }
     {
         self.items.is_empty()
     }
 
-    /// Whether the set has the next hop.
+    /// Returns true if the set has the next hop.
     pub fn contains(&self, hop: NextHop) -> bool
         ensures { IsTrue result ↔ Contains self.now hop }
     {
         place_of(self.as_slice(), hop).is_ok()
     }
 
-    /// Whether both sets have the same next hops.
+    /// Returns true if both sets have the same next hops.
     pub fn is_same(&self, other: &HopSet) -> bool
         ensures { IsTrue result ↔ (self.now ≡ other.now) }
     {
         self.as_slice() == other.as_slice()
     }
 
-    /// Adds the next hop, unless the set has it. After an error the set is as it was.
+    /// Adds the next hop, unless the set has it.
+    ///
+    /// # Errors
+    ///
+    /// Returns `Memory` if there is no memory for a third or later next hop. The set is then
+    /// unchanged.
     pub fn put(&mut self, hop: NextHop) -> Result<(), Memory>
         ensures added { OnOk result ((h : NextHop) → Contains self.new h ↔ (Contains self.old h ⊎ (h ≡ hop))) }
         ensures unchanged { OnErr result (self.new ≡ self.old) }
 
-        // It fails only if a third or later next hop finds no memory.
+        // Only a third or later next hop takes memory.
         ensures few { length self.old < 2 → IsOk result }
         ensures there { Contains self.old hop → IsOk result }
     {
@@ -96,13 +103,16 @@ impl HopSet {
         }
     }
 
-    /// Adds the next hops of another set, in time that is linear in both. If memory runs out, the set is
-    /// as it was.
+    /// Adds the next hops of another set, in time linear in the size of both.
+    ///
+    /// # Errors
+    ///
+    /// Returns `Memory` if memory runs out. The set is then unchanged.
     pub fn unite(&mut self, other: &HopSet) -> Result<(), Memory>
         ensures united { OnOk result ((h : NextHop) → Contains self.new h ↔ (Contains self.old h ⊎ Contains other.now h)) }
         ensures unchanged { OnErr result (self.new ≡ self.old) }
 
-        // Two next hops take no memory.
+        // A set of two next hops takes no memory.
         ensures few { length self.old + length other.now < 3 → IsOk result }
     {
         let alloc = *self.items.allocator();
@@ -110,7 +120,7 @@ impl HopSet {
         Ok(())
     }
 
-    /// A copy. Up to two next hops take no memory.
+    /// Returns a copy of the set. A copy of up to two next hops takes no memory.
     pub fn copy(&self) -> Result<HopSet, Memory>
         ensures same { IfOk result (λ set. set ≡ self.now) }
         ensures few { length self.now < 3 → IsOk result }
@@ -120,7 +130,7 @@ impl HopSet {
         Ok(HopSet { items })
     }
 
-    /// Takes every next hop out. The memory that the set has stays with it.
+    /// Removes all next hops. The set keeps its memory.
     #[tactic(auto, using(crate::proofs::Empty::empty_in_order))]
     pub fn clear(&mut self)
         ensures { self.new ≡ [] }
@@ -129,7 +139,7 @@ impl HopSet {
     }
 }
 
-// Where the hop stands, or else where it goes.
+// Returns the index of the hop, or the index where it has to be inserted.
 fn place_of(items: &[NextHop], hop: NextHop) -> Result<usize, usize>
     requires { IsStrictlySortedBy hop_cmp items.now }
     ensures found { IsOk result ↔ Contains items.now hop }
@@ -139,7 +149,7 @@ fn place_of(items: &[NextHop], hop: NextHop) -> Result<usize, usize>
     items.binary_search(&hop)
 }
 
-// The hops of both lists, ascending, each once.
+// Returns the hops of both lists, in ascending order without duplicates.
 fn merged(
     alloc: Global,
     left: &[NextHop],

@@ -1,10 +1,10 @@
-//! Why nothing was read.
+//! The faults of a read.
 ghost use Rattle.std.specs.Prelude.{◌≡◌};
 
 use std::alloc::AllocError;
 use std::io;
 
-/// Why nothing was read of an input.
+/// The reason why an input was not read.
 #[derive(Clone, Copy, Debug, PartialEq, Eq)]
 pub enum ReadFault {
     /// The input could not be read.
@@ -23,7 +23,7 @@ impl From<AllocError> for ReadFault {
     }
 }
 
-/// `Memory` for an error of the kind `OutOfMemory`, and else `Read`.
+/// Converts an error of the kind `OutOfMemory` into `Memory`, and any other into `Read`.
 impl From<io::Error> for ReadFault {
     ghost use Rattle.input_reading.specs.Faults.{IsFaultOf};
 

@@ -1,4 +1,4 @@
-//! Reads of an input, each of which is tried again if it is interrupted, and why one may fail.
+//! Reads of an input that are repeated if they are interrupted, and the faults of a read.
 #![tactic(auto)]
 
 mod fault;

@@ -1,4 +1,4 @@
-//! One read of an input.
+//! A single read of an input.
 ghost use Rattle.std.specs.Prelude.{◌≡◌, ◌≢◌, ◌≤◌, ◌<◌, OnErr, IfOk, IfErr, length, take};
 ghost use Rattle.std.specs.IoError.{error_kind};
 ghost use Rattle.std.specs.declared.io.ErrorKind.TheVariants as ErrorKind;
@@ -6,8 +6,13 @@ ghost use Rattle.std.specs.Io.KnownBytes.{Consumes, IsAtEnd, Keeps};
 
 use std::io;
 
-/// Reads once into a buffer, and again if the read was interrupted. Answers how many bytes came, none only
-/// at the end of the input or where the buffer is empty. An error loses none.
+/// Reads once into the buffer, and again if the read was interrupted. Returns the number of bytes
+/// read: 0 only if the input is at its end or the buffer is empty.
+///
+/// # Errors
+///
+/// Returns the error of the input, unless it is of the kind `Interrupted`, or an error of the kind
+/// `TimedOut` after `usize::MAX` interrupted reads. No bytes are lost.
 pub fn read_once<R: io::Read>(input: &mut R, buffer: &mut [u8]) -> io::Result<usize>
     ensures bound { IfOk result (λ n. n ≤ length buffer.new) }
     ensures bytes { IfOk result (λ n.

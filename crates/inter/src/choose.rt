@@ -1,4 +1,5 @@
-//! The entry of a destination: the best of what the summaries for it offer (RFC 2328, 16.2).
+//! The choice of the entry of a destination: the best of the offers of the summaries for it (RFC
+//! 2328, 16.2).
 ghost use Rattle.std.specs.Prelude.{◌≡◌, ◌↔◌, Some, IfOk, OnOk, IsTrue, IsSome};
 ghost use Rattle.std.specs.List.Sorted.{IsStrictlySortedBy};
 ghost use Rattle.ospf_types.specs.Hops.{path_cmp};
@@ -18,7 +19,7 @@ use path_choice::{Best, Choice, offer_hops};
 use result_map::Choose;
 use std::alloc::Global;
 
-/// What entries are chosen by.
+/// The inputs of a choice, and the index of the summaries.
 #[derive(Drop)]
 pub(crate) struct Choosing<'a> {
     pub(crate) inputs: &'a InterInputs<'a>,
@@ -44,7 +45,8 @@ impl<'a> Choose<Dest, InterEntry> for Choosing<'a> {
 }
 
 impl Choosing<'_> {
-    // The entry of the destination by the summaries of the area; none where another route is preferred to them.
+    // Returns the entry of the destination by the summaries of the area, or `None` if there are no
+    // offers or another route is preferred.
     fn choose_in(&self, alloc: Global, area: u32, dest: &Dest) -> Result<Option<InterEntry>, Memory>
         ensures { IfOk result
             (IsChosenIn self.now.inputs.now area self.now.index.now dest.now) }
@@ -63,7 +65,7 @@ impl Choosing<'_> {
             index: self.index,
         };
         offers.offer_keys(&mut best, keys.as_slice())?;
-        // 16.2 (5) and (7): the cheapest paths are installed, all of one cost together.
+        // 16.2 (5) and (7): the paths of least cost are installed together.
         match best.into_choice() {
             Some(choice) => Ok(Some(entry(area, choice))),
             None => Ok(None),
@@ -71,7 +73,7 @@ impl Choosing<'_> {
     }
 }
 
-// The inter-area entry of a choice.
+// Returns the inter-area entry of a choice.
 fn entry(area: u32, choice: Choice<SummaryCost, Path>) -> InterEntry
     requires { IsStrictlySortedBy path_cmp choice.items }
     ensures { result ≡ entry_of PathType.Inter (Some area) choice.key 0 choice.items }
@@ -86,8 +88,9 @@ fn entry(area: u32, choice: Choice<SummaryCost, Path>) -> InterEntry
     })
 }
 
-// Whether another route is preferred to summaries: for a network an intra-area route, or an active range with its prefix;
-// for a router one that is reached in the area as an AS boundary router.
+// Returns true if another route is preferred to summaries. For a network it is an intra-area route,
+// or an active range with its prefix. For a router it is an intra-area route in the area to it as
+// an AS boundary router.
 fn is_taken_below(inputs: &InterInputs<'_>, area: u32, dest: &Dest) -> bool
     ensures { IsTrue result ↔ IsTakenBelow inputs.now area dest.now }
 {
@@ -99,7 +102,7 @@ fn is_taken_below(inputs: &InterInputs<'_>, area: u32, dest: &Dest) -> bool
     }
 }
 
-// Whether the router is reached in the area as an AS boundary router.
+// Returns true if the router is reached in the area as an AS boundary router, with a next hop.
 fn is_asbr(intra: &Intra, area: u32, router: u32) -> bool
     ensures { IsTrue result ↔ IsBoundaryIn intra.now.areas area router }
 {
@@ -109,7 +112,7 @@ fn is_asbr(intra: &Intra, area: u32, router: u32) -> bool
     }
 }
 
-// The paths that the summaries of an area offer.
+// The offers of the summaries of an area.
 #[derive(Clone, Copy)]
 struct AreaOffers<'a> {
     intra: &'a Intra,
@@ -118,7 +121,7 @@ struct AreaOffers<'a> {
 }
 
 impl AreaOffers<'_> {
-    // Offers what is advertised under each of these keys.
+    // Adds the offers of the summaries with these keys.
     fn offer_keys(self, best: &mut Best<SummaryCost, Path>, keys: &[Key]) -> Result<(), Memory>
         ensures { OnOk result (TakesPaths
             (KeysOffer keys.now self.entry.intra.now.areas self.entry.area self.entry.index.now)
@@ -130,7 +133,7 @@ impl AreaOffers<'_> {
         Ok(())
     }
 
-    // Offers what is advertised under the key, where its border router is reached.
+    // Adds the offer of the summary with this key, if its border router is reached.
     fn offer_key(self, best: &mut Best<SummaryCost, Path>, key: Key) -> Result<(), Memory>
         ensures { OnOk result (TakesPaths
             (KeyOffers self.entry.intra.now.areas self.entry.area self.entry.index.now key)
@@ -139,7 +142,8 @@ impl AreaOffers<'_> {
         let Some(route) = self.index.route(key) else {
             return Ok(());
         };
-        // 16.2 (4): the border router must be reached in the area. The cost is its distance and the metric.
+        // 16.2 (4): the border router must be reached in the area. The cost is the sum of its
+        // distance and the metric.
         let Some(border) = self.intra.router(self.area, key.router) else {
             return Ok(());
         };

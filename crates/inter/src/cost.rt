@@ -8,7 +8,7 @@ use path_choice::ExactOrd;
 use result_map::Same;
 use std::marker::Model;
 
-/// The distance of a border router and the metric of its summary.
+/// The sum of the distance of a border router and the metric of its summary.
 #[derive(Clone, Copy, PartialEq, Eq, PartialOrd, Ord)]
 pub(crate) struct SummaryCost(u32);
 
@@ -48,12 +48,12 @@ impl SummaryCost {
     }
 }
 
-/// The entry of an inter-area destination, at such a cost.
+/// The entry of an inter-area destination, whose cost is below the bound of `SummaryCost`.
 pub(crate) struct InterEntry {
     entry: Entry,
 }
 
-// proof: one call drops it, in place of a drop of each part wherever one is held.
+// proof: a value is dropped by one call, not part by part at each exit of a function.
 impl Drop for InterEntry {
     fn drop(self) {
         let InterEntry { entry: _entry } = self;

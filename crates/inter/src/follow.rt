@@ -1,4 +1,5 @@
-//! How the index follows the LSAs of the examined area, and which destinations may get another entry.
+//! Updates of the index by the LSAs of the examined area, and the destinations whose entry may
+//! change.
 ghost use Rattle.std.specs.Prelude.{◌≡◌, Contains, OnOk};
 ghost use Rattle.offer_index.specs.Indexes.{AreTouched, IsLedTo, empty_index};
 ghost use Rattle.offer_index.specs.Lists.{KeepsAll};
@@ -12,7 +13,8 @@ use ospf_types::key::{Dest, Key, Scope};
 use ospf_types::memory::Memory;
 
 impl InterInputs<'_> {
-    /// The index takes what the LSAs of the examined area say now. It was that of this area, of another or of none.
+    /// Updates the index by the LSAs of the examined area. `area` is the area that was examined
+    /// before, which may be another one or none.
     pub(crate) fn follow_examined(
         &self,
         area: Option<u32>,
@@ -32,7 +34,7 @@ impl InterInputs<'_> {
         self.follow_all(index, affected)
     }
 
-    // The index takes what the named LSAs say, where this area was examined before.
+    // Updates the index by the LSAs with these keys, if the same area was examined before.
     fn follow_named(
         &self,
         index: &mut AdvertisedIndex,
@@ -56,7 +58,7 @@ impl InterInputs<'_> {
         }
     }
 
-    // The index takes what all LSAs of the area say, where it has nothing.
+    // Adds all LSAs of the examined area to an empty index.
     fn follow_all(&self, index: &mut AdvertisedIndex, affected: &mut AffectedDests) -> Result<(), Memory>
         requires { index.old ≡ empty_index }
         ensures index { OnOk result (IsIndexFor self.now.root self.now.examined index.new) }
@@ -76,8 +78,8 @@ impl InterInputs<'_> {
     }
 }
 
-/// Adds those of the named destinations that summaries lead to, and what the summaries of named routers lead to. To the others
-/// nothing is offered: they have no entry.
+/// Appends the destinations in `named` to which a summary leads, and the destinations of the
+/// summaries of the routers in `named`. The others have no offers, so they have no entry.
 pub(crate) fn push_named(
     index: &AdvertisedIndex,
     named: &[Dest],
@@ -91,7 +93,8 @@ pub(crate) fn push_named(
     Ok(())
 }
 
-// Adds the destination if a summary leads to it, and what the router's summaries lead to where it is a router.
+// Appends the destination if a summary leads to it, and the destinations of its summaries if it is
+// a router.
 fn push_dest(index: &AdvertisedIndex, dest: &Dest, dests: &mut Vec<Dest>) -> Result<(), Memory>
     ensures { OnOk result (IsPushed index.now dest.now dests.old.items dests.new.items) }
 {
@@ -100,7 +103,7 @@ fn push_dest(index: &AdvertisedIndex, dest: &Dest, dests: &mut Vec<Dest>) -> Res
     Ok(())
 }
 
-// Adds the destination if a summary leads to it.
+// Appends the destination if a summary leads to it.
 fn push_led(index: &AdvertisedIndex, dest: &Dest, dests: &mut Vec<Dest>) -> Result<(), Memory>
     ensures kept { OnOk result (KeepsAll dests.old.items dests.new.items) }
     ensures itself { OnOk result (IsLedTo index.now dest.now → Contains dests.new.items dest.now) }
@@ -111,7 +114,7 @@ fn push_led(index: &AdvertisedIndex, dest: &Dest, dests: &mut Vec<Dest>) -> Resu
     Ok(())
 }
 
-// Adds what the router's summaries lead to, where the destination is a router.
+// Appends the destinations of the router's summaries, if the destination is a router.
 fn push_behind(index: &AdvertisedIndex, dest: &Dest, dests: &mut Vec<Dest>) -> Result<(), Memory>
     ensures kept { OnOk result (KeepsAll dests.old.items dests.new.items) }
     ensures behind { OnOk result (HasAllBehind index.now dest.now dests.new.items) }

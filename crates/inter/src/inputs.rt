@@ -6,7 +6,8 @@ use intra::Intra;
 use lsdb::Database;
 use std::marker::Model;
 
-/// The area whose summaries are examined: the backbone where two areas are active, or the only active one.
+/// The area whose summaries are examined: the backbone if two areas are active, or else the only
+/// active one.
 #[derive(Drop)]
 pub struct ExaminedArea<'a> {
     /// The Area ID.
@@ -28,12 +29,12 @@ impl<'a> Model for ExaminedArea<'a> {
     ghost view = { λ x. record { area = x.area; lsas = x.database.now.lsas } };
 }
 
-/// What inter-area routes are calculated from.
+/// The inputs of inter-area routes.
 #[derive(Drop)]
 pub struct InterInputs<'a> {
-    /// The Router ID of the router that calculates.
+    /// The Router ID of the calculating router.
     pub root: u32,
-    /// None where no area is active.
+    /// The examined area, or `None` if no area is active.
     pub examined: Option<ExaminedArea<'a>>,
     pub intra: &'a Intra,
     pub active: &'a ActiveRanges,
@@ -56,7 +57,7 @@ impl<'a> Model for InterInputs<'a> {
 }
 
 impl InterInputs<'_> {
-    // The Area ID of the examined area.
+    // Returns the Area ID of the examined area.
     pub(crate) fn area(&self) -> Option<u32>
         ensures { result ≡ examined_area self.now }
     {

@@ -24,8 +24,8 @@ use std::alloc::Global;
 use std::hash::RandomState;
 use std::marker::Model;
 
-/// The inter-area routes of a router: the entry of each network, and of each AS boundary router that is not reached in the
-/// examined area.
+/// The inter-area routes of a router: the entry of each network, and of each AS boundary router
+/// that is not reached in the examined area.
 pub struct Inter {
     hashing: RandomState,
     examined: Option<u32>,
@@ -34,7 +34,7 @@ pub struct Inter {
     spent: bool,
 }
 
-// proof: one call drops it, in place of a drop of each part wherever one is held.
+// proof: a value is dropped by one call, not part by part at each exit of a function.
 impl Drop for Inter {
     fn drop(self) {
         let Inter {
@@ -64,7 +64,7 @@ impl Model for Inter {
 }
 
 impl Inter {
-    /// The routes of these inputs, from scratch.
+    /// Builds the routes of these inputs.
     pub fn build(
         alloc: Global,
         inputs: &InterInputs<'_>,
@@ -84,8 +84,13 @@ impl Inter {
         Ok(inter)
     }
 
-    /// Works out again what may differ, and answers the destinations whose entry does, ascending, each once. If memory
-    /// runs out, all is spent: nothing is answered any more, and only `build` makes another.
+    /// Recomputes the entries that may be affected, and returns the destinations whose entry
+    /// changed, in ascending order without duplicates.
+    ///
+    /// # Errors
+    ///
+    /// Returns `Memory` if memory runs out. The routes are then spent: they are empty, and only
+    /// `build` makes others.
     pub fn update(
         &mut self,
         alloc: Global,
@@ -107,7 +112,8 @@ impl Inter {
         dests
     }
 
-    /// The entry of a network or of an AS boundary router; none where it has none, or where all is spent.
+    /// Returns the entry of a network or an AS boundary router, or `None` if it has none or the
+    /// routes are spent.
     pub fn get(&self, dest: Dest) -> Option<&Entry>
         ensures value { option_copied result ≡ map.get self.now.entries dest }
         ensures bounded { IfSome result (λ e. e.now.cost < most_cost) }
@@ -118,7 +124,7 @@ impl Inter {
         }
     }
 
-    /// The destinations that have an entry, in no stated order, each once.
+    /// Returns the destinations that have an entry, in no stated order, without duplicates.
     pub fn dests(&self, alloc: Global) -> Result<Vec<Dest>, Memory>
         ensures exact { IfOk result (λ dests. ListsExactly (HasEntry self.now) dests.items) }
         ensures each_once { IfOk result (λ dests. AllPairs (λ c d. c ≢ d) dests.items) }
@@ -126,7 +132,7 @@ impl Inter {
         self.entries.keys(alloc)
     }
 
-    /// Whether an update ran out of memory.
+    /// Returns true if memory ran out in an update.
     pub fn spent(&self) -> bool
         ensures { result ≡ self.now.spent }
     {
@@ -135,7 +141,7 @@ impl Inter {
 }
 
 impl Inter {
-    // The routes where no area is examined.
+    // Returns the routes if no area is examined.
     fn blank(alloc: Global, hashing: RandomState) -> Inter
         ensures { result ≡ no_routes }
     {
@@ -148,7 +154,7 @@ impl Inter {
         }
     }
 
-    // Updates each part in turn. Out of memory, some parts have followed and others have not.
+    // Updates each part in turn. After an error some parts are updated and others are not.
     fn update_parts(
         &mut self,
         alloc: Global,
@@ -168,7 +174,7 @@ impl Inter {
         Ok(others)
     }
 
-    // The index follows. The answer is the destinations that may get another entry.
+    // Updates the index. Returns the destinations whose entry may change.
     fn follow_index(
         &mut self,
         alloc: Global,

@@ -3,17 +3,18 @@ ghost use Rattle.std.specs.Prelude.{◌≡◌, []};
 use ospf_types::prefix::Prefix;
 use std::alloc::Global;
 
-/// What an update names on its way. Its memory is kept from one update to the next.
+/// The prefixes and routers that an update may change. Its memory is kept from one update to the
+/// next.
 #[derive(Drop)]
 pub(crate) struct Affected {
-    /// Prefixes that may get another entry.
+    /// Prefixes whose entry may change.
     pub(crate) prefixes: Vec<Prefix>,
-    /// Routers of which something else is kept in some area.
+    /// Routers whose kept value changed in some area.
     pub(crate) routers: Vec<u32>,
 }
 
 impl Affected {
-    /// Nothing.
+    /// Creates an empty value.
     pub(crate) fn new(alloc: Global) -> Affected
         ensures prefixes { result.prefixes.items ≡ [] }
         ensures routers { result.routers.items ≡ [] }
@@ -24,7 +25,7 @@ impl Affected {
         }
     }
 
-    /// Takes all out.
+    /// Removes all prefixes and routers.
     pub(crate) fn clear(&mut self)
         ensures prefixes { self.new.prefixes.items ≡ [] }
         ensures routers { self.new.routers.items ≡ [] }

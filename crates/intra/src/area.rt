@@ -1,4 +1,4 @@
-//! What is kept of an area: the index of its LSAs, and the routers that are reached in it.
+//! Per-area state: the index of the area's LSAs, and the routers reached in it.
 ghost use Rattle.std.specs.Prelude.{◌≡◌, OnOk, IfOk, IfSome, IfNone, IsTrue, false, option_copied};
 ghost use Rattle.std.specs.FinMap as map;
 ghost use Rattle.ospf_types.specs.declared.entry.Vertex.{Vertex as VertexValue};
@@ -26,7 +26,7 @@ use std::alloc::Global;
 use std::marker::Model;
 use word_hash::WordHash;
 
-/// What is kept of an area.
+/// The state of an area.
 pub(crate) struct AreaIntra {
     alloc: Global,
     id: u32,
@@ -34,7 +34,7 @@ pub(crate) struct AreaIntra {
     reached: ResultMap<u32, ReachedRouter>,
 }
 
-// proof: one call drops it, in place of a drop of each part wherever one is held.
+// proof: a value is dropped by one call, not part by part at each exit of a function.
 impl Drop for AreaIntra {
     fn drop(self) {
         let AreaIntra {
@@ -68,7 +68,7 @@ impl Model for AreaIntra {
 }
 
 impl AreaIntra {
-    /// What is kept of an area without LSAs.
+    /// Creates the state of an area without LSAs.
     pub(crate) fn new(alloc: Global, id: u32, hashing: WordHash) -> AreaIntra
         ensures { result ≡ empty_area id }
     {
@@ -80,7 +80,7 @@ impl AreaIntra {
         }
     }
 
-    /// The Area ID.
+    /// Returns the Area ID.
     pub(crate) fn id(&self) -> u32
         ensures { result ≡ self.now.id }
     {
@@ -93,14 +93,15 @@ impl AreaIntra {
         &self.index
     }
 
-    /// A border router or AS boundary router that is reached in the area.
+    /// Returns the value that is kept of an area border router or AS boundary router, or `None` if
+    /// the area has none for this Router ID.
     pub(crate) fn router(&self, router: u32) -> Option<&ReachedRouter>
         ensures { option_copied result ≡ map.get self.now.reached router }
     {
         self.reached.get(router)
     }
 
-    /// Adds the routers of which something is kept, each once.
+    /// Appends the Router IDs of the routers that are kept.
     pub(crate) fn push_routers(&self, routers: &mut Vec<u32>) -> Result<(), Memory>
         ensures as_often { OnOk result (HasOnceMore self.now.reached
             routers.old.items routers.new.items) }
@@ -113,10 +114,11 @@ impl AreaIntra {
 }
 
 impl AreaIntra {
-    /// The index takes what the named LSAs say now, and what is kept of the named routers is what they are now. The
-    /// prefixes that may get another entry are added to those that are named: those of LSAs that offer something else,
-    /// those of vertices that are named, and, after a change of an interface, those of the root. So are the routers of
-    /// which something else is kept.
+    /// Updates the index by the changed LSAs, and the routers that changed.
+    ///
+    /// Appends to `named` the prefixes whose entry may change. These are the prefixes of LSAs that
+    /// offer something else and of changed vertices, and the prefixes of the root if an interface
+    /// changed. Appends also the routers whose kept value changed.
     pub(crate) fn follow(
         &mut self,
         rooted: &RootedArea<'_>,
@@ -141,7 +143,7 @@ impl AreaIntra {
         Ok(())
     }
 
-    // The index takes what the named LSAs of the area say now.
+    // Updates the index by the changed LSAs of the area.
     fn follow_keys(
         &mut self,
         area: &AreaInputs<'_>,
@@ -159,7 +161,7 @@ impl AreaIntra {
         Ok(())
     }
 
-    // The index takes what the LSA under the key says now, where it is one of the area.
+    // Updates the index by the LSA with this key, if it is a vertex's LSA in the area.
     fn follow_key(
         &mut self,
         area: &AreaInputs<'_>,
@@ -178,7 +180,7 @@ impl AreaIntra {
         Ok(())
     }
 
-    // Adds what the named vertices of the area offer, and takes what the routers among them are now.
+    // Appends the prefixes of the changed vertices of the area, and updates the routers among them.
     fn follow_vertices(
         &mut self,
         rooted: &RootedArea<'_>,
@@ -198,7 +200,8 @@ impl AreaIntra {
         Ok(())
     }
 
-    // Adds what the vertex offers, and takes what it is now where it is a router, if it is one of the area.
+    // Appends the prefixes of the vertex, and updates it if it is a router. Does nothing if the
+    // vertex is in another area.
     fn follow_named(
         &mut self,
         rooted: &RootedArea<'_>,
@@ -222,7 +225,8 @@ impl AreaIntra {
         self.update_vertex(rooted, vertex, flags, &mut named.routers)
     }
 
-    // Adds what the vertex offers. The answer is the bits of its LSA; none where it has no LSA.
+    // Appends the prefixes of the vertex. Returns the bits of its LSA, or `None` if the index has
+    // no LSA of it.
     fn name_prefixes(
         &self,
         vertex: Vertex,
@@ -241,7 +245,7 @@ impl AreaIntra {
         }
     }
 
-    // Takes what the routers with a named router-LSA of the area are now.
+    // Updates the routers whose router-LSA in the area changed.
     fn update_by_keys(
         &mut self,
         rooted: &RootedArea<'_>,
@@ -258,7 +262,7 @@ impl AreaIntra {
         Ok(())
     }
 
-    // Takes what the router with this router-LSA is now, where it is one of the area.
+    // Updates the router with this router-LSA, if the LSA is in the area.
     fn update_by_key(
         &mut self,
         rooted: &RootedArea<'_>,
@@ -276,7 +280,8 @@ impl AreaIntra {
         self.update_vertex(rooted, vertex, flags, routers)
     }
 
-    // Whether nothing is kept of the vertex, and by its bits nothing is to be, as of most vertices.
+    // Returns true if the vertex is not kept, and its bits do not ask to keep it. This is so for
+    // most vertices.
     fn stays_out(&self, vertex: Vertex, flags: Option<u8>) -> bool
         ensures bits { IsTrue result → has_bits flags ≡ false }
         ensures none { IsTrue result → KeepsNone self.now.reached vertex }
@@ -290,7 +295,7 @@ impl AreaIntra {
         }
     }
 
-    // Takes what the vertex with these bits is now, where it is a router.
+    // Updates the vertex with these bits, if it is a router.
     fn update_vertex(
         &mut self,
         rooted: &RootedArea<'_>,
@@ -309,7 +314,7 @@ impl AreaIntra {
         }
     }
 
-    // Takes what the router with these bits is now, and adds it where something else is kept.
+    // Updates the router with these bits, and appends it if its kept value changed.
     fn update_router(
         &mut self,
         rooted: &RootedArea<'_>,
@@ -329,7 +334,7 @@ impl AreaIntra {
         Ok(())
     }
 
-    // The bits of the vertex's LSA.
+    // Returns the bits of the vertex's LSA.
     fn flags(&self, vertex: Vertex) -> Option<u8>
         ensures { result ≡ flags_in self.now.index vertex }
     {
@@ -340,8 +345,8 @@ impl AreaIntra {
     }
 }
 
-// 16.1 (4): what is to be kept of the router with these bits. Most routers have none, and are not looked up in the
-// tree.
+// 16.1 (4): returns the value to keep of the router with these bits. Most routers have neither bit
+// B nor bit E, and are not looked up in the tree.
 fn reached_now(
     alloc: Global,
     rooted: &RootedArea<'_>,
@@ -364,7 +369,7 @@ fn reached_now(
     keep(alloc, rooted.root, flags, reach)
 }
 
-// Whether there are bits, and bit B or bit E is among them.
+// Returns true if there are bits, and bit B or bit E is set.
 fn has_bits(flags: Option<u8>) -> bool
     ensures { result ≡ has_bits flags }
 {
@@ -374,7 +379,8 @@ fn has_bits(flags: Option<u8>) -> bool
     }
 }
 
-// The vertex that an LSA with this key stands for, where it is one of the area.
+// Returns the vertex of an LSA with this key, or `None` if the LSA is in another database or has no
+// vertex.
 fn vertex_in(area: u32, named: (Scope, Key)) -> Option<Vertex>
     ensures is { IfSome result (λ vertex. NamesVertex area named vertex) }
     ensures none { IfNone result ((v : VertexValue) → NamesVertex area named v → ⊥) }

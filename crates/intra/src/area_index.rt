@@ -1,4 +1,5 @@
-//! The index of an area: what each vertex offers, and who offers each prefix. It follows the area's LSAs only.
+//! The index of an area: the prefixes that each vertex offers, and the vertices that offer each
+//! prefix. It depends on the area's LSAs only.
 ghost use Rattle.std.specs.Prelude.{◌≡◌, ◌≢◌, Some, None, IfOk, IfSome, IsTrue, OnOk, option_copied};
 ghost use Rattle.std.specs.FinMap as map;
 ghost use Rattle.std.specs.List.{AllPairs};
@@ -27,15 +28,15 @@ use std::marker::Model;
 use vertex_map::HintedVertex;
 use word_hash::WordHash;
 
-/// A vertex that offers a prefix, at a metric beside its distance.
+/// A vertex that offers a prefix, and the metric of the offer.
 #[derive(Drop)]
 pub(crate) struct Source {
-    /// It has the place of its row in the area's graph.
+    /// The vertex, with the index of its row in the area's graph as a hint.
     pub(crate) vertex: HintedVertex,
     pub(crate) metric: u16,
 }
 
-/// Fills the places of a collection that hold no source.
+/// Fills the unused elements of an inline collection.
 impl<A: Drop> MadeWith<A> for Source {
     fn made_with(_alloc: A) -> Source {
         Source {
@@ -45,15 +46,16 @@ impl<A: Drop> MadeWith<A> for Source {
     }
 }
 
-/// What each vertex of an area offers, as it was last taken from its LSA, and who offers each prefix.
+/// The offers of each vertex of an area, as its LSA last stated them, and the vertices that offer
+/// each prefix.
 pub(crate) struct AreaIndex {
     alloc: Global,
     offered: IndexMap<Vertex, Offered, WordHash>,
-    // Mostly one vertex offers a prefix, and its source needs no memory of its own.
+    // Usually one vertex offers a prefix. Its source is then stored inline.
     sources: IndexMap<Prefix, SmallVec<Source, 1>, WordHash>,
 }
 
-// proof: one call drops it, in place of a drop of each part wherever one is held.
+// proof: a value is dropped by one call, not part by part at each exit of a function.
 impl Drop for AreaIndex {
     fn drop(self) {
         let AreaIndex {
@@ -84,12 +86,12 @@ impl Model for AreaIndex {
 
     ghost use Rattle.intra.specs.Indexes.{AreSourceLists};
 
-    // A prefix that nobody offers any more is forgotten, and each source is kept once.
+    // A prefix that no vertex offers has no list, and a list has no source twice.
     ghost invariant = { λ i. AreSourceLists (map.from_entries (list_map (λ e. (e.0, e.1.items)) i.sources.entries)) };
 }
 
 impl AreaIndex {
-    /// The index of no LSAs.
+    /// Creates the index of an area without LSAs.
     pub(crate) fn new(alloc: Global, hashing: WordHash) -> AreaIndex
         ensures { result ≡ empty_index }
     {
@@ -100,14 +102,17 @@ impl AreaIndex {
         }
     }
 
-    /// What the vertex offers.
+    /// Returns the bits and offers of the vertex's LSA.
     pub(crate) fn offered(&self, vertex: Vertex) -> Option<&Offered>
         ensures { option_copied result ≡ map.get self.now.offered vertex }
     {
         self.offered.get(&vertex)
     }
 
-    /// The vertices that offer the prefix. They are looked for at a place first, and it is told where they stood.
+    /// Returns the vertices that offer the prefix, with their metrics.
+    ///
+    /// `place` is a hint: the prefix is first looked for at this index. If it is found by its hash
+    /// instead, `place` becomes its index.
     pub(crate) fn sources(&self, prefix: Prefix, place: &mut usize) -> &[Source]
         ensures { result.now ≡ sources_of (map.get self.now.sources prefix) }
     {
@@ -117,7 +122,7 @@ impl AreaIndex {
         }
     }
 
-    // Looks for the prefix by its hash, and tells where its sources stand.
+    // Finds the prefix by its hash, and sets `place` to its index.
     fn find_sources(&self, prefix: Prefix, place: &mut usize) -> &[Source]
         ensures { result.now ≡ sources_of (map.get self.now.sources prefix) }
     {
@@ -130,8 +135,8 @@ impl AreaIndex {
         }
     }
 
-    /// Takes what the LSA that stands for the vertex offers now in the place of what it offered. The prefixes in which
-    /// the two differ are added to those that are dirty.
+    /// Replaces the offers of the vertex by the offers of the LSA that stands for it now. Appends
+    /// the prefixes that the two offer differently to `dirty`.
     pub(crate) fn follow(
         &mut self,
         area: &AreaInputs<'_>,
@@ -167,7 +172,7 @@ impl AreaIndex {
 }
 
 impl AreaIndex {
-    // Takes out what the vertex offers.
+    // Removes the offers of the vertex.
     fn take_out(&mut self, vertex: Vertex) -> Option<Offered>
         requires { IsIndex self.old }
         ensures value { result ≡ map.get self.old.offered vertex }
@@ -179,7 +184,7 @@ impl AreaIndex {
         gone
     }
 
-    // The vertex no longer offers the prefixes of these offers.
+    // Removes the vertex as a source of the prefixes of these offers.
     fn remove_sources(&mut self, vertex: Vertex, offers: &[Offer])
         ensures offered { self.new.offered ≡ self.old.offered }
         ensures gone { AreGone (IsPrefixOf vertex offers.now) self.old self.new }
@@ -189,7 +194,7 @@ impl AreaIndex {
         }
     }
 
-    // The vertex no longer offers the prefix.
+    // Removes the vertex as a source of the prefix.
     fn remove_source(&mut self, vertex: Vertex, prefix: Prefix)
         ensures offered { self.new.offered ≡ self.old.offered }
         ensures gone { AreGone (λ w p. (w ≡ vertex) × (p ≡ prefix)) self.old self.new }
@@ -203,7 +208,7 @@ impl AreaIndex {
         }
     }
 
-    // Puts in what the vertex offers, of which nothing is there.
+    // Inserts the offers of a vertex that has none in the index.
     fn put_in(&mut self, tree: &AreaTree, vertex: Vertex, fresh: Offered) -> Result<(), Memory>
         requires index { IsIndex self.old }
         requires absent { map.get self.old.offered vertex ≡ None }
@@ -216,7 +221,7 @@ impl AreaIndex {
         Ok(())
     }
 
-    // The vertex offers these prefixes too.
+    // Adds the vertex as a source of the prefixes of these offers.
     fn add_sources(&mut self, vertex: &HintedVertex, offers: &[Offer]) -> Result<(), Memory>
         requires absent { OffersNothing self.old vertex.now }
         requires each_once { AllPairs (λ a b. a ≢ b) offers.now }
@@ -229,7 +234,7 @@ impl AreaIndex {
         Ok(())
     }
 
-    // The vertex offers the prefix too.
+    // Adds the vertex as a source of the prefix.
     fn add_source(&mut self, vertex: &HintedVertex, offer: Offer) -> Result<(), Memory>
         requires { IsSource self.old vertex.now offer.prefix offer.metric → ⊥ }
         ensures offered { OnOk result (self.new.offered ≡ self.old.offered) }
@@ -253,7 +258,8 @@ impl AreaIndex {
     }
 }
 
-// Whether the offers are what the LSA that stands for the vertex says.
+// Returns true only if the offers are known to match the LSA that stands for the vertex. False says
+// nothing.
 fn are_as_said(offered: Option<&Offered>, vertex: Vertex, standing: Option<&Checked>) -> bool
     requires { IfSome (option_copied standing) (λ lsa. vertex_of (key_of lsa) ≡ Some vertex) }
     ensures { IsTrue result
@@ -266,7 +272,7 @@ fn are_as_said(offered: Option<&Offered>, vertex: Vertex, standing: Option<&Chec
     }
 }
 
-// What the LSA that stands for the vertex offers, if there is one.
+// Returns the offers of the LSA that stands for the vertex, or `None` if there is no such LSA.
 fn standing_offers(
     alloc: Global,
     vertex: Vertex,
@@ -281,7 +287,7 @@ fn standing_offers(
     }
 }
 
-// The prefixes with their metrics, none where nothing is offered.
+// Returns the prefixes with their metrics, or an empty slice if there are no offers.
 fn listed(offered: Option<&Offered>) -> &[Offer]
     ensures { result.now ≡ offers_of (option_copied offered.entry) }
 {
@@ -291,7 +297,8 @@ fn listed(offered: Option<&Offered>) -> &[Offer]
     }
 }
 
-// Adds the prefixes of the offers that do not stand at one place of both lists. All others are offered alike.
+// Appends the prefixes of the offers that differ at the same index of the two lists. All other
+// prefixes are offered alike.
 fn name_differing(before: &[Offer], after: &[Offer], dirty: &mut Vec<Prefix>) -> Result<(), Memory>
     ensures kept { OnOk result (KeepsAll dirty.old.items dirty.new.items) }
     ensures alike { OnOk result (AreAlike dirty.new.items before.now after.now) }
@@ -310,7 +317,7 @@ fn name_differing(before: &[Offer], after: &[Offer], dirty: &mut Vec<Prefix>) ->
     Ok(())
 }
 
-// Adds the prefixes of the two offers, where they differ.
+// Appends the prefixes of the two offers, if the offers differ.
 fn name_both(one: Offer, other: Offer, dirty: &mut Vec<Prefix>) -> Result<(), Memory>
     ensures kept { OnOk result (KeepsAll dirty.old.items dirty.new.items) }
     ensures named { OnOk result (AreSameOrNamed one other dirty.new.items) }
@@ -323,7 +330,7 @@ fn name_both(one: Offer, other: Offer, dirty: &mut Vec<Prefix>) -> Result<(), Me
     Ok(())
 }
 
-// Leaves out all of the vertex.
+// Removes all sources of the vertex.
 fn leave_out(sources: &mut SmallVec<Source, 1>, vertex: Vertex)
     ensures each_once { HasNoDoubles sources.old.items → HasNoDoubles sources.new.items }
     ensures left { AreLeftOut sources.old.items sources.new.items vertex }

@@ -1,4 +1,5 @@
-//! The entry of a network: the best of what the areas offer (RFC 2328, 16.1 and 16.8).
+//! The choice of the entry of a network: the best of the offers of all areas (RFC 2328, 16.1 and
+//! 16.8).
 ghost use Rattle.std.specs.Prelude.{◌≡◌, ◌↔◌, ◌⊎◌, ◌<◌, List, Some, IfOk, OnOk, IfSome, IsTrue};
 ghost use Rattle.std.specs.List.Sorted.{IsStrictlySortedBy};
 ghost use Rattle.ospf_types.specs.declared.entry.Vertex.TheVariants as vertex_value;
@@ -27,7 +28,7 @@ use std::alloc::Global;
 use std::collections::btree_map::Iter;
 use vertex_map::HintedVertex;
 
-/// What entries are chosen from: the inputs, and what is kept of each of their areas.
+/// The inputs of a choice, and the state of each of their areas.
 #[derive(Drop)]
 pub(crate) struct IndexedInputs<'a> {
     pub(crate) inputs: &'a Inputs<'a>,
@@ -57,7 +58,7 @@ impl<'a> Choose<Prefix, IntraEntry> for IndexedInputs<'a> {
     }
 }
 
-// Where an index had the sources of the network, if it has an entry.
+// Returns the index at which the sources of the network were last found, if it has an entry.
 fn sources_of(standing: Option<&IntraEntry>) -> usize {
     match standing {
         Some(entry) => entry.sources(),
@@ -65,8 +66,8 @@ fn sources_of(standing: Option<&IntraEntry>) -> usize {
     }
 }
 
-// The entry of the network, by the indexes of the areas; none where nothing is offered. Its sources are looked for at the
-// place first.
+// Returns the entry of the network by the indexes of the areas, or `None` if there are no offers.
+// Its sources are first looked for at `place`.
 fn choose(
     alloc: Global,
     indexed: &IndexedInputs<'_>,
@@ -84,7 +85,7 @@ fn choose(
     }
 }
 
-// The intra-area entry of a choice, and where its sources stood.
+// Returns the intra-area entry of a choice. `sources` is the index of its sources.
 fn entry(choice: Choice<AreaCost, Path>, sources: usize) -> IntraEntry
     requires { IsStrictlySortedBy path_cmp choice.items }
     ensures { result ≡ entry_at choice.key choice.items }
@@ -100,7 +101,7 @@ fn entry(choice: Choice<AreaCost, Path>, sources: usize) -> IntraEntry
     IntraEntry::new(entry, sources)
 }
 
-// Offers what each area has for the network, by its index.
+// Adds the offers of each area for the network.
 fn offer_areas(
     best: &mut Best<AreaCost, Path>,
     indexed: &IndexedInputs<'_>,
@@ -111,7 +112,8 @@ fn offer_areas(
         (TakesPaths (IndexOffers indexed.now.inputs.now indexed.now.kept.now prefix)
         best.old best.new) }
 {
-    // 16.8: the paths of least cost unite. At one cost the area with the greater Area ID wins.
+    // 16.8: paths of least cost are combined. At equal costs the area with the greater Area ID
+    // wins.
     let inputs = indexed.inputs;
     for (kept, area) in indexed.kept.iter().zip(inputs.areas) {
         let network = AreaNetwork {
@@ -125,7 +127,7 @@ fn offer_areas(
     Ok(())
 }
 
-// Offers what these sources of an area have for the network.
+// Adds the offers of these sources of an area for the network.
 fn offer_sources(
     best: &mut Best<AreaCost, Path>,
     network: &AreaNetwork<'_>,
@@ -142,7 +144,8 @@ fn offer_sources(
     offer_transit(best, network.area, sources, nearest)
 }
 
-// Offers the source, where it is a stub link. The answer is the nearest transit network, with this source among others.
+// Adds the offers of the source, if it is a stub link. Returns the nearest transit network, with
+// this source included.
 fn offer_source(
     best: &mut Best<AreaCost, Path>,
     network: &AreaNetwork<'_>,
@@ -165,7 +168,7 @@ fn offer_source(
     }
 }
 
-// Offers a stub link of a router.
+// Adds the offers of a stub link of a router.
 fn offer_stub(
     best: &mut Best<AreaCost, Path>,
     network: &AreaNetwork<'_>,
@@ -192,7 +195,8 @@ fn offer_stub(
     }
 }
 
-// Offers a stub link of the root over each interface of the area that is up and lies in the network.
+// Adds a path over each interface that is up, in the area and in the network, for a stub link of
+// the root.
 fn offer_own(
     best: &mut Best<AreaCost, Path>,
     interfaces: Iter<'_, u8, Interface>,
@@ -208,7 +212,7 @@ fn offer_own(
     Ok(())
 }
 
-// Offers a path over the interface, if it is one of the area, is up and lies in the network.
+// Adds a path over the interface, if it is up, in the area and in the network.
 fn offer_over(
     best: &mut Best<AreaCost, Path>,
     interface: (u8, Interface),
@@ -225,7 +229,8 @@ fn offer_over(
     offer_hop(best, key, None, NextHop::Direct(id))
 }
 
-// Whether the interface is one of the area, is up, and lies in the network, by its address or by its peer's.
+// Returns true if the interface is up, in the area, and in the network by its own address or its
+// peer's.
 fn is_over(area: u32, prefix: Prefix, interface: Interface) -> bool
     ensures { IsTrue result ↔ IsOver area prefix interface }
 {
@@ -235,8 +240,8 @@ fn is_over(area: u32, prefix: Prefix, interface: Interface) -> bool
             || (interface.peer > 0 && prefix.contains(interface.peer)))
 }
 
-// 16.1 (4): of transit networks with the prefix only the nearest stands for it, and at one distance the one with the
-// greatest Link State ID.
+// 16.1 (4): if several transit networks have the prefix, only the nearest offers it. At equal
+// distances it is the network with the greatest Link State ID.
 fn offer_transit(
     best: &mut Best<AreaCost, Path>,
     area: &AreaInputs<'_>,
@@ -257,7 +262,7 @@ fn offer_transit(
     }
 }
 
-// The transit network, with the place that its source has.
+// Returns the transit network as a vertex, with the hint of its source.
 fn network_of(sources: &[Source], id: u32) -> HintedVertex
     ensures { result ≡ vertex_value.Network id }
 {
@@ -270,7 +275,7 @@ fn network_of(sources: &[Source], id: u32) -> HintedVertex
     HintedVertex::nowhere(network)
 }
 
-// The nearest transit network, with one more source.
+// Returns the nearest transit network, with this source included.
 fn nearest_with(
     area: &AreaInputs<'_>,
     nearest: Option<(u32, u32)>,
@@ -292,7 +297,8 @@ fn nearest_with(
     }
 }
 
-// Of networks with their distances the nearer, or at one distance the one with the greater number.
+// Returns the nearer of two networks, given as number and distance. At equal distances it is the
+// network with the greater number.
 fn nearer(nearest: Option<(u32, u32)>, other: (u32, u32)) -> (u32, u32)
     ensures one { (result ≡ other) ⊎ (nearest ≡ Some result) }
     ensures other { IsNoFarther result other }
@@ -304,7 +310,7 @@ fn nearer(nearest: Option<(u32, u32)>, other: (u32, u32)) -> (u32, u32)
     }
 }
 
-// The distance of a vertex of the area.
+// Returns the distance of a vertex of the area, or `None` if it is not reached.
 fn distance(area: &AreaInputs<'_>, vertex: &HintedVertex) -> Option<u32>
     ensures value { result ≡ distance_at area.now vertex.now }
     ensures bounded { IfSome result (λ distance. distance < most_distance) }
@@ -312,14 +318,14 @@ fn distance(area: &AreaInputs<'_>, vertex: &HintedVertex) -> Option<u32>
     area.tree.distance_at(vertex)
 }
 
-// The next hops of a vertex of the area.
+// Returns the next hops of a vertex of the area.
 fn hops<'a>(area: &AreaInputs<'a>, vertex: &HintedVertex) -> &'a [NextHop]
     ensures { result.now ≡ hops_at area.now vertex.now }
 {
     area.tree.hops_at(vertex)
 }
 
-// This cost in the area.
+// Returns the key of a path at this cost in the area.
 fn cost_in(area: &AreaInputs<'_>, cost: u32) -> AreaCost
     requires { cost < most_cost }
     ensures { result ≡ (cost, area.now.id) }

@@ -1,15 +1,16 @@
 use ospf_types::entry::Vertex;
 use ospf_types::key::{Dest, Key, Scope};
 
-/// What differs in the inputs of a calculation. It may name more than differs, and what is not there.
+/// The change set that the layers of routes pass on. It may list more than what changed, and things
+/// that do not exist.
 #[derive(Drop)]
 pub struct Dirty {
-    /// Vertices whose distance or next hops differ, each with its Area ID.
+    /// Vertices whose distance or next hops changed, each with its Area ID.
     pub vertices: Vec<(u32, Vertex)>,
-    /// LSAs that came, went, or are used otherwise.
+    /// LSAs that were added or removed, or are used differently, each with its scope.
     pub keys: Vec<(Scope, Key)>,
-    /// Interfaces, by id.
+    /// Changed interfaces, by id.
     pub interfaces: Vec<u8>,
-    /// Destinations whose result in a layer below differs.
+    /// Destinations whose result in a layer below changed.
     pub dests: Vec<Dest>,
 }

@@ -1,4 +1,4 @@
-//! The entry of a network, as it is kept.
+//! The entry of a network, with a hint.
 ghost use Rattle.std.specs.Prelude.{◌≡◌, ◌<◌};
 ghost use Rattle.intra.specs.Intras.{most_cost};
 
@@ -9,11 +9,12 @@ use std::marker::Model;
 /// The intra-area entry of a network.
 pub struct IntraEntry {
     entry: Entry,
-    // Where an index had the sources of the network: they are looked for there first. No answer depends on it.
+    // The index at which the sources of the network were last found. It is a hint: no result
+    // depends on it.
     sources: usize,
 }
 
-// proof: one call drops it, in place of a drop of each part wherever one is held.
+// proof: a value is dropped by one call, not part by part at each exit of a function.
 impl Drop for IntraEntry {
     fn drop(self) {
         let IntraEntry {
@@ -43,7 +44,7 @@ impl IntraEntry {
         IntraEntry { entry, sources }
     }
 
-    /// The entry.
+    /// Returns the entry.
     pub fn entry(&self) -> &Entry
         ensures value { result.now ≡ self.now }
         ensures bounded { result.now.cost < most_cost }

@@ -4,7 +4,7 @@ use ospf_types::config::Interface;
 use std::collections::btree_map::Iter;
 use std::marker::Model;
 
-/// An area, as intra-area routes are calculated from it.
+/// The inputs of intra-area routes in one area.
 #[derive(Drop)]
 pub struct AreaInputs<'a> {
     /// The Area ID.
@@ -35,7 +35,7 @@ impl<'a> Model for AreaInputs<'a> {
     ghost view = { λ a. record { id = a.id; lsas = a.database.now.lsas; tree = a.tree.now } };
 }
 
-/// An area, and the router that calculates: the root of the area's tree.
+/// An area, and the calculating router, which is the root of the area's tree.
 #[derive(Drop)]
 pub(crate) struct RootedArea<'a> {
     /// The Router ID of the root.
@@ -43,12 +43,12 @@ pub(crate) struct RootedArea<'a> {
     pub(crate) area: &'a AreaInputs<'a>,
 }
 
-/// What intra-area routes are calculated from.
+/// The inputs of intra-area routes.
 #[derive(Drop)]
 pub struct Inputs<'a> {
-    /// The Router ID of the router that calculates.
+    /// The Router ID of the calculating router.
     pub root: u32,
-    /// Its areas, always in one order.
+    /// Its areas, always in the same order.
     pub areas: &'a [AreaInputs<'a>],
     /// Its interfaces with their ids.
     pub interfaces: Iter<'a, u8, Interface>,

@@ -33,17 +33,17 @@ use std::marker::Model;
 use std::mem;
 use word_hash::WordHash;
 
-/// The intra-area routes of a router: the entry of each network, and in each area the border routers and AS boundary
-/// routers that are reached.
+/// The intra-area routes of a router: the entry of each network, and in each area the area border
+/// routers and AS boundary routers that are reached.
 pub struct Intra {
     areas: Vec<AreaIntra>,
     entries: ResultMap<Prefix, IntraEntry>,
-    // Memory for an update.
+    // Memory that updates use again.
     named: Affected,
     spent: bool,
 }
 
-// proof: one call drops it, in place of a drop of each part wherever one is held.
+// proof: a value is dropped by one call, not part by part at each exit of a function.
 impl Drop for Intra {
     fn drop(self) {
         let Intra {
@@ -79,7 +79,7 @@ impl Model for Intra {
 }
 
 impl Intra {
-    /// The routes of these inputs, from scratch.
+    /// Builds the routes of these inputs.
     pub fn build(alloc: Global, inputs: &Inputs<'_>, hashing: RandomState) -> Result<Intra, Memory>
         requires { AreReady inputs.now }
         ensures kept { IfOk result (IsIntraOf inputs.now) }
@@ -97,9 +97,15 @@ impl Intra {
         Ok(intra)
     }
 
-    /// Works out again what may differ, and answers the destinations whose result does: networks, and routers of which
-    /// something else is kept in some area; ascending, each once. If memory runs out, all is spent: nothing is
-    /// answered any more, and only `build` makes another.
+    /// Recomputes the results that may be affected, and returns the destinations whose result
+    /// changed, in ascending order without duplicates.
+    ///
+    /// A destination is a network, or a router whose kept value changed in some area.
+    ///
+    /// # Errors
+    ///
+    /// Returns `Memory` if memory runs out. The routes are then spent: they are empty, and only
+    /// `build` makes others.
     pub fn update(
         &mut self,
         alloc: Global,
@@ -121,7 +127,8 @@ impl Intra {
         dests
     }
 
-    /// The entry of a network; none where it is not reached, or where all is spent.
+    /// Returns the entry of a network, or `None` if the network is not reached or the routes are
+    /// spent.
     pub fn get(&self, network: Prefix) -> Option<&Entry>
         ensures value { option_copied result ≡ map.get self.now.entries network }
         ensures bounded { IfSome result (λ e. e.now.cost < most_cost) }
@@ -132,8 +139,10 @@ impl Intra {
         }
     }
 
-    /// The entry of a network, for a caller that asks for networks in ascending order: it keeps `next` from one to the
-    /// next, 0 at first. What the last update answered is read where it was left, and nothing is hashed.
+    /// Returns the entry of a network, as `get` does, but usually without hashing the network.
+    ///
+    /// It is for callers that look up, in ascending order, the destinations that the last update
+    /// returned. They pass the same `next` each time, 0 at first.
     pub fn get_with_hint(&self, network: Prefix, next: &mut usize) -> Option<&Entry>
         ensures value { option_copied result ≡ map.get self.now.entries network }
         ensures bounded { IfSome result (λ e. e.now.cost < most_cost) }
@@ -144,7 +153,7 @@ impl Intra {
         }
     }
 
-    /// The networks that have an entry, in no stated order.
+    /// Returns the networks that have an entry, in no stated order.
     pub fn networks(&self, alloc: Global) -> Result<Vec<Prefix>, Memory>
         ensures exact { IfOk result (λ networks. HaveEntries self.now.entries networks.items) }
         ensures each_once { IfOk result (λ networks. AllPairs (λ p q. p ≢ q) networks.items) }
@@ -152,7 +161,7 @@ impl Intra {
         self.entries.keys(alloc)
     }
 
-    /// The networks that have an entry, each with it, in no stated order.
+    /// Returns the networks that have an entry, with their entries, in no stated order.
     pub fn entries(&self) -> Slice<'_, Prefix, IntraEntry>
         ensures exact { AreEntries self.now.entries result }
         ensures keys { HaveEntries self.now.entries (keys_of result) }
@@ -161,7 +170,8 @@ impl Intra {
         self.entries.entries()
     }
 
-    /// A border router or AS boundary router that is reached in the area, by its Router ID.
+    /// Returns an area border router or AS boundary router that is reached in the area, by its
+    /// Router ID.
     pub fn router(&self, area: u32, router: u32) -> Option<&ReachedRouter>
         ensures { option_copied result ≡ reached_at self.now.areas area router }
     {
@@ -173,8 +183,8 @@ impl Intra {
         None
     }
 
-    /// The border routers and AS boundary routers that are reached, in no stated order, each as often as there are areas
-    /// where it is.
+    /// Returns the Router IDs of the area border routers and AS boundary routers that are reached,
+    /// in no stated order. A router occurs once for each area in which it is reached.
     pub fn routers(&self, alloc: Global) -> Result<Vec<u32>, Memory>
         ensures as_often { IfOk result (λ routers. AreAsOften self.now.areas routers.items) }
         ensures exact { IfOk result (λ routers. AreKept self.now.areas routers.items) }
@@ -186,7 +196,7 @@ impl Intra {
         Ok(routers)
     }
 
-    /// Whether memory ran out in an update.
+    /// Returns true if memory ran out in an update.
     pub fn spent(&self) -> bool
         ensures { result ≡ self.now.spent }
     {
@@ -195,7 +205,7 @@ impl Intra {
 }
 
 impl Intra {
-    // The routes of areas without LSAs.
+    // Returns the routes of areas without LSAs.
     fn blank(alloc: Global, areas: &[AreaInputs<'_>], hashing: WordHash) -> Result<Intra, Memory>
         ensures { IfOk result (λ intra. intra ≡ empty_routes areas.now) }
     {
@@ -211,7 +221,8 @@ impl Intra {
         })
     }
 
-    // Works out again what may differ. After an error some parts followed and others did not.
+    // Recomputes the results that may be affected. After an error some parts are updated and others
+    // are not.
     fn update_parts(
         &mut self,
         alloc: Global,
@@ -232,8 +243,8 @@ impl Intra {
         Ok(dests)
     }
 
-    // The prefixes that may get another entry, and the routers of which something else is kept in some area; both
-    // ascending, each once.
+    // Updates the areas. Returns the prefixes whose entry may change, and the routers whose kept
+    // value changed in some area, both in ascending order without duplicates.
     fn follow(&mut self, alloc: Global, inputs: &Inputs<'_>, dirty: &Dirty) -> Result<Affected, Memory>
         requires ready { AreReady inputs.now }
         requires before { HaveKeptBefore dirty.now inputs.now self.old.areas }
@@ -249,7 +260,8 @@ impl Intra {
         named.clear();
         let areas = self.areas.as_mut_slice();
         follow_areas(areas, inputs, dirty, &mut named)?;
-        // Vertices come in their order, and their prefixes mostly stand in it: few runs, which a stable sort only merges.
+        // The vertices are in order, and usually their prefixes are too. A stable sort merges such
+        // runs.
         named.prefixes.sort()?;
         named.prefixes.dedup();
         named.routers.sort_unstable();
@@ -257,7 +269,7 @@ impl Intra {
         Ok(named)
     }
 
-    // Chooses the entries of the networks anew, and names those of which it differs.
+    // Recomputes the entries of the networks, and appends the networks whose entry changed.
     fn update_entries(
         &mut self,
         alloc: Global,
@@ -287,7 +299,7 @@ impl Intra {
     }
 }
 
-// What is kept of each area follows its LSAs, its tree and the interfaces.
+// Updates the state of each area by its LSAs, its tree and the interfaces.
 fn follow_areas(
     areas: &mut [AreaIntra],
     inputs: &Inputs<'_>,
@@ -312,7 +324,7 @@ fn follow_areas(
     Ok(())
 }
 
-// Adds the keys of all LSAs of the areas.
+// Appends the keys of all LSAs of the areas.
 fn push_all_keys(areas: &[AreaInputs<'_>], keys: &mut Vec<(Scope, Key)>) -> Result<(), Memory>
     ensures { OnOk result (HasKeysOfAll areas.now keys.new.items) }
 {
@@ -322,7 +334,7 @@ fn push_all_keys(areas: &[AreaInputs<'_>], keys: &mut Vec<(Scope, Key)>) -> Resu
     Ok(())
 }
 
-// Adds the keys of all LSAs of the database, with the scope of its area.
+// Appends the keys of all LSAs of the database, with the scope of its area.
 fn push_keys(area: u32, database: &Database, keys: &mut Vec<(Scope, Key)>) -> Result<(), Memory>
     ensures kept { OnOk result (KeepsAll keys.old.items keys.new.items) }
     ensures all { OnOk result (HasKeysOf area database.now.lsas keys.new.items) }

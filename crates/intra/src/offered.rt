@@ -1,4 +1,5 @@
-//! What the LSA of a vertex offers: the prefixes of stub links, or that of the transit network.
+//! The offers of a vertex's LSA: the prefixes of a router's stub links, or the prefix of a transit
+//! network.
 ghost use Rattle.std.specs.Prelude.{◌≡◌, ◌≢◌, Some, IfOk, IfSome, IsTrue, OnOk};
 ghost use Rattle.std.specs.List.{AllPairs, cons_option};
 ghost use Rattle.ospf_types.specs.Lsa.{key_of};
@@ -16,22 +17,23 @@ use result_map::Same;
 use std::alloc::Global;
 use std::marker::Model;
 
-/// A prefix that a vertex offers, at a metric beside its distance: 0 for a transit network.
+/// A prefix that a vertex offers, and its metric: 0 for a transit network. The cost of the offer is
+/// the distance of the vertex plus this metric.
 #[derive(Clone, Copy, PartialEq, Eq, PartialOrd, Ord)]
 pub(crate) struct Offer {
     pub(crate) prefix: Prefix,
     pub(crate) metric: u16,
 }
 
-/// What the LSA of a vertex says beside its links.
+/// The bits and the offers of a vertex's LSA.
 pub(crate) struct Offered {
     /// The bits of a router-LSA (RFC 2328, A.4.2); 0 for a network.
     flags: u8,
-    // Each once.
+    // Without duplicates.
     offers: Vec<Offer>,
 }
 
-// proof: one call drops it, in place of a drop of each part wherever one is held.
+// proof: a value is dropped by one call, not part by part at each exit of a function.
 impl Drop for Offered {
     fn drop(self) {
         let Offered {
@@ -61,7 +63,7 @@ impl Offered {
         self.flags
     }
 
-    /// The prefixes with their metrics, each once.
+    /// Returns the prefixes with their metrics, without duplicates.
     pub(crate) fn offers(&self) -> &[Offer]
         ensures value { result.now ≡ self.now.offers }
         ensures each_once { AllPairs (λ a b. a ≢ b) self.now.offers }
@@ -77,7 +79,8 @@ impl Same for Offered {
 }
 
 impl Offered {
-    /// Whether it is what the LSA of this vertex says, and in its order.
+    /// Returns true only if the LSA of this vertex has these bits and these offers, in this order.
+    /// False says nothing: it is also returned for each transit network.
     pub(crate) fn is_said_by(&self, vertex: Vertex, lsa: &Checked) -> bool
         requires { vertex_of (key_of lsa.now) ≡ Some vertex }
         ensures { IsTrue result → IsOfferedBy vertex lsa.now.body self.now }
@@ -88,7 +91,7 @@ impl Offered {
         }
     }
 
-    // Whether the bits are those of the LSA.
+    // Returns true if the bits equal the bits of the LSA.
     fn has_flags_of(&self, lsa: &Checked) -> bool
         ensures { IsTrue result → self.now.flags ≡ bits_of (flags_of lsa.now.body) }
     {
@@ -96,7 +99,7 @@ impl Offered {
     }
 }
 
-// Whether these are the stub networks of a router-LSA, link by link.
+// Returns true if these are the stub networks of a router-LSA, in the order of its links.
 fn are_stubs(offers: &[Offer], lsa: &Checked) -> bool
     ensures { IsTrue result → offers.now ≡ stubs_of lsa.now.body }
 {
@@ -110,7 +113,8 @@ fn are_stubs(offers: &[Offer], lsa: &Checked) -> bool
     left.is_empty()
 }
 
-// What is left of these after what the link offers; none where they begin otherwise.
+// Returns the offers that remain after the offer of the link, or `None` if they do not begin with
+// it.
 fn after_link<'a>(offers: &'a [Offer], link: Link) -> Option<&'a [Offer]>
     ensures { IfSome result (λ rest. offers.now ≡ cons_option (offer_of_link link) rest.now) }
 {
@@ -123,7 +127,7 @@ fn after_link<'a>(offers: &'a [Offer], link: Link) -> Option<&'a [Offer]>
     }
 }
 
-/// Adds the prefixes of the offers.
+/// Appends the prefixes of the offers.
 pub(crate) fn push_prefixes(offers: &[Offer], prefixes: &mut Vec<Prefix>) -> Result<(), Memory>
     ensures kept { OnOk result (KeepsAll prefixes.old.items prefixes.new.items) }
     ensures offered { OnOk result (HasPrefixesOf offers.now prefixes.new.items) }
@@ -134,7 +138,7 @@ pub(crate) fn push_prefixes(offers: &[Offer], prefixes: &mut Vec<Prefix>) -> Res
     Ok(())
 }
 
-/// What the LSA that stands for the vertex offers.
+/// Returns the bits and offers of the LSA that stands for the vertex.
 pub(crate) fn offers_in(alloc: Global, vertex: Vertex, lsa: &Checked) -> Result<Offered, Memory>
     requires { vertex_of (key_of lsa.now) ≡ Some vertex }
     ensures { IfOk result (IsOfferedBy vertex lsa.now.body) }
@@ -147,7 +151,7 @@ pub(crate) fn offers_in(alloc: Global, vertex: Vertex, lsa: &Checked) -> Result<
     Ok(Offered { flags, offers })
 }
 
-// The stub networks of a router-LSA, each once.
+// Returns the stub networks of a router-LSA, in ascending order without duplicates.
 fn stub_offers(alloc: Global, lsa: &Checked) -> Result<Vec<Offer>, Memory>
     ensures exact { IfOk result (λ offers. HaveSameOffers offers.items (stubs_of lsa.now.body)) }
     ensures each_once { IfOk result (λ offers. AllPairs (λ a b. a ≢ b) offers.items) }
@@ -158,7 +162,7 @@ fn stub_offers(alloc: Global, lsa: &Checked) -> Result<Vec<Offer>, Memory>
     Ok(offers)
 }
 
-// The stub networks of a router-LSA, link by link.
+// Returns the stub networks of a router-LSA, in the order of its links.
 fn each_stub(alloc: Global, lsa: &Checked) -> Result<Vec<Offer>, Memory>
     ensures { IfOk result (λ offers. offers.items ≡ stubs_of lsa.now.body) }
 {
@@ -171,7 +175,7 @@ fn each_stub(alloc: Global, lsa: &Checked) -> Result<Vec<Offer>, Memory>
     Ok(offers)
 }
 
-// What a link offers: a stub link its network (RFC 2328, 12.4.1).
+// Returns the offer of a link: the network, if it is a stub link (RFC 2328, 12.4.1).
 fn stub_offer(link: Link) -> Option<Offer>
     ensures { result ≡ offer_of_link link }
 {
@@ -184,7 +188,7 @@ fn stub_offer(link: Link) -> Option<Offer>
     }
 }
 
-// The network of a network-LSA.
+// Returns the network of a network-LSA.
 fn network_offers(alloc: Global, lsa: &Checked) -> Result<Vec<Offer>, Memory>
     ensures { IfOk result (λ offers. offers.items ≡ transit_offers (prefix_of lsa.now)) }
 {

@@ -1,4 +1,4 @@
-//! What an event changed, at the number of its line in the recording.
+//! The changes that an event made, with the number of its line in the recording.
 ghost use Rattle.std.specs.Prelude.{◌≡◌, ◌++◌, OnOk, string_bytes};
 ghost use Rattle.json_objects.specs.Members.{json_line};
 ghost use Rattle.json_lines.specs.Lines.{set_data, drop_data, due_data, undue_data};
@@ -11,7 +11,11 @@ use route_table::Item;
 use serde_json::Value;
 use summary_lists::DueSummary;
 
-/// The network has this item now: a route, or a discard (RFC 2328, 11.1).
+/// Appends a line `set`: the network has this item now, a route or a discard (RFC 2328, 11.1).
+///
+/// # Errors
+///
+/// Returns `Memory` if memory runs out. The text may then have a part of the line.
 pub fn put_set(line: usize, network: Prefix, item: &Item, text: &mut String) -> Result<(), Memory>
     ensures { OnOk result (string_bytes text.new ≡ string_bytes text.old
         ++ json_line (set_data line network item.now)) }
@@ -25,7 +29,11 @@ pub fn put_set(line: usize, network: Prefix, item: &Item, text: &mut String) -> 
     object.append_to(text)
 }
 
-/// The table has nothing for the network any more.
+/// Appends a line `drop`: the table has nothing for the network any more.
+///
+/// # Errors
+///
+/// Returns `Memory` if memory runs out. The text may then have a part of the line.
 pub fn put_drop(line: usize, network: Prefix, text: &mut String) -> Result<(), Memory>
     ensures { OnOk result (string_bytes text.new ≡ string_bytes text.old
         ++ json_line (drop_data line network)) }
@@ -35,7 +43,12 @@ pub fn put_drop(line: usize, network: Prefix, text: &mut String) -> Result<(), M
     object.append_to(text)
 }
 
-/// The summary is due in the area at this metric now (RFC 2328, 12.4.3).
+/// Appends a line `due`: the summary-LSA is due in the area (in host order) at this metric now
+/// (RFC 2328, 12.4.3).
+///
+/// # Errors
+///
+/// Returns `Memory` if memory runs out. The text may then have a part of the line.
 pub fn put_due(line: usize, area: u32, due: DueSummary, text: &mut String) -> Result<(), Memory>
     ensures { OnOk result (string_bytes text.new ≡ string_bytes text.old
         ++ json_line (due_data line area due)) }
@@ -48,12 +61,17 @@ pub fn put_due(line: usize, area: u32, due: DueSummary, text: &mut String) -> Re
     object.append_to(text)
 }
 
-/// The summary for the destination is due in the area no longer: it is flushed (RFC 2328, 14.1).
+/// Appends a line `undue`: the summary-LSA for the destination is no longer due in the area (in
+/// host order), and is to be flushed (RFC 2328, 14.1).
+///
+/// # Errors
+///
+/// Returns `Memory` if memory runs out. The text may then have a part of the line.
 pub fn put_undue(line: usize, area: u32, dest: Dest, text: &mut String) -> Result<(), Memory>
     ensures { OnOk result (string_bytes text.new ≡ string_bytes text.old
         ++ json_line (undue_data line area dest)) }
 {
-    // Its metric is not told.
+    // The line has no metric, so any will do here.
     let due = DueSummary::of(dest, 0);
     let mut object = Object::of_line(*text.allocator(), line, "undue")?;
     object.put_address("area", area)?;

@@ -1,10 +1,12 @@
-//! What `replay` and `changes` tell, for programs to read: each thing that is told is a JSON object (RFC 8259) on a
-//! line of its own, without spaces. Its member `type` says what the line tells. The members of an object ascend by
-//! name, as `serde_json` keeps them.
+//! The output of `replay` and `changes` as JSON, for programs to read.
 //!
-//! Metrics, costs and serials are numbers. A serial goes up to 18446744073709551615, and a reader that keeps numbers
-//! as floating point is exact only up to 2^53. Addresses, Router IDs and Area IDs are texts, as `"192.0.2.1"`, and so
-//! are networks, as `"192.0.2.0/24"`.
+//! Each line is a JSON object (RFC 8259) without spaces. Its member `type` says what the line
+//! reports. The members of an object ascend by name, as `serde_json` keeps them.
+//!
+//! Metrics, costs and serials are numbers. A serial goes up to 18446744073709551615, and a reader
+//! that keeps numbers as floating point is exact only up to 2^53. Addresses, Router IDs and Area
+//! IDs are strings, as `"192.0.2.1"`, and so are networks, as `"192.0.2.0/24"`. Lines of a
+//! recording are numbered from 1.
 //!
 //! Each function appends one line. If memory runs out, the text may have a part of the line.
 #![tactic(auto)]

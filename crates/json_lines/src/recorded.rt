@@ -1,4 +1,4 @@
-//! A line of a recording.
+//! A line of a recording as an object.
 ghost use Rattle.std.specs.Prelude.{◌≡◌, ◌++◌, OnOk, string_bytes};
 ghost use Rattle.json_objects.specs.Members.{json_line};
 ghost use Rattle.json_lines.specs.Lines.{recorded_data};
@@ -6,7 +6,11 @@ ghost use Rattle.json_lines.specs.Lines.{recorded_data};
 use json_objects::Object;
 use ospf_types::memory::Memory;
 
-/// A line of a recording, without its line feed.
+/// Appends a line `recorded`: a line of a recording, without its line feed.
+///
+/// # Errors
+///
+/// Returns `Memory` if memory runs out. The text may then have a part of the line.
 pub fn put_recorded(line: &str, text: &mut String) -> Result<(), Memory>
     ensures { OnOk result (string_bytes text.new ≡ string_bytes text.old
         ++ json_line (recorded_data line.now)) }

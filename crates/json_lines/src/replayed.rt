@@ -1,4 +1,4 @@
-//! What a line of a recording came to, at its number.
+//! The outcome of a line of a recording, with the number of that line.
 ghost use Rattle.std.specs.Prelude.{◌≡◌, ◌++◌, OnOk, string_bytes};
 ghost use Rattle.json_objects.specs.Members.{json_line};
 ghost use Rattle.json_lines.specs.Lines.{lookup_data, refused_data, behind_data, fault_data};
@@ -9,15 +9,22 @@ use ospf_types::memory::Memory;
 use recording::LineFault;
 use route_table::Match;
 
-/// A look-up of an address, at the number of its line, in the table that followed so many events.
+/// A lookup of an address in a table.
 #[derive(Clone, Copy, Debug, PartialEq, Eq)]
 pub struct Lookup {
+    /// The number of the lookup's line in the recording, from 1.
     pub line: usize,
+    /// The address, in host order.
     pub address: u32,
+    /// The serial of the table.
     pub serial: u64,
 }
 
-/// What the table had for the address: its longest match (RFC 2328, 11.1).
+/// Appends a line `lookup`: the longest match of the address in the table (RFC 2328, 11.1).
+///
+/// # Errors
+///
+/// Returns `Memory` if memory runs out. The text may then have a part of the line.
 pub fn put_lookup(lookup: Lookup, found: &Match, text: &mut String) -> Result<(), Memory>
     ensures { OnOk result (string_bytes text.new ≡ string_bytes text.old
         ++ json_line (lookup_data lookup found.now)) }
@@ -40,7 +47,11 @@ pub fn put_lookup(lookup: Lookup, found: &Match, text: &mut String) -> Result<()
     object.append_to(text)
 }
 
-/// The event, or the roll, was refused, and changed nothing.
+/// Appends a line `refused`: the event or roll was refused, and changed nothing.
+///
+/// # Errors
+///
+/// Returns `Memory` if memory runs out. The text may then have a part of the line.
 pub fn put_refused(line: usize, refusal: Refusal, text: &mut String) -> Result<(), Memory>
     ensures { OnOk result (string_bytes text.new ≡ string_bytes text.old
         ++ json_line (refused_data line refusal)) }
@@ -51,7 +62,12 @@ pub fn put_refused(line: usize, refusal: Refusal, text: &mut String) -> Result<(
     object.append_to(text)
 }
 
-/// The event was taken, but memory ran out over what follows from it: the table is older.
+/// Appends a line `behind`: the event was taken, but memory ran out, and the table does not reflect
+/// the event yet.
+///
+/// # Errors
+///
+/// Returns `Memory` if memory runs out. The text may then have a part of the line.
 pub fn put_behind(line: usize, text: &mut String) -> Result<(), Memory>
     ensures { OnOk result (string_bytes text.new ≡ string_bytes text.old
         ++ json_line (behind_data line)) }
@@ -60,7 +76,11 @@ pub fn put_behind(line: usize, text: &mut String) -> Result<(), Memory>
     object.append_to(text)
 }
 
-/// The line has this fault.
+/// Appends a line `fault`: the fault of the line.
+///
+/// # Errors
+///
+/// Returns `Memory` if memory runs out. The text may then have a part of the line.
 pub fn put_fault(fault: LineFault, text: &mut String) -> Result<(), Memory>
     ensures { OnOk result (string_bytes text.new ≡ string_bytes text.old
         ++ json_line (fault_data fault)) }

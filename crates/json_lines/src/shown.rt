@@ -1,4 +1,4 @@
-//! What is shown at the end of a replay.
+//! The state that is shown at the end of a replay.
 ghost use Rattle.std.specs.Prelude.{◌≡◌, ◌++◌, OnOk, string_bytes};
 ghost use Rattle.json_objects.specs.Members.{json_line};
 ghost use Rattle.json_lines.specs.Lines.{serial_data, item_data, shown_due_data, lsa_data};
@@ -11,7 +11,11 @@ use ospf_types::prefix::Prefix;
 use route_table::Item;
 use summary_lists::DueSummary;
 
-/// How many events were taken, and how many of them the table follows.
+/// Appends a line `serial`: the serial, and the serial of the last event that the table reflects.
+///
+/// # Errors
+///
+/// Returns `Memory` if memory runs out. The text may then have a part of the line.
 pub fn put_serial(serial: u64, built: u64, text: &mut String) -> Result<(), Memory>
     ensures { OnOk result (string_bytes text.new ≡ string_bytes text.old
         ++ json_line (serial_data serial built)) }
@@ -22,7 +26,11 @@ pub fn put_serial(serial: u64, built: u64, text: &mut String) -> Result<(), Memo
     object.append_to(text)
 }
 
-/// A network with its route, or with a discard (RFC 2328, 11.1).
+/// Appends a line `route` or `discard`: a network with its route or discard (RFC 2328, 11.1).
+///
+/// # Errors
+///
+/// Returns `Memory` if memory runs out. The text may then have a part of the line.
 pub fn put_item(network: Prefix, item: &Item, text: &mut String) -> Result<(), Memory>
     ensures { OnOk result (string_bytes text.new ≡ string_bytes text.old
         ++ json_line (item_data network item.now)) }
@@ -42,7 +50,12 @@ pub fn put_item(network: Prefix, item: &Item, text: &mut String) -> Result<(), M
     }
 }
 
-/// A summary that is due in the area (RFC 2328, 12.4.3).
+/// Appends a line `due`: a summary-LSA that is due in the area (RFC 2328, 12.4.3). The Area ID is
+/// in host order.
+///
+/// # Errors
+///
+/// Returns `Memory` if memory runs out. The text may then have a part of the line.
 pub fn put_shown_due(area: u32, due: DueSummary, text: &mut String) -> Result<(), Memory>
     ensures { OnOk result (string_bytes text.new ≡ string_bytes text.old
         ++ json_line (shown_due_data area due)) }
@@ -55,7 +68,14 @@ pub fn put_shown_due(area: u32, due: DueSummary, text: &mut String) -> Result<()
     object.append_to(text)
 }
 
-/// The key of an LSA, its sequence number and checksum in hexadecimal, and its age in seconds (RFC 2328, 12.1).
+/// Appends a line `lsa`: the key, the sequence number, the checksum and the age of an LSA
+/// (RFC 2328, 12.1).
+///
+/// The sequence number and the checksum are in hexadecimal, and the age is in seconds.
+///
+/// # Errors
+///
+/// Returns `Memory` if memory runs out. The text may then have a part of the line.
 pub fn put_lsa(scope: Scope, header: &Header, text: &mut String) -> Result<(), Memory>
     ensures { OnOk result (string_bytes text.new ≡ string_bytes text.old
         ++ json_line (lsa_data scope header.now)) }

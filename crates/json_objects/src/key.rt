@@ -1,4 +1,4 @@
-//! A destination, and the database of an LSA.
+//! Destinations, and the databases of LSAs, as members.
 ghost use Rattle.std.specs.Prelude.{◌≡◌, OnOk, codes};
 ghost use Rattle.json_objects.specs.Members.{PutsMember};
 ghost use Rattle.json_objects.specs.Keys.{dest_data, scope_data};
@@ -8,7 +8,7 @@ use ospf_types::key::{Dest, Scope};
 use ospf_types::memory::Memory;
 
 impl Object {
-    /// A network, or the Router ID of an AS boundary router, under `destination`.
+    /// Puts a network, or the Router ID of an AS boundary router, under `destination`.
     pub fn put_dest(&mut self, dest: Dest) -> Result<(), Memory>
         ensures { OnOk result (PutsMember (codes "destination") (dest_data dest)
             self.old self.new) }
@@ -19,7 +19,7 @@ impl Object {
         }
     }
 
-    /// The database under `scope`: its Area ID, or `"as"` for that of AS-external-LSAs.
+    /// Puts a database under `scope`: its Area ID, or `"as"` for the database of AS-external-LSAs.
     pub fn put_scope(&mut self, scope: Scope) -> Result<(), Memory>
         ensures { OnOk result (PutsMember (codes "scope") (scope_data scope) self.old self.new) }
     {

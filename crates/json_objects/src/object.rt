@@ -1,4 +1,4 @@
-//! A JSON object, put together member by member.
+//! A JSON object that is built member by member.
 ghost use Rattle.std.specs.Prelude.{◌≡◌, ◌++◌, [], ◌∷◌, IfOk, OnOk, codes, false, string_bytes};
 ghost use Rattle.serde_json.specs.Data.{object, string};
 ghost use Rattle.serde_json.specs.View.{view, members_view};
@@ -12,8 +12,10 @@ use serde_json::{Map, Value};
 use std::alloc::Global;
 use std::marker::Model;
 
-/// Members by their names, ascending. In contracts it is the list of them. No number among them is a fraction: the digits
-/// of a fraction are not known.
+/// A JSON object, with its members in ascending order of their names.
+///
+/// No number in it has a fraction, because the digits of a fraction are not known. A `put` that
+/// runs out of memory changes nothing. Contracts see the list of members.
 #[derive(Drop)]
 pub struct Object {
     alloc: Global,
@@ -39,7 +41,7 @@ impl Model for Object {
 }
 
 impl Object {
-    /// An object without members.
+    /// Creates an object without members.
     pub fn new(alloc: Global) -> Object
         ensures { result ≡ [] }
     {
@@ -49,7 +51,7 @@ impl Object {
         }
     }
 
-    /// An object that has its type.
+    /// Creates an object with the member `type`.
     pub fn of_type(alloc: Global, kind: &str) -> Result<Object, Memory>
         ensures { IfOk result (λ o. members_view o
             ≡ members_in ((codes "type", string kind.now) ∷ [])) }
@@ -59,7 +61,8 @@ impl Object {
         Ok(object)
     }
 
-    /// An object that has its type, and the number of a line of a recording, from 1.
+    /// Creates an object with the members `type` and `line`, the number of a line of a recording.
+    /// Lines are numbered from 1.
     pub fn of_line(alloc: Global, line: usize, kind: &str) -> Result<Object, Memory>
         ensures { IfOk result (λ o. members_view o
             ≡ members_in ((codes "line", number_data line) ∷ (codes "type", string kind.now) ∷ [])) }
@@ -69,11 +72,13 @@ impl Object {
         Ok(object)
     }
 
+    /// Returns the allocator of the object.
     pub fn alloc(&self) -> Global {
         self.alloc
     }
 
-    /// Any value without a fraction.
+    /// Puts a value without a fraction under the name. It replaces an earlier value under that
+    /// name.
     pub fn put(&mut self, name: &str, value: Value) -> Result<(), Memory>
         requires { has_float (view value) ≡ false }
         ensures { OnOk result (PutsMember name.now (view value)
@@ -83,6 +88,7 @@ impl Object {
         Ok(())
     }
 
+    /// Puts a number under the name.
     pub fn put_number(&mut self, name: &str, value: u64) -> Result<(), Memory>
         ensures { OnOk result (PutsMember name.now (number_data value)
             self.old self.new) }
@@ -90,6 +96,7 @@ impl Object {
         self.put(name, Value::from(value))
     }
 
+    /// Puts a copy of a text under the name.
     pub fn put_text(&mut self, name: &str, value: &str) -> Result<(), Memory>
         ensures { OnOk result (PutsMember name.now (string value.now)
             self.old self.new) }
@@ -97,6 +104,7 @@ impl Object {
         self.put(name, Value::try_from_str(self.alloc, value)?)
     }
 
+    /// Puts a text under the name.
     pub fn put_string(&mut self, name: &str, value: String) -> Result<(), Memory>
         ensures { OnOk result (PutsMember name.now (string (string_bytes value))
             self.old self.new) }
@@ -104,7 +112,7 @@ impl Object {
         self.put(name, Value::String(value))
     }
 
-    /// An address, a Router ID or an Area ID in host order, as `"192.0.2.1"`.
+    /// Puts an address, a Router ID or an Area ID (in host order) under the name, as `"192.0.2.1"`.
     pub fn put_address(&mut self, name: &str, value: u32) -> Result<(), Memory>
         ensures { OnOk result (PutsMember name.now (address_data value)
             self.old self.new) }
@@ -112,7 +120,7 @@ impl Object {
         self.put_string(name, Address(value).to_string(self.alloc)?)
     }
 
-    /// A network, as `"192.0.2.0/24"`.
+    /// Puts a network under the name, as `"192.0.2.0/24"`.
     pub fn put_network(&mut self, name: &str, value: Prefix) -> Result<(), Memory>
         ensures { OnOk result (PutsMember name.now (network_data value)
             self.old self.new) }
@@ -120,7 +128,7 @@ impl Object {
         self.put_string(name, value.to_string(self.alloc)?)
     }
 
-    /// Bytes in hexadecimal, two digits each, in lower case.
+    /// Puts bytes in hexadecimal under the name, two digits for each, in lower case.
     pub fn put_hexadecimal(&mut self, name: &str, value: &[u8]) -> Result<(), Memory>
         ensures { OnOk result (PutsMember name.now (hex_data value.now)
             self.old self.new) }
@@ -128,7 +136,7 @@ impl Object {
         self.put_string(name, hex::encode(self.alloc, value)?)
     }
 
-    /// The whole object as a value.
+    /// Returns the object as a value.
     pub fn into_value(self) -> Value
         ensures value { view result ≡ object (members_view self) }
         ensures without_fractions { has_float (view result) ≡ false }
@@ -137,6 +145,10 @@ impl Object {
     }
 
     /// Appends the object without spaces, and a line feed.
+    ///
+    /// # Errors
+    ///
+    /// Returns `Memory` if memory runs out. The text may then have a part of the line.
     pub fn append_to(self, text: &mut String) -> Result<(), Memory>
         ensures { OnOk result (string_bytes text.new ≡ string_bytes text.old
             ++ json_line (object (members_view self))) }

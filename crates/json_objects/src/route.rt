@@ -1,4 +1,4 @@
-//! A route (RFC 2328, 11) and its next hops.
+//! Routes with their next hops as members (RFC 2328, 11).
 ghost use Rattle.std.specs.Prelude.{◌≡◌, IfOk, OnOk, codes, false};
 ghost use Rattle.serde_json.specs.View.{view, members_view};
 ghost use Rattle.serde_json.specs.Written.{has_float};
@@ -13,7 +13,7 @@ use serde_json::Value;
 use std::alloc::Global;
 
 impl Object {
-    /// The route under `route`.
+    /// Puts a route under `route`.
     pub fn put_route(&mut self, entry: &Entry) -> Result<(), Memory>
         ensures { OnOk result (PutsMember (codes "route") (route_data entry.now)
             self.old self.new) }
@@ -22,7 +22,7 @@ impl Object {
         self.put("route", route)
     }
 
-    /// The path under `path`.
+    /// Puts a path under `path`.
     pub fn put_path(&mut self, path: &Path) -> Result<(), Memory>
         ensures { OnOk result (PutsMember (codes "path") (path_data path.now)
             self.old self.new) }
@@ -31,7 +31,7 @@ impl Object {
         self.put("path", path)
     }
 
-    // The Area ID, or null for an external route.
+    // Puts the Area ID under `area`, or null for an external route.
     fn put_area(&mut self, area: Option<u32>) -> Result<(), Memory>
         ensures { OnOk result (PutsMember (codes "area") (area_data area)
             self.old self.new) }
@@ -43,7 +43,7 @@ impl Object {
     }
 }
 
-// Costs are metrics.
+// Returns the route as an object. `cost2` is the type 2 metric.
 fn route_value(alloc: Global, entry: &Entry) -> Result<Value, Memory>
     ensures value { IfOk result (λ v. view v ≡ route_data entry.now) }
     ensures without_fractions { IfOk result (λ v. has_float (view v) ≡ false) }
@@ -57,7 +57,7 @@ fn route_value(alloc: Global, entry: &Entry) -> Result<Value, Memory>
     Ok(object.into_value())
 }
 
-// The equal-cost paths, in their order.
+// Returns the equal-cost paths as an array, in their order.
 fn paths_value(alloc: Global, paths: &[Path]) -> Result<Value, Memory>
     ensures { IfOk result (λ v. view v ≡ paths_data paths.now) }
 {
@@ -68,7 +68,7 @@ fn paths_value(alloc: Global, paths: &[Path]) -> Result<Value, Memory>
     Ok(Value::Array(values))
 }
 
-// The next hop, and the border router, or the AS boundary router, that the path leads to.
+// Returns the path as an object: its next hop, and the border router that advertised it, if any.
 fn path_value(alloc: Global, path: &Path) -> Result<Value, Memory>
     ensures value { IfOk result (λ v. view v ≡ path_data path.now) }
     ensures without_fractions { IfOk result (λ v. has_float (view v) ≡ false) }

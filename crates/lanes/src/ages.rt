@@ -1,4 +1,4 @@
-//! The ages of LSAs in seconds.
+//! The ages of LSAs, in seconds.
 ghost use Rattle.std.specs.Prelude.{◌≡◌, ℕ, ◌≤◌, All, length, map, count_by};
 ghost use Rattle.lanes.specs.Ages.{MaxAge, next_age, comes_to_max_age};
 
@@ -7,8 +7,8 @@ use std::simd::prelude::*;
 
 const MAX_AGE: u16 = 3600;
 
-/// A second passes (RFC 2328, 14): each age below MaxAge, 3600 seconds, rises by one. The answer is
-/// how many came to MaxAge by this.
+/// Ages all LSAs by one second (RFC 2328, 14): each age below MaxAge, 3600 seconds, rises by one.
+/// Returns the number of ages that reached MaxAge.
 pub fn second(ages: &mut [u16]) -> usize
     requires { All (λ age. age ≤ MaxAge) ages.old }
     ensures aged { ages.new ≡ map next_age ages.old }
@@ -23,7 +23,7 @@ pub fn second(ages: &mut [u16]) -> usize
     came + second_one_by_one(&mut ages[first..])
 }
 
-// A second passes for one vector of ages. The answer is how many came to MaxAge.
+// Ages one vector of LSAs by one second. Returns the number of ages that reached MaxAge.
 fn second_of_lanes(ages: &mut [u16]) -> usize
     requires full { length ages.old ≡ LANES }
     requires small { All (λ age. age ≤ MaxAge) ages.old }
@@ -36,7 +36,7 @@ fn second_of_lanes(ages: &mut [u16]) -> usize
     next.simd_eq(max_age).to_bitmask().count_ones() as usize
 }
 
-// A second passes, an age at a time. The answer is how many came to MaxAge.
+// Ages LSAs by one second, one at a time. Returns the number of ages that reached MaxAge.
 fn second_one_by_one(ages: &mut [u16]) -> usize
     requires { All (λ age. age ≤ MaxAge) ages.old }
     ensures aged { ages.new ≡ map next_age ages.old }
@@ -51,13 +51,13 @@ fn second_one_by_one(ages: &mut [u16]) -> usize
     came
 }
 
-// A second passes for one age. The answer is whether it came to MaxAge.
+// Ages one LSA by one second. Returns true if its age reached MaxAge.
 fn second_of(age: &mut u16) -> bool
     requires { age.old ≤ MaxAge }
     ensures aged { age.new ≡ next_age age.old }
     ensures came { result ≡ comes_to_max_age age.old }
 {
-    // 14: the age rises by one, and does not pass MaxAge.
+    // 14: the age rises by one, but not past MaxAge.
     let next = *age + 1;
     *age = next.min(MAX_AGE);
     next == MAX_AGE

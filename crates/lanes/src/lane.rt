@@ -1,4 +1,4 @@
-//! Numbers that a vector has lanes of.
+//! The numbers that a vector has lanes of.
 ghost use Rattle.std.specs.Prelude.{◌≡◌, ℕ, length};
 ghost use Rattle.std.specs.List.{list_any};
 
@@ -7,7 +7,7 @@ use std::simd::prelude::*;
 pub(crate) const LANES: usize = 32;
 
 pub(crate) trait Lane: PartialEq + Copy {
-    // Whether the value is among those of one vector.
+    // Returns true if a lane of the vector has the value.
     fn is_among(lanes: &[Self], value: Self) -> bool
         requires { length lanes.now ≡ 32 }
         ensures { result ≡ list_any (λ x. Self.eq x value) lanes.now };

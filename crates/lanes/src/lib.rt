@@ -1,5 +1,7 @@
-//! Columns of numbers, a row an element: the ages of LSAs, which a second raises together
-//! (RFC 2328, 14), and the rows at which a column has a value.
+//! Columns of numbers, with one element for each row.
+//!
+//! `second` ages a column of LSA ages (RFC 2328, 14). `rows_at` and `rows_of` find the rows at
+//! which a column has a value.
 #![tactic(auto)]
 
 mod ages;

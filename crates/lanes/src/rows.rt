@@ -5,7 +5,11 @@ ghost use Rattle.lanes.specs.Rows.{AddsRows, places_by, places_of, rows_by};
 use crate::lane::{LANES, Lane};
 use std::alloc::AllocError;
 
-/// Appends the rows that have this age, ascending. If memory runs out, none is appended.
+/// Appends the rows with this age (in seconds), in ascending order.
+///
+/// # Errors
+///
+/// Returns `AllocError` if memory runs out. No row is appended then.
 pub fn rows_at(ages: &[u16], age: u16, rows: &mut Vec<u32>) -> Result<(), AllocError>
     requires { length ages.now ≤ 2 ^ 32 }
     ensures found { OnOk result (AddsRows rows.old rows.new (places_of age ages.now)) }
@@ -14,8 +18,11 @@ pub fn rows_at(ages: &[u16], age: u16, rows: &mut Vec<u32>) -> Result<(), AllocE
     append_all_or_none(ages, age, rows)
 }
 
-/// Appends the rows that have this router (an Advertising Router), ascending. If memory runs out, none
-/// is appended.
+/// Appends the rows with this Advertising Router (in host order), in ascending order.
+///
+/// # Errors
+///
+/// Returns `AllocError` if memory runs out. No row is appended then.
 pub fn rows_of(routers: &[u32], router: u32, rows: &mut Vec<u32>) -> Result<(), AllocError>
     requires { length routers.now ≤ 2 ^ 32 }
     ensures found { OnOk result (AddsRows rows.old rows.new (places_of router routers.now)) }
@@ -24,7 +31,7 @@ pub fn rows_of(routers: &[u32], router: u32, rows: &mut Vec<u32>) -> Result<(), 
     append_all_or_none(routers, router, rows)
 }
 
-// Appends the rows that have the value, or none of them.
+// Appends all rows with the value, or no row if memory runs out.
 fn append_all_or_none<T: Lane>(
     column: &[T],
     value: T,
@@ -42,8 +49,8 @@ fn append_all_or_none<T: Lane>(
     found
 }
 
-// Appends the rows that have the value, as far as there is memory. It passes over a vector of rows
-// that have other values.
+// Appends the rows with the value until memory runs out. A vector without the value is skipped as a
+// whole.
 fn append<T: Lane>(column: &[T], value: T, rows: &mut Vec<u32>) -> Result<(), AllocError>
     requires { length column.now ≤ 2 ^ 32 }
     ensures found { OnOk result (AddsRows rows.old rows.new (places_by T.eq value column.now)) }
@@ -60,7 +67,7 @@ fn append<T: Lane>(column: &[T], value: T, rows: &mut Vec<u32>) -> Result<(), Al
     append_one_by_one(&column[first..], first, value, rows)
 }
 
-// Appends the rows that have the value, a row at a time, numbered from `first` on.
+// Appends the rows with the value, one row at a time. The first row has the number `first`.
 fn append_one_by_one<T: PartialEq + Copy>(
     column: &[T],
     first: usize,

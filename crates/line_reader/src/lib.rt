@@ -1,4 +1,4 @@
-//! The lines of an input, one at a time, in bounded memory.
+//! A reader of the lines of an input, one at a time, in bounded memory.
 #![tactic(auto)]
 
 mod line;

@@ -1,4 +1,4 @@
-//! A line, as it comes piece by piece.
+//! A line that is read piece by piece.
 ghost use Rattle.std.specs.Prelude.{◌≡◌, ℕ, List, IfOk, OnOk};
 ghost use Rattle.line_reader.specs.Shortened.{shortened};
 ghost use Rattle.line_reader.specs.Tails.{Gathers, GathersUpTo, IsGathered};
@@ -7,11 +7,11 @@ use crate::tail::Tail;
 use memchr::memchr;
 use std::alloc::AllocError;
 
-/// How many bytes of a line are handed on as they are, without the line feed.
+/// The number of bytes of a line that are kept, its line feed not counted.
 pub const LONGEST: usize = 262_144;
 
-/// Appends the bytes before the first line feed to a line, or all of them if there is none. Answers where
-/// the line feed is.
+/// Appends the bytes before the first line feed to the line, or all bytes if they contain none.
+/// Returns the index of the line feed.
 pub(crate) fn gather_line(
     line: &mut Vec<u8>,
     tail: &mut Tail,
@@ -25,7 +25,7 @@ pub(crate) fn gather_line(
     Ok(place)
 }
 
-// Appends bytes to a line. What does not fit into its first `LONGEST` bytes goes into the tail.
+// Appends bytes to the line. Those that do not fit into its first `LONGEST` bytes go into the tail.
 fn gather(line: &mut Vec<u8>, tail: &mut Tail, bytes: &[u8]) -> Result<(), AllocError>
     ensures { OnOk result (Gathers bytes.now line.old.items tail.old line.new.items tail.new) }
 {
@@ -35,7 +35,7 @@ fn gather(line: &mut Vec<u8>, tail: &mut Tail, bytes: &[u8]) -> Result<(), Alloc
     Ok(())
 }
 
-/// Ends a line with the mark of its tail.
+/// Completes the line: appends the mark of its tail, if it has one.
 pub(crate) fn finish(line: &mut Vec<u8>, tail: Tail) -> Result<(), AllocError>
     ensures { OnOk result ((raw : List ℕ) → IsGathered raw line.old.items tail
         → line.new.items ≡ shortened raw) }

@@ -1,4 +1,4 @@
-//! Lines of an input.
+//! The lines of an input.
 ghost use Rattle.std.specs.Prelude.{◌≡◌, ◌≢◌, ◌≤◌, [], OnErr, IfOk, length, drop};
 ghost use Rattle.std.specs.Io.KnownBytes.{IsAtEnd, Keeps, prepend_known};
 ghost use Rattle.line_reader.specs.Taking.{EndsLine, TakesLine};
@@ -11,17 +11,17 @@ use std::alloc::{AllocError, Global};
 use std::io;
 use std::marker::Model;
 
-/// How many bytes are read at once.
+/// The size of the window, in bytes: the most that one read returns.
 const WINDOW: usize = 65_536;
 
-/// Lines of an input. What was read of it and not yet taken is kept in a window of fixed size.
+/// A reader of lines. Bytes that were read and not yet taken are kept in a window of fixed size.
 pub struct LineReader {
     window: Vec<u8>,
     start: usize,
     end: usize,
 }
 
-// proof: one call drops it, in place of a drop of each part wherever one is held.
+// proof: a value is dropped by one call, not part by part at each exit of a function.
 impl Drop for LineReader {
     fn drop(self) {
         let LineReader {
@@ -32,12 +32,12 @@ impl Drop for LineReader {
     }
 }
 
-/// What `LineReader::next` has taken.
+/// The outcome of `LineReader::next`.
 #[derive(Clone, Copy, Debug, PartialEq, Eq)]
 pub enum Next {
     /// A line, up to its line feed.
     Line,
-    /// The last bytes of the input, which have no line feed behind them.
+    /// The last bytes of the input, which have no line feed after them.
     Cut,
     /// Nothing: the input has ended.
     End,
@@ -56,7 +56,11 @@ impl Model for LineReader {
 }
 
 impl LineReader {
-    /// A reader that has read nothing.
+    /// Creates a reader that has read nothing.
+    ///
+    /// # Errors
+    ///
+    /// Returns `AllocError` if memory runs out.
     pub fn new(alloc: Global) -> Result<LineReader, AllocError>
         ensures { IfOk result (λ reader. reader ≡ []) }
     {
@@ -69,14 +73,20 @@ impl LineReader {
         })
     }
 
-    /// Takes the next line into `line`, in place of what is there, without its line feed. Of a line of
-    /// more than `LONGEST` bytes it takes the first `LONGEST`, and one byte for the others: `?` if one of
-    /// them is not a lower-case hexadecimal digit, `0` if they are such digits and oddly many. It takes no
-    /// byte for digits that are evenly many. So a line that is shorter than `LONGEST` is the input's own.
-    /// What stands behind the last line feed of the input is taken like a line.
+    /// Replaces `line` by the next line of the input, without its line feed. The bytes after the
+    /// last line feed of the input are taken as a line too.
     ///
-    /// The input is not read if a line feed was read already. An interrupted read is tried again. After an
-    /// error, what was read of the line is lost.
+    /// A line of up to `LONGEST` bytes is unchanged. A longer one is cut after `LONGEST` bytes.
+    /// Then `?` is appended if one of the other bytes is not a lower-case hexadecimal digit. If all
+    /// of them are, `0` is appended if their number is odd, and nothing if it is even. So a result
+    /// shorter than `LONGEST` is an unchanged line of the input.
+    ///
+    /// The input is not read if a line feed was already read. An interrupted read is repeated.
+    ///
+    /// # Errors
+    ///
+    /// Returns `Read` if the input could not be read, or `Memory` if memory runs out. The bytes of
+    /// the line that were read before are then lost.
     pub fn next<R: io::Read>(
         &mut self,
         input: &mut R,
@@ -101,14 +111,14 @@ impl LineReader {
         Err(ReadFault::Read)
     }
 
-    // What was read and not yet taken.
+    // Returns the bytes that were read and not yet taken.
     fn pending(&self) -> &[u8]
         ensures { result.now ≡ self.now }
     {
         &self.window[self.start..self.end]
     }
 
-    // Takes so many of the pending bytes away.
+    // Removes the first `count` pending bytes.
     fn pass(&mut self, count: usize)
         requires { count ≤ length self.old }
         ensures { self.new ≡ drop count self.old }
@@ -116,7 +126,7 @@ impl LineReader {
         self.start += count;
     }
 
-    // Reads once into the window, in place of what is there. Answers how many bytes came.
+    // Reads once into the window, and drops its previous bytes. Returns the number of bytes read.
     fn refill<R: io::Read>(&mut self, input: &mut R) -> Result<usize, ReadFault>
         ensures bytes { Keeps (R.remaining input.old) (prepend_known self.new (R.remaining input.new)) }
         ensures count { IfOk result (λ n. length self.new ≡ n) }
@@ -131,7 +141,7 @@ impl LineReader {
     }
 }
 
-// Ends the line at the end of the input.
+// Completes the line at the end of the input.
 fn end_line(line: &mut Vec<u8>, tail: Tail) -> Result<Next, ReadFault>
     ensures { IfOk result (EndsLine line.old.items tail line.new.items) }
 {

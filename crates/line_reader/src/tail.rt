@@ -4,12 +4,12 @@ ghost use Rattle.std.specs.Option.{option_to_list};
 ghost use Rattle.std.specs.List.{list_all};
 ghost use Rattle.line_reader.specs.Shortened.{is_hexadecimal, is_odd_number, mark_of};
 
-/// What is kept of the bytes of a line behind its first `LONGEST`.
+/// A summary of the bytes of a line after its first `LONGEST`.
 #[derive(Clone, Copy)]
 pub(crate) struct Tail {
-    /// Each is a lower-case hexadecimal digit.
+    /// True if all of them are lower-case hexadecimal digits.
     are_digits: bool,
-    /// Their number is odd.
+    /// True if their number is odd.
     is_odd: bool,
 }
 
@@ -26,7 +26,7 @@ impl Tail {
         }
     }
 
-    /// The tail with these bytes behind it.
+    /// Returns the tail with these bytes appended.
     pub(crate) fn with(self, bytes: &[u8]) -> Tail
         ensures { (before : List ℕ) → self ≡ tail_of before → result ≡ tail_of (before ++ bytes.now) }
     {
@@ -36,7 +36,7 @@ impl Tail {
         }
     }
 
-    /// The byte that stands for the tail at the end of the line, if one does.
+    /// Returns the byte that replaces the tail at the end of the line, if there is one.
     pub(crate) fn mark(self) -> Option<u8>
         ensures { (bytes : List ℕ) → self ≡ tail_of bytes → option_to_list result ≡ mark_of bytes }
     {

@@ -1,5 +1,7 @@
-//! Tries `prefix_index` against a plain list of networks, and with networks whose hashes collide. It prints how many answers were
-//! compared and how many differ. With the name of a set of networks it measures look-ups and updates beside an ordered map.
+//! Tests `prefix_index` against a plain list of networks, and with networks whose hashes collide.
+//!
+//! It prints how many results were compared and how many differ. With the name of a set of networks
+//! it measures lookups and updates of the index and of an ordered map.
 #![tactic(auto)]
 
 mod ordered;
@@ -22,7 +24,8 @@ use std::{env, io};
 use trial::{Trial, find_all};
 use word_hash::WordHash;
 
-// Networks whose hashes collide where the hash has no keys. A hash map of 20,000 entries has 4,096 groups.
+// Networks whose hashes collide if the hash has no keys. A hash map of 20,000 entries has 4,096
+// groups.
 const COLLIDING: [(&str, Set); 2] = [
     ("one place", Set::OnePlace(20_000, 4_096)),
     ("equal low bits", Set::EqualBits(20_000)),
@@ -42,11 +45,11 @@ fn main(rt: HostRuntime) -> Result<()> {
     }
 }
 
-// What the words ask for.
+// The action that the arguments ask for.
 #[derive(Drop)]
 enum Asked {
     Answers,
-    // By so many threads.
+    // The times of the set, by this number of threads.
     Times(Set, u32),
     TimesBesideWriter(Set, u32),
     Usage,
@@ -72,7 +75,7 @@ fn times(name: &str, threads: &str, has_writer: bool) -> Asked {
     }
 }
 
-// Compares answers, and prints how many.
+// Compares results, and prints their number.
 fn try_index<R: AllocGlobal + RandomSource + Print>(rt: &R) -> Result<()> {
     Trial::run(new_index(rt)?, rt.alloc())?.print(rt)?;
     for (name, set) in COLLIDING {
@@ -87,7 +90,7 @@ fn find_set<R: AllocGlobal + RandomSource + Print>(rt: &R, name: &str, set: Set)
     find_all(rt, &mut index, name, networks.as_slice())
 }
 
-// An index with no values.
+// Creates an empty index.
 fn new_index<R: AllocGlobal + RandomSource, V: Drop>(rt: &R) -> io::Result<PrefixIndex<V>> {
     let hashing = WordHash::new(RandomState::new(rt)?);
     Ok(PrefixIndex::new(rt.alloc(), hashing))

@@ -1,4 +1,5 @@
-//! An ordered map from networks to values, whose look-ups walk down the networks. It is what the index is measured beside.
+//! An ordered map from networks to values, with which the index is compared. A lookup searches
+//! networks of ever shorter length.
 ghost use Rattle.std.specs.Prelude.{◌<◌, ◌≤◌};
 
 use crate::sets::network_around;
@@ -20,7 +21,8 @@ impl OrderedMap {
         }
     }
 
-    // The last network of the map up to that one, in their order, with its value.
+    // Returns the last network of the map, in order, that is not greater than the bound, with its
+    // value.
     fn last_up_to(&self, bound: Prefix) -> Option<(&Prefix, &Value)> {
         self.items.range(..=bound).next_back()
     }
@@ -28,7 +30,7 @@ impl OrderedMap {
 
 impl Table for OrderedMap {
     fn longest(&self, address: u32) -> Option<(Prefix, &Value)> {
-        // No network of the map that contains the address is longer.
+        // No network of the map that contains the address is longer than `length`.
         let mut length = 32;
         while let Some((network, value)) = self.last_up_to(network_around(address, length)) {
             if network.contains(address) {
@@ -52,8 +54,8 @@ impl Table for OrderedMap {
     }
 }
 
-// The greatest length below that one at which the network around the address begins no later than
-// the bound, or 0.
+// Returns the greatest length below `length` at which the network around the address begins no
+// later than the bound, or 0.
 fn shorter(address: u32, length: u8, bound: u32) -> u8
     requires some { 0 < length }
     requires within { length ≤ 32 }

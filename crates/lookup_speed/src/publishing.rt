@@ -1,4 +1,4 @@
-//! Measures look-ups in a table that a writer changes and publishes all the time, in two copies.
+//! Measures lookups in a table of two copies, which a writer changes and publishes all the time.
 ghost use Rattle.std.specs.Prelude.{◌<◌};
 
 use crate::new_index;
@@ -20,21 +20,21 @@ use std::sync::atomic::{AtomicU64, Ordering};
 use std::thread::{Threads, join, map_vec};
 use std::time::{Clock, Instant};
 
-// How many addresses a reader looks up each time that it enters the table.
+// The number of addresses that a reader looks up each time that it enters the table.
 const BURST: usize = 32;
 
 const PASSES: u32 = 10;
-// The writer ends with the readers, and at the latest after so many publications.
+// The greatest number of publications. The writer ends with the readers, or after this number.
 const PUBLICATIONS: u64 = 1_000_000;
 
-/// A network gets this value.
+/// A change that gives a network a value.
 #[derive(Clone, Copy)]
 struct Change {
     network: Prefix,
     value: Value,
 }
 
-/// A copy of the table. A contract says nothing of what is in it.
+/// A copy of the table. No contract describes its contents.
 #[derive(Drop)]
 struct Shown<T> {
     table: T,
@@ -54,7 +54,12 @@ impl<T: Table + Drop> Absorb<Change> for Shown<T> {
     }
 }
 
-/// Measures so many readers beside a writer, and prints nanoseconds of a look-up by each, and of a publication.
+/// Measures readers on `threads` threads together with a writer. Prints nanoseconds of a lookup by
+/// each reader, and of a publication.
+///
+/// # Errors
+///
+/// Returns an error if memory runs out, or if the clock or standard output fails.
 pub fn measure_beside_writer<R: AllocGlobal + RandomSource + Clock + Print + Threads + Wait + Sync>(
     rt: &R,
     set: Set,
@@ -85,7 +90,7 @@ fn measure_tables<R: AllocGlobal + RandomSource + Clock + Print + Threads + Wait
     run(rt, "index", new_index(rt)?, new_index(rt)?, load)
 }
 
-/// What is looked up and changed.
+/// The networks that are changed, the addresses that are looked up, and the number of readers.
 #[derive(Clone, Copy)]
 struct Load<'a> {
     networks: &'a [Prefix],
@@ -114,21 +119,21 @@ fn run<R: AllocGlobal + Clock + Print + Threads + Wait + Sync, T: Table + Drop +
     Ok(())
 }
 
-/// The times of a look-up and of a publication, and the sum of what was found.
+/// The times of a lookup and of a publication, and the sum of the numbers found.
 struct Times {
     lookup: Each,
     publication: Each,
     sum: u64,
 }
 
-// The table with the networks.
+// Returns the table with the networks.
 fn with_networks<T: Table + Drop>(table: T, networks: &[Prefix]) -> Result<Shown<T>, Memory> {
     let mut table = table;
     insert_all(&mut table, networks)?;
     Ok(Shown { table })
 }
 
-// A reader for each thread.
+// Creates a reader for each thread.
 fn readers_of<R: AllocGlobal + Wait, T: Table + Drop + Send + Sync>(
     rt: &R,
     writer: &WriteHandle<Shown<T>, Change, &R>,
@@ -167,7 +172,7 @@ fn read_and_publish<R: AllocGlobal + Clock + Threads + Wait + Sync, T: Table + D
     })
 }
 
-// The time of a look-up by one reader, and the sum of what all found.
+// Returns the time of a lookup by one reader, and the sum of the numbers that all readers found.
 fn added(times: &[(u64, u64)], lookups: usize) -> (Each, u64) {
     let (mut time, mut sum): (u64, u64) = (0, 0);
     for one in times {
@@ -177,7 +182,8 @@ fn added(times: &[(u64, u64)], lookups: usize) -> (Each, u64) {
     (Each(time, lookups.saturating_mul(times.len())), sum)
 }
 
-// Looks the addresses up, and returns the nanoseconds of the fastest pass, and the sum of what was found.
+// Looks the addresses up. Returns the nanoseconds of the fastest pass, and the sum of the numbers
+// found.
 fn read<R: Clock, T: Table + Drop>(
     rt: &R,
     reader: ReadHandle<Shown<T>>,
@@ -219,7 +225,7 @@ fn read_once<T: Table + Drop>(
     sum
 }
 
-// Replaces a value and publishes, until no reader is left, and returns the nanoseconds of a publication.
+// Replaces values and publishes until no reader is left. Returns the nanoseconds of a publication.
 fn publish<R: Clock + Wait, T: Table + Drop>(
     rt: &R,
     writer: WriteHandle<Shown<T>, Change, &R>,
@@ -232,7 +238,7 @@ fn publish<R: Clock + Wait, T: Table + Drop>(
     Ok(Each(nanoseconds_since(rt, start)?, made))
 }
 
-// How many publications there were.
+// Replaces values and publishes until no reader is left. Returns the number of publications.
 fn publish_all<R: Wait, T: Table + Drop>(
     writer: &mut WriteHandle<Shown<T>, Change, &R>,
     networks: &[Prefix],

@@ -1,4 +1,4 @@
-//! Numbers that look random. Equal seeds give equal numbers.
+//! Pseudo-random numbers. Equal seeds give equal numbers.
 ghost use Rattle.std.specs.Prelude.{◌<◌};
 
 /// The state of a generator (splitmix64).
@@ -12,7 +12,7 @@ impl Random {
         Random { state: seed }
     }
 
-    /// The next number.
+    /// Returns the next number.
     pub fn number(&mut self) -> u64 {
         self.state = self.state.wrapping_add(0x9e37_79b9_7f4a_7c15);
         let mixed = (self.state ^ (self.state >> 30)).wrapping_mul(0xbf58_476d_1ce4_e5b9);
@@ -20,7 +20,7 @@ impl Random {
         mixed ^ (mixed >> 31)
     }
 
-    /// The next number, below a bound.
+    /// Returns the next number, below a bound.
     pub fn below(&mut self, bound: u32) -> u32
         requires { 0 < bound }
         ensures { result < bound }
@@ -28,12 +28,12 @@ impl Random {
         self.address() % bound
     }
 
-    /// The next address.
+    /// Returns the next address (in host order).
     pub fn address(&mut self) -> u32 {
         (self.number() >> 32) as u32
     }
 
-    /// One of the items, or `None` where there are none.
+    /// Returns one of the items, or `None` if there are no items.
     pub fn pick<T: Copy>(&mut self, items: &[T]) -> Option<T> {
         let count = u32::try_from(items.len()).unwrap_or(u32::MAX);
         if count == 0 {

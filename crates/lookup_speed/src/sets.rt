@@ -8,19 +8,21 @@ use std::alloc::{AllocError, Global};
 /// A set of networks.
 #[derive(Clone, Copy)]
 pub enum Set {
-    /// Networks of 16 to 24 bits anywhere: so many, less those that came twice.
+    /// This number of networks of 16 to 24 bits anywhere, less duplicates.
     Anywhere(u32),
-    /// The links of 100 areas, 95,000 externals in 20,000 blocks of 16 bits, and a default.
+    /// The links of 100 areas, 95,000 external networks in 20,000 blocks of 16 bits, and a default
+    /// route.
     Ospf,
-    /// Host routes, each in a /24 of its own.
+    /// Host routes, each in its own /24.
     Hosts,
     /// Host routes in two blocks of 16 bits.
     Dense,
-    /// Addresses with a network of each length.
+    /// Addresses with a network of each length from 1 to 32.
     Nested,
-    /// So many host routes that a hash without keys gives one place in a hash map, which has so many groups of entries then.
+    /// Host routes that a hash without keys puts at one place of a hash map: their number, and the
+    /// number of groups of entries of the map.
     OnePlace(u32, u32),
-    /// So many host routes whose words have the same 20 lowest bits.
+    /// This number of host routes whose words have the same 20 lowest bits.
     EqualBits(u32),
 }
 
@@ -34,9 +36,9 @@ const SETS: [(&str, Set); 7] = [
     ("colliding", Set::OnePlace(100_000, 16_384)),
 ];
 
-// With this number the library's hash without keys begins.
+// The start value of the library's hash without keys.
 const START: u64 = 0x243f_6a88_85a3_08d3;
-// By this number it multiplies a word of eight bytes.
+// The factor by which that hash multiplies a word of eight bytes.
 const MULTIPLIER: u64 = 0x9e37_79b9_7f4a_7c05;
 // The low half of 64 bits.
 const LOW: u64 = 0xffff_ffff;
@@ -51,7 +53,11 @@ impl Set {
         None
     }
 
-    /// The networks of the set, each once, in no order.
+    /// Returns the networks of the set, in no order, without duplicates.
+    ///
+    /// # Errors
+    ///
+    /// Returns an error if memory runs out.
     pub fn networks(self, alloc: Global) -> Result<Vec<Prefix>, AllocError> {
         let mut random = Random::new(1);
         let mut networks = Vec::new(alloc);
@@ -90,7 +96,7 @@ fn push_anywhere(
 fn push_ospf(networks: &mut Vec<Prefix>, random: &mut Random) -> Result<(), AllocError> {
     networks.push(network_around(0, 0))?;
     for link in 0..12_000 {
-        // The area's links lie in 10.area.0.0/16.
+        // The links of an area are in 10.AREA.0.0/16.
         let address = 0x0a00_0000 + (link % 100 << 16) + random.below(65536);
         let length = [24, 25, 26, 27, 28, 29, 30, 32][random.below(8) as usize];
         networks.push(network_around(address, length))?;
@@ -141,7 +147,7 @@ fn push_one_place(networks: &mut Vec<Prefix>, count: u32, groups: u32) -> Result
     Ok(())
 }
 
-// The part of its hash by which a hash map without keys finds the network.
+// Returns the part of a network's hash by which a hash map without keys finds the network.
 fn hash_without_keys(network: Prefix) -> u32 {
     let folded = fold_product(START ^ network_word(network), MULTIPLIER);
     ((folded >> 32) ^ (folded & LOW)) as u32
@@ -159,7 +165,7 @@ fn push_equal_bits(networks: &mut Vec<Prefix>, count: u32) -> Result<(), AllocEr
     Ok(())
 }
 
-/// The network of that length around the address.
+/// Returns the network of this length that contains the address (in host order).
 pub fn network_around(address: u32, length: u8) -> Prefix
     requires { length ≤ 32 }
 {
@@ -169,7 +175,7 @@ pub fn network_around(address: u32, length: u8) -> Prefix
     }
 }
 
-/// A number of its own for each network, by which it is hashed.
+/// Returns a number that only this network has, and by which it is hashed.
 pub fn network_word(network: Prefix) -> u64 {
     u64::from(network.address()) * 256 + u64::from(network.length())
 }
@@ -181,7 +187,12 @@ fn shuffle(networks: &mut Vec<Prefix>, random: &mut Random) {
     }
 }
 
-/// So many addresses, each in one of the networks.
+/// Returns `count` addresses (in host order), each in one of the networks. Returns an empty list if
+/// `networks` is empty.
+///
+/// # Errors
+///
+/// Returns an error if memory runs out.
 pub fn addresses(alloc: Global, networks: &[Prefix], count: usize) -> Result<Vec<u32>, AllocError> {
     let mut random = Random::new(2);
     let mut addresses = Vec::with_capacity(alloc, count)?;
@@ -197,7 +208,11 @@ pub fn addresses(alloc: Global, networks: &[Prefix], count: usize) -> Result<Vec
     Ok(addresses)
 }
 
-/// So many of these addresses, in no order.
+/// Returns `count` of these addresses, in no order.
+///
+/// # Errors
+///
+/// Returns an error if memory runs out.
 pub fn repeated(alloc: Global, some: &[u32], count: usize) -> Result<Vec<u32>, AllocError> {
     let mut random = Random::new(3);
     let mut addresses = Vec::with_capacity(alloc, count)?;

@@ -1,4 +1,4 @@
-//! Measures the index beside the ordered map. Every time is that of the fastest of several passes.
+//! Measures the index and the ordered map. Each time is the least time of several passes.
 
 use crate::new_index;
 use crate::ordered::OrderedMap;
@@ -16,18 +16,23 @@ use std::thread::{Threads, map_indices};
 use std::time::{Clock, Instant};
 use std::{fmt, fs, io};
 
-/// How many addresses are looked up in a pass.
+/// The number of addresses that are looked up in a pass.
 pub const LOOKUPS: usize = 262_144;
-// How many of them differ, if they are hot.
+// The number of different addresses among the hot ones, at most.
 const HOT: usize = 1_000;
-// How many networks are updated in a pass, if there are twice as many.
+// The number of networks that are updated in a pass, if there are twice as many networks.
 const UPDATES: usize = 2_000;
 
 const PASSES: u32 = 20;
-// After so many seconds no further pass begins.
+// The number of seconds after which no further pass begins.
 const ENOUGH: u64 = 10;
 
-/// Measures look-ups, by so many threads at a time, and updates, and prints a line for each of the two tables.
+/// Measures lookups by `threads` threads at a time, and updates. Prints a line for each of the two
+/// tables.
+///
+/// # Errors
+///
+/// Returns an error if memory runs out, or if a file, the clock or standard output fails.
 pub fn measure<R: Files + AllocGlobal + RandomSource + Clock + Print + Threads + Sync>(
     rt: &R,
     set: Set,
@@ -63,7 +68,7 @@ fn measure_both<
     Ok(())
 }
 
-// The passes of the two tables take turns, so that what else the machine does slows both.
+// The passes of the two tables alternate, so that other load on the machine slows both.
 fn run_passes<
     R: AllocGlobal + Clock + Threads + Sync,
     A: Table + Drop + Sync,
@@ -115,7 +120,7 @@ impl Asked {
     }
 }
 
-/// What the tables are asked.
+/// The networks and addresses of a pass, and the number of threads.
 #[derive(Clone, Copy)]
 struct Load<'a> {
     networks: &'a [Prefix],
@@ -124,25 +129,25 @@ struct Load<'a> {
     threads: usize,
 }
 
-/// A table, with what was measured.
+/// A table and its measurements.
 #[derive(Drop)]
 struct Measured<T> {
     table: T,
-    // Kilobytes.
+    // The memory of the table, in kilobytes.
     memory: u64,
-    // Nanoseconds of a pass.
+    // The times of a pass, in nanoseconds.
     build: u64,
     random: u64,
     hot: u64,
     replace: u64,
     remove: u64,
     insert: u64,
-    // Of all numbers that were found.
+    // The sum of all numbers that were found.
     sum: u64,
 }
 
 impl<T: Table + Drop + Sync> Measured<T> {
-    // Gives each of the networks a value.
+    // Builds the table by giving each network a value.
     fn build<R: Files + AllocGlobal + Clock>(
         rt: &R,
         table: T,
@@ -191,7 +196,7 @@ impl<T: Table + Drop + Sync> Measured<T> {
         Ok(())
     }
 
-    // Replaces the values of the networks, takes them out and puts them in again.
+    // Replaces the values of the networks, removes the networks, and inserts them again.
     fn update(&mut self, rt: &impl Clock, networks: &[Prefix]) -> Result<()> {
         let start = Instant::now(rt)?;
         insert_all(&mut self.table, networks)?;
@@ -208,7 +213,7 @@ impl<T: Table + Drop + Sync> Measured<T> {
 }
 
 impl<T> Measured<T> {
-    // Nanoseconds, but for the build in milliseconds and the memory in megabytes.
+    // Prints nanoseconds, but the build in milliseconds and the memory in megabytes.
     fn print(&self, rt: &impl Print, name: &str, load: &Load<'_>) -> io::Result<()> {
         let networks = load.networks.len();
         let (random, hot) = (Each(self.random, LOOKUPS), Each(self.hot, LOOKUPS));
@@ -222,7 +227,7 @@ impl<T> Measured<T> {
     }
 }
 
-/// A number for each of so many, with one place behind the point.
+/// A total and a count, printed as their quotient with one decimal.
 #[derive(Clone, Copy)]
 pub struct Each(pub u64, pub usize);
 
@@ -237,7 +242,7 @@ impl Display for Each {
     }
 }
 
-// The networks that are updated.
+// Returns the networks that are updated.
 fn some_of(networks: &[Prefix]) -> &[Prefix] {
     networks
         .get(..UPDATES.min(networks.len() / 2))
@@ -257,7 +262,7 @@ fn remove_all<T: Table>(table: &mut T, networks: &[Prefix]) {
     }
 }
 
-// Looks up all addresses in each of so many threads, and adds up what is found.
+// Looks up all addresses in each thread, and returns the sum of the numbers found.
 fn found_by_threads<R: AllocGlobal + Threads + Sync, T: Table + Sync>(
     rt: &R,
     table: &T,
@@ -277,7 +282,7 @@ fn found_by_threads<R: AllocGlobal + Threads + Sync, T: Table + Sync>(
     )
 }
 
-// Looks up all addresses. Each thread begins elsewhere.
+// Looks up all addresses. Each thread begins at another address.
 fn found_from<T: Table>(table: &T, addresses: &[u32], thread: usize, sum: u64) -> u64 {
     let begin = (addresses.len() / 8)
         .saturating_mul(thread)
@@ -286,8 +291,10 @@ fn found_from<T: Table>(table: &T, addresses: &[u32], thread: usize, sum: u64) -
     found(table, last, found(table, first, sum))
 }
 
-// Looks up the addresses, and mixes the numbers that are found into the sum. No other place looks up in the table, so the
-// compiler puts the look-up into the loop, as into a forwarder's.
+// Looks up the addresses, and mixes the numbers found into the sum.
+//
+// No other function calls `Table::longest`, so the compiler inlines the lookup into the loop, as in
+// a forwarder.
 pub fn found<T: Table>(table: &T, addresses: &[u32], sum: u64) -> u64 {
     let mut sum = sum;
     for address in addresses {
@@ -300,7 +307,8 @@ pub fn found<T: Table>(table: &T, addresses: &[u32], sum: u64) -> u64 {
     sum
 }
 
-// For how many addresses another number is found: each network's value has a number of its own.
+// Returns the number of addresses for which the tables find different numbers. Each network's value
+// has its own number.
 fn differing<A: Table, B: Table>(one: &A, other: &B, addresses: &[u32]) -> u64 {
     let mut differ: u64 = 0;
     for address in addresses.chunks(1) {
@@ -318,7 +326,7 @@ pub fn nanoseconds_since(rt: &impl Clock, start: Instant) -> io::Result<u64> {
     Ok(u64::try_from(start.elapsed(rt)?.as_nanos()).unwrap_or(u64::MAX))
 }
 
-// The memory of the process, in kilobytes.
+// Returns the resident memory of the process, in kilobytes.
 fn resident<R: Files + AllocGlobal>(rt: &R) -> io::Result<u64> {
     let text = fs::read_to_string(rt, "/proc/self/statm")?;
     let pages: Option<u64> = text

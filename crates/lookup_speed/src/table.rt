@@ -1,11 +1,11 @@
-//! What the ordered map and the index have in common.
+//! The operations that the ordered map and the index share.
 
 use crate::sets::network_word;
 use ospf_types::memory::Memory;
 use ospf_types::prefix::Prefix;
 use prefix_index::PrefixIndex;
 
-/// What a network has: 56 bytes.
+/// The value of a network, of 56 bytes.
 #[derive(Clone, Copy)]
 pub struct Value {
     pub number: u64,
@@ -13,7 +13,7 @@ pub struct Value {
 }
 
 impl Value {
-    /// A value that has the network's word.
+    /// Returns a value with the network's word as its number.
     pub fn of(network: Prefix) -> Value {
         Value {
             number: network_word(network),
@@ -22,9 +22,9 @@ impl Value {
     }
 }
 
-/// Values by network.
+/// A table of values by network.
 pub trait Table {
-    /// The longest network that contains the address, with its value.
+    /// Returns the longest network that contains the address (in host order), with its value.
     fn longest(&self, address: u32) -> Option<(Prefix, &Value)>;
 
     fn insert(&mut self, network: Prefix, value: Value) -> Result<(), Memory>;

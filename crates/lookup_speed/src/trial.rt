@@ -1,4 +1,5 @@
-//! Compares an index with a plain list of networks, which is searched from end to end. Looks for networks whose hashes collide.
+//! Compares an index with a plain list of networks that is searched from end to end. It also looks
+//! up networks whose hashes collide.
 
 use crate::random::Random;
 use crate::sets::{network_around, network_word};
@@ -9,14 +10,14 @@ use std::alloc::Global;
 use std::io;
 use std::io::Print;
 
-// A run begins with no networks, and has at most so many.
+// The greatest number of networks in each run. A run begins with no networks.
 const RUNS: [usize; 5] = [300, 3, 100, 10, 300];
-// It has so many steps. Each is an update, a longest match and a value.
+// The number of steps of a run. Each is an update, a longest match and a value.
 const STEPS: u32 = 10_000;
-// All networks are compared once in so many steps.
+// The number of steps after which all networks are compared.
 const WALK: u32 = 2_500;
 
-// The networks lie around these addresses, so that they nest.
+// The addresses around which the networks are chosen, so that they nest.
 const CENTRES: [u32; 8] = [
     0,
     0x0a00_0001,
@@ -31,11 +32,11 @@ const CENTRES: [u32; 8] = [
 // A network with its value.
 type Entry = (Prefix, u64);
 
-/// An index and a list with the same networks and values, and what was done with them.
+/// An index and a list with the same networks and values, and counts of the steps.
 #[derive(Drop)]
 pub struct Trial {
     index: PrefixIndex<u64>,
-    // In no order, each network once.
+    // The networks in no order, without duplicates.
     plain: Vec<Entry>,
     random: Random,
     insertions: u64,
@@ -43,12 +44,16 @@ pub struct Trial {
     matches: u64,
     values: u64,
     walks: u64,
-    // How many answers differ.
+    // The number of results that differ.
     differ: u64,
 }
 
 impl Trial {
-    /// Changes and compares an index that has no values.
+    /// Changes an empty index, and compares it with a list.
+    ///
+    /// # Errors
+    ///
+    /// Returns `Memory` if memory runs out.
     pub fn run(index: PrefixIndex<u64>, alloc: Global) -> Result<Trial, Memory> {
         let mut trial = Trial {
             index,
@@ -78,7 +83,7 @@ impl Trial {
         println!(rt; "{differ} differ")
     }
 
-    // One run, with at most so many networks.
+    // Runs one run, with at most `most` networks.
     fn change_and_compare(&mut self, most: usize) -> Result<(), Memory> {
         for step in 0..STEPS {
             if step % 5 < 3 {
@@ -95,7 +100,8 @@ impl Trial {
         Ok(())
     }
 
-    // Gives a network a value. Where there are as many networks as there may be, it is one of them.
+    // Gives a network a value. If the number of networks is the greatest allowed, it is one of
+    // them.
     fn insert(&mut self, most: usize) -> Result<(), Memory> {
         let mut network = self.network();
         if self.plain.len() >= most {
@@ -109,7 +115,7 @@ impl Trial {
         Ok(())
     }
 
-    // Takes out one of the networks, or now and then one that may not be there.
+    // Removes one of the networks, or in some steps one that the index may not have.
     fn remove(&mut self) {
         let mut network = self.network();
         if self.random.below(4) > 0 {
@@ -127,7 +133,7 @@ impl Trial {
         self.note(is_same);
     }
 
-    // Compares the value of a network that has one, or of one that may have none.
+    // Compares the value of a network that has one, or of a network that may have no value.
     fn compare_value(&mut self) {
         let mut network = self.network();
         if self.random.below(2) > 0 {
@@ -156,7 +162,7 @@ impl Trial {
         self.differ = self.differ.saturating_add(u64::from(!is_same));
     }
 
-    // The list's longest network that contains the address, with its value.
+    // Returns the list's longest network that contains the address, with its value.
     fn longest(&self, address: u32) -> Option<Entry> {
         self.plain
             .as_slice()
@@ -166,7 +172,7 @@ impl Trial {
             .copied()
     }
 
-    // The network's value in the list.
+    // Returns the network's value in the list.
     fn value(&self, network: Prefix) -> Option<u64> {
         let mut entries = self.plain.as_slice().iter();
         entries
@@ -174,7 +180,7 @@ impl Trial {
             .map(|entry| entry.1)
     }
 
-    // A network that has a value.
+    // Returns a network that has a value.
     fn some_network(&mut self) -> Option<Prefix> {
         let entry = self.random.pick(self.plain.as_slice());
         entry.map(|entry| entry.0)
@@ -185,7 +191,7 @@ impl Trial {
         network_around(address, self.random.below(33) as u8)
     }
 
-    // An address that the networks lie around, or one that differs in one bit.
+    // Returns one of the `CENTRES`, or an address that differs from it in one bit.
     fn address(&mut self) -> u32 {
         let centre = self.random.pick(&CENTRES).unwrap_or(0);
         let place = self.random.below(64);
@@ -196,8 +202,12 @@ impl Trial {
     }
 }
 
-/// Puts the networks into an index that has no values, takes every second one out, and prints how many are found by
-/// their addresses, before and after.
+/// Inserts the networks into an empty index, and then removes every second one. Prints how many
+/// networks are found by their addresses, before and after.
+///
+/// # Errors
+///
+/// Returns an error if memory runs out, or if the text cannot be printed.
 pub fn find_all(
     rt: &impl Print,
     index: &mut PrefixIndex<u64>,
@@ -227,7 +237,7 @@ fn remove_every_second(index: &mut PrefixIndex<u64>, networks: &[Prefix]) {
     }
 }
 
-// How many of the networks are the longest match of their addresses, with their values.
+// Returns the number of networks that are the longest match of their addresses, with their values.
 fn found(index: &PrefixIndex<u64>, networks: &[Prefix]) -> u64 {
     let mut found: u64 = 0;
     for network in networks {
@@ -238,7 +248,7 @@ fn found(index: &PrefixIndex<u64>, networks: &[Prefix]) -> u64 {
     found
 }
 
-// The longest network that contains the address, with its value.
+// Returns the index's longest network that contains the address, with its value.
 fn longest(index: &PrefixIndex<u64>, address: u32) -> Option<Entry> {
     match index.longest(address) {
         Some((network, value)) => Some((network, *value)),

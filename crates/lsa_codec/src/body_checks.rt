@@ -1,4 +1,4 @@
-//! What is wrong with a body, by LS type (RFC 2328, A.4.2 to A.4.5). Each is gone over once.
+//! The faults of a body, by LS type (RFC 2328, A.4.2 to A.4.5). Each body is read once.
 
 ghost use Rattle.std.specs.Prelude.{◌≡◌};
 ghost use Rattle.lsa_codec.specs.Faults.{router_findings as findings_of_router, network_findings as findings_of_network, summary_findings as findings_of_summary, boundary_findings as findings_of_boundary, external_findings as findings_of_external, findings_of};
@@ -9,7 +9,7 @@ use crate::mask::is_mask;
 use byteorder::{BigEndian, ByteOrder};
 use ospf_types::lsa::{ASBR_SUMMARY_LSA, NETWORK_LSA, ROUTER_LSA, SUMMARY_LSA};
 
-/// What is wrong with the body, if the LS type is 1 to 5.
+/// Returns the faults of the body of an LSA with LS type 1 to 5.
 pub(crate) fn body_findings(kind: u8, body: &[u8]) -> Findings
     ensures { result ≡ findings_of kind body.now }
 {

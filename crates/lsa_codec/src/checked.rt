@@ -17,14 +17,15 @@ use ospf_types::prefix::Prefix;
 use std::alloc::Global;
 use std::marker::Model;
 
-/// A link-state advertisement whose bytes are sound and in the grammar. It is its bytes, and seen as
-/// the advertisement that they spell.
+/// An LSA whose bytes were checked: they are sound (RFC 2328, 12.1.7) and in the grammar (A.4).
+///
+/// It stores the bytes. Contracts see the LSA that they spell.
 #[derive(Debug)]
 pub struct Checked {
     pub(crate) bytes: Vec<u8>,
 }
 
-// proof: one call drops it, in place of a drop of each part wherever one is held.
+// proof: a value is dropped by one call, not part by part at each exit of a function.
 impl Drop for Checked {
     fn drop(self) {
         let Checked { bytes: _bytes } = self;
@@ -44,7 +45,7 @@ impl Model for Checked {
 }
 
 impl Checked {
-    /// The header; the age in seconds, numbers in host order.
+    /// Returns the header. The age is in seconds, and numbers are in host order.
     pub fn header(&self) -> Header
         ensures value { result ≡ self.now.header }
         ensures legal { IsLegal self.now }
@@ -52,7 +53,7 @@ impl Checked {
         header_in(&self.bytes)
     }
 
-    /// LS type, Link State ID and Advertising Router (RFC 2328, 12.1).
+    /// Returns the key: LS type, Link State ID and Advertising Router (RFC 2328, 12.1).
     pub fn key(&self) -> Key
         ensures value { result ≡ key_of self.now }
         ensures legal { IsLegal self.now }
@@ -65,21 +66,22 @@ impl Checked {
         }
     }
 
-    /// The bytes after the header.
+    /// Returns the bytes after the header.
     pub fn body(&self) -> &[u8]
         ensures { result.now ≡ body_bytes self.now.body }
     {
         &self.bytes[20..]
     }
 
-    // The LS type.
+    // Returns the LS type.
     fn kind(&self) -> u8
         ensures { result ≡ kind_of self.now.body }
     {
         self.bytes[3]
     }
 
-    /// The byte with the bits V, E and B of a router-LSA (A.4.2).
+    /// Returns the byte with the bits V, E and B of a router-LSA (RFC 2328, A.4.2), or `None` for
+    /// any other LS type.
     pub fn flags(&self) -> Option<u8>
         ensures { result ≡ flags_of self.now.body }
     {
@@ -89,7 +91,7 @@ impl Checked {
         Some(self.bytes[20])
     }
 
-    /// How many links a router-LSA has; 0 for another LS type.
+    /// Returns the number of links of a router-LSA, or 0 for any other LS type.
     pub fn link_count(&self) -> usize
         ensures { result ≡ length (links_of self.now.body) }
     {
@@ -99,8 +101,10 @@ impl Checked {
         usize::from(BigEndian::read_u16(&self.bytes[22..]))
     }
 
-    /// The link at a place, counted from 0, without its TOS entries; `None` past the last. It takes
-    /// constant time if no link has TOS entries, and else a walk over the links before it.
+    /// Returns the link at index `n`, without its TOS metrics, or `None` past the last link.
+    ///
+    /// It takes constant time if no link has TOS metrics. Otherwise it walks over the links before
+    /// it.
     pub fn link(&self, n: usize) -> Option<Link>
         ensures { result ≡ link_at self.now.body n }
     {
@@ -117,8 +121,9 @@ impl Checked {
         Some(front_link(front))
     }
 
-    /// The links of a router-LSA one after the other, each without its TOS entries: what `link` answers
-    /// at 0, at 1 and so on. None for another LS type.
+    /// Returns an iterator over the links of a router-LSA, each without its TOS metrics. It is
+    /// empty for any other LS type. The links are the same as those that `link` returns at 0, 1 and
+    /// so on.
     pub fn links(&self) -> Links<'_>
         ensures { result ≡ map without_tos (links_of self.now.body) }
     {
@@ -128,7 +133,8 @@ impl Checked {
         }
     }
 
-    /// The Router ID at a place of a network-LSA, counted from 0 (A.4.3); `None` past the last.
+    /// Returns the Router ID (in host order) at index `n` of a network-LSA (RFC 2328, A.4.3), or
+    /// `None` past the last one.
     pub fn listed(&self, n: usize) -> Option<u32>
         ensures { result ≡ listed_at self.now.body n }
     {
@@ -142,8 +148,9 @@ impl Checked {
         Some(BigEndian::read_u32(&routers[4 * n..]))
     }
 
-    /// The Router IDs of a network-LSA one after the other (A.4.3): what `listed` answers at 0, at 1
-    /// and so on. None for another LS type.
+    /// Returns an iterator over the Router IDs of a network-LSA (RFC 2328, A.4.3). It is empty for
+    /// any other LS type. The Router IDs are the same as those that `listed` returns at 0, 1 and so
+    /// on.
     pub fn routers(&self) -> Routers<'_>
         ensures { result ≡ routers_of self.now.body }
     {
@@ -157,8 +164,9 @@ impl Checked {
         }
     }
 
-    /// The network that a network-LSA, a summary-LSA for a network or an AS-external-LSA is about: its
-    /// Link State ID under its mask (12.1.4).
+    /// Returns the network that a network-LSA, a type 3 summary-LSA or an AS-external-LSA
+    /// describes: its Link State ID under its mask (RFC 2328, 12.1.4). Returns `None` for any other
+    /// LS type.
     pub fn prefix(&self) -> Option<Prefix>
         ensures { result ≡ prefix_of self.now }
     {
@@ -171,7 +179,8 @@ impl Checked {
         ))
     }
 
-    /// The metric of a summary-LSA, or of the first record of an AS-external-LSA (A.4.4, A.4.5).
+    /// Returns the metric of a summary-LSA, or of the first record of an AS-external-LSA (RFC 2328,
+    /// A.4.4, A.4.5). Returns `None` for any other LS type.
     pub fn metric(&self) -> Option<u32>
         ensures { result ≡ metric_of self.now.body }
     {
@@ -181,7 +190,8 @@ impl Checked {
         Some(metric_in(&self.bytes))
     }
 
-    /// What the first record of an AS-external-LSA says beside its metric (A.4.5).
+    /// Returns the first record of an AS-external-LSA without its metric (RFC 2328, A.4.5), or
+    /// `None` for any other LS type.
     pub fn external(&self) -> Option<External>
         ensures { result ≡ external_of self.now.body }
     {
@@ -191,14 +201,14 @@ impl Checked {
         Some(first_record(&self.bytes))
     }
 
-    /// Whether Options and body are equal.
+    /// Returns true if both LSAs have the same Options and body.
     pub fn same_contents(&self, other: &Checked) -> bool
         ensures { IsTrue result ↔ ((self.now.header.options ≡ other.now.header.options) × (self.now.body ≡ other.now.body)) }
     {
         self.bytes[2..4] == other.bytes[2..4] && self.bytes[20..] == other.bytes[20..]
     }
 
-    /// Sets the age, in seconds. The checksum does not cover it.
+    /// Sets the LS age, in seconds. The checksum does not cover it.
     pub fn set_age(&mut self, age: u16)
         requires { age ≤ MaxAge }
         ensures { self.new ≡ with_age self.old age }
@@ -206,7 +216,7 @@ impl Checked {
         BigEndian::write_u16(&mut self.bytes, age);
     }
 
-    /// A copy.
+    /// Returns a copy.
     pub fn copy(&self, alloc: Global) -> Result<Checked, Memory>
         ensures { IfOk result (λ c. c ≡ self.now) }
     {
@@ -216,7 +226,7 @@ impl Checked {
     }
 }
 
-/// Whether LSAs of the LS type are about a network.
+/// Returns true if LSAs of this LS type describe a network.
 fn has_network(kind: u8) -> bool
     ensures { result ≡ ((kind == 2) || (kind == 3) || (kind == 5)) }
 {

@@ -1,14 +1,17 @@
-//! The Fletcher checksum (RFC 2328, 12.1.7), in one pass. The sums are reduced once a chunk.
+//! The LS checksum, a Fletcher checksum (RFC 2328, 12.1.7), in one pass over the bytes. The sums
+//! are reduced once for each chunk.
 
 ghost use Rattle.std.specs.Prelude.{◌≡◌, ◌≤◌, ◌<◌, ◌+◌, ◌*◌, ◌/◌, ◌%◌, ◌^◌, length, sum, IfSome};
 ghost use Rattle.lsa_codec.specs.Checksum.{weighted_sum, is_sound as is_sound_test, checksum_of, with_sum, IsSound, IsOnlySum, IsSumUpToZeros, covered, residue as the_residue};
 
 use byteorder::{BigEndian, ByteOrder};
 
-/// So many bytes are summed before the sums are reduced. The sums then stay below 2 ^ 32.
+/// The number of bytes that are summed before the sums are reduced. The sums then stay below 2 ^
+/// 32.
 const CHUNK: usize = 4096;
 
-/// The two sums over some bytes, and in the second each byte times its place from the end.
+/// The two sums over some bytes: the sum of the bytes, and the sum of each byte times its place
+/// from the end.
 #[derive(Clone, Copy)]
 struct Sums {
     plain: u32,
@@ -20,7 +23,7 @@ const NOTHING: Sums = Sums {
     weighted: 0,
 };
 
-/// The sums of the bytes after those of `before`.
+/// Returns the sums over the bytes of `before` and these bytes after them.
 fn added(before: Sums, bytes: &[u8]) -> Sums
     requires plain { before.plain < 255 }
     requires weighted { before.weighted < 255 }
@@ -47,7 +50,7 @@ fn reduced(sums: Sums) -> Sums
     }
 }
 
-/// The sums of the bytes after those of `before`, modulo 255.
+/// Returns the sums over the bytes of `before` and these bytes after them, modulo 255.
 fn summed(before: Sums, bytes: &[u8]) -> Sums
     requires plain { before.plain < 255 }
     requires weighted { before.weighted < 255 }
@@ -64,7 +67,7 @@ fn summed(before: Sums, bytes: &[u8]) -> Sums
     sums
 }
 
-/// Whether the checksum fits the bytes, and is not zero.
+/// Returns true if the checksum fits the bytes and is not zero.
 pub(crate) fn is_sound(bytes: &[u8]) -> bool
     requires { 20 ≤ length bytes.now }
     ensures { result ≡ is_sound_test bytes.now }
@@ -73,7 +76,7 @@ pub(crate) fn is_sound(bytes: &[u8]) -> bool
     sums.plain == 0 && sums.weighted == 0 && BigEndian::read_u16(&bytes[16..]) != 0
 }
 
-/// The sums over all bytes that the checksum covers, its own two taken as zero.
+/// Returns the sums over all bytes that the checksum covers, with its own two bytes taken as zero.
 fn sums_without_field(bytes: &[u8]) -> Sums
     requires { 20 ≤ length bytes.now }
     ensures plain { result.plain ≡ sum (covered (with_sum bytes.now 0 0)) % 255 }
@@ -84,7 +87,7 @@ fn sums_without_field(bytes: &[u8]) -> Sums
     summed(field, &bytes[18..])
 }
 
-/// The number from 1 to 255 that is n modulo 255.
+/// Returns the number from 1 to 255 that equals `n` modulo 255.
 fn residue(n: u32) -> u32
     requires { n < 2 ^ 31 }
     ensures value { result ≡ the_residue n }
@@ -93,17 +96,18 @@ fn residue(n: u32) -> u32
     (n + 254) % 255 + 1
 }
 
-/// The checksum of an advertisement's bytes, the checksum field taken as zero; `None` below 20 bytes.
+/// Returns the LS checksum of an LSA's bytes (RFC 2328, 12.1.7), or `None` if there are fewer than
+/// 20. The checksum field of the bytes is taken as zero.
 pub fn sum_of(bytes: &[u8]) -> Option<u16>
-    // Which number it is.
+    // The checksum as a number.
     ensures value { result ≡ checksum_of bytes.now }
-    // The bytes with it in its place are sound.
+    // The bytes with this checksum are sound.
     ensures sound { IfSome result (λ sum. IsSound (with_sum bytes.now (sum / 256) (sum % 256))) }
     // Neither of its two bytes is zero,
     ensures not_zero { IfSome result (λ sum. (0 < sum / 256) × (0 < sum % 256)) }
-    // and no other two such bytes make them sound.
+    // and no other two bytes without a zero make the LSA sound.
     ensures only { IfSome result (λ sum. IsOnlySum bytes.now sum) }
-    // With zeros only these do: a zero in the place of a 255, unless both bytes are then zero.
+    // With zeros, only these bytes do so: a zero replaces a 255, unless both bytes are then zero.
     ensures zeros { IfSome result (λ sum. IsSumUpToZeros bytes.now sum) }
 {
     if bytes.len() < 20 {

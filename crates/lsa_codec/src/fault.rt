@@ -5,37 +5,40 @@ use std::alloc::AllocError;
 use std::fmt;
 use thiserror::Error;
 
-/// Why bytes are no link-state advertisement: the first of these, in this order, that holds. `Memory`
-/// says nothing of the bytes.
+/// The reason why bytes are not a valid LSA. `read` returns the first one in this order. `Memory`
+/// says nothing about the bytes.
 #[derive(Clone, Copy, Debug, PartialEq, Eq, Error)]
 pub enum WireFault {
-    /// Fewer than 20 bytes, or the length field is not the number of bytes.
+    /// There are fewer than 20 bytes, or the length field is not the number of bytes.
     Length,
     /// The checksum does not fit the bytes, or is zero (RFC 2328, 12.1.7).
     Checksum,
-    /// The LS age is above MaxAge, 3600 seconds (12.1.1).
+    /// The LS age is above MaxAge, 3600 seconds (RFC 2328, 12.1.1).
     Age,
-    /// The sequence number is the reserved 0x80000000 (12.1.6).
+    /// The LS sequence number is the reserved 0x80000000 (RFC 2328, 12.1.6).
     Sequence,
-    /// The LS type is not 1 to 5 (A.4.1).
+    /// The LS type is not 1 to 5 (RFC 2328, A.4.1).
     Kind,
-    /// A byte that is reserved is not zero, or the first record of an AS-external-LSA has a TOS (A.4.2,
-    /// A.4.4, A.4.5).
+    /// A reserved byte is not zero, or the first record of an AS-external-LSA has a TOS (RFC 2328,
+    /// A.4.2, A.4.4, A.4.5).
     Reserved,
-    /// The mask, or a stub link's Link Data, is not ones and then zeros, or the mask of a summary-LSA for
-    /// an AS boundary router is not zero (A.4.2 to A.4.5).
+    /// A mask is not valid (RFC 2328, A.4.2 to A.4.5).
+    ///
+    /// The mask of an LSA, or the Link Data of a stub link, is not ones and then zeros. Or the mask
+    /// of a summary-LSA for an AS boundary router is not zero.
     Mask,
-    /// The Link State ID of a router-LSA is not its Advertising Router (12.1.4).
+    /// The Link State ID of a router-LSA is not its Advertising Router (RFC 2328, 12.1.4).
     RouterId,
-    /// A link's type is not 1 to 4 (A.4.2).
+    /// The type of a link is not 1 to 4 (RFC 2328, A.4.2).
     LinkType,
-    /// The body is cut off, has fewer links than it counts or no external record, or has bytes left over.
+    /// The body is cut off, has fewer links than it counts or no external record, or has bytes left
+    /// over.
     Shape,
     /// Memory ran out.
     Memory,
 }
 
-/// The number and the name, as `2 Checksum`.
+/// Prints the number and the name, as in `2 Checksum`.
 impl fmt::Display for WireFault {
     ghost output = { λ fault. Some (wire_fault_text fault) };
 

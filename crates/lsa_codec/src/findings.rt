@@ -1,11 +1,13 @@
-/// What is wrong with a body, past its header.
+/// The kinds of faults found in a body.
 #[derive(Clone, Copy)]
 pub(crate) struct Findings {
-    /// A byte that is to be zero is not.
+    /// True if a byte that has to be zero is not.
     pub(crate) reserved: bool,
+    /// True if a mask is not valid.
     pub(crate) mask: bool,
-    /// A link's type is not 1 to 4.
+    /// True if the type of a link is not 1 to 4.
     pub(crate) link_type: bool,
+    /// True if the body is cut off, lacks records or has bytes left over.
     pub(crate) shape: bool,
 }
 
@@ -16,7 +18,7 @@ pub(crate) const NO_FINDING: Findings = Findings {
     shape: false,
 };
 
-/// The fixed part is not whole.
+/// The fault of a body whose fixed part is cut off.
 pub(crate) const CUT: Findings = Findings {
     reserved: false,
     mask: false,

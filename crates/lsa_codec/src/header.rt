@@ -1,4 +1,4 @@
-//! The header of an advertisement (RFC 2328, A.4.1), by its bytes.
+//! The header of an LSA (RFC 2328, A.4.1), read from its bytes.
 
 ghost use Rattle.std.specs.Prelude.{◌≡◌, ◌≤◌, length, false};
 ghost use Rattle.lsa_codec.specs.Decoding.{header_of};
@@ -7,10 +7,10 @@ ghost use Rattle.lsa_codec.specs.Faults.{is_wrong_length as is_wrong_length_test
 use byteorder::{BigEndian, ByteOrder};
 use ospf_types::lsa::Header;
 
-/// The header's length in bytes.
+/// The length of the header in bytes.
 pub(crate) const HEADER: usize = 20;
 
-/// The header in front.
+/// Returns the header at the start of the bytes.
 pub(crate) fn header_in(bytes: &[u8]) -> Header
     requires { 20 ≤ length bytes.now }
     ensures { result ≡ header_of bytes.now }
@@ -27,7 +27,7 @@ pub(crate) fn header_in(bytes: &[u8]) -> Header
     }
 }
 
-/// Whether the header is cut off, or its length is not that of the bytes.
+/// Returns true if the header is cut off, or its length field is not the number of bytes.
 pub(crate) fn is_wrong_length(bytes: &[u8]) -> bool
     ensures value { result ≡ is_wrong_length_test bytes.now }
     ensures whole { result ≡ false → 20 ≤ length bytes.now }

@@ -1,5 +1,7 @@
-//! The bytes of OSPFv2 link-state advertisements (RFC 2328, A.4), read and written. What was read is
-//! sound and in the grammar for good: a `Checked` is nothing else.
+//! The bytes of LSAs (RFC 2328, A.4): reading and writing.
+//!
+//! `read` checks that bytes are sound and in the grammar, and returns them as a `Checked`, which
+//! always has such bytes. `write` appends the bytes of a `Checked`.
 #![tactic(auto)]
 
 mod body_checks;

@@ -1,4 +1,4 @@
-//! The links of a router-LSA (RFC 2328, A.4.2), by a walk over their bytes.
+//! The links of a router-LSA (RFC 2328, A.4.2), read from its bytes.
 
 ghost use Rattle.std.specs.Prelude.{◌≡◌, ◌≤◌, true, ◌+◌, ◌*◌, ◌==◌, ◌||◌, not, nat_lt, length};
 ghost use Rattle.std.specs.List.{list_any};
@@ -12,8 +12,8 @@ use byteorder::{BigEndian, ByteOrder};
 use ospf_types::lsa::{Link, LinkKind};
 use std::marker::Model;
 
-/// The links of a router-LSA, in their order, each without its TOS entries. A step takes constant
-/// time.
+/// An iterator over the links of a router-LSA, in order, each without its TOS metrics. A step takes
+/// constant time.
 #[derive(Drop)]
 pub struct Links<'a> {
     pub(crate) left: usize,
@@ -52,7 +52,7 @@ impl<'a> Iterator for Links<'a> {
     }
 }
 
-/// The number of bytes of the link in front, its TOS entries counted.
+/// Returns the number of bytes of the first link, including its TOS metrics.
 fn link_size(bytes: &[u8]) -> usize
     requires { 12 ≤ length bytes.now }
     ensures { result ≡ size_of_link bytes.now }
@@ -60,14 +60,14 @@ fn link_size(bytes: &[u8]) -> usize
     12 + 4 * usize::from(bytes[9])
 }
 
-/// Whether a link and its TOS entries lie whole in the bytes.
+/// Returns true if the bytes contain the whole first link, including its TOS metrics.
 fn is_whole(bytes: &[u8]) -> bool
     ensures { result ≡ is_whole_test bytes.now }
 {
     bytes.len() >= 12 && bytes.len() >= link_size(bytes)
 }
 
-/// Whether one of the TOS entries in front has a reserved byte that is not zero.
+/// Returns true if one of the first `count` TOS metrics has a reserved byte that is not zero.
 fn has_reserved(count: u8, bytes: &[u8]) -> bool
     requires { 4 * count ≤ length bytes.now }
     ensures { result ≡ list_any (λ t. not (t.reserved == 0)) (raw_entries count bytes.now) }
@@ -82,7 +82,7 @@ fn has_reserved(count: u8, bytes: &[u8]) -> bool
     false
 }
 
-/// What is wrong with the links, of which there are to be `count` and no bytes after them.
+/// Returns the faults of the links. There should be `count` links, and no bytes after them.
 pub(crate) fn links_findings(count: u16, bytes: &[u8]) -> Findings
     ensures reserved { result.reserved ≡ list_any has_reserved_entry (walk count bytes.now).met }
     ensures mask { result.mask ≡ list_any has_wrong_mask (walk count bytes.now).met }
@@ -107,7 +107,7 @@ pub(crate) fn links_findings(count: u16, bytes: &[u8]) -> Findings
     }
 }
 
-/// What was found before, and what is wrong with the link in front.
+/// Adds the faults of the first link to the faults found before.
 fn with_link(found: Findings, bytes: &[u8]) -> Findings
     requires { is_whole_test bytes.now ≡ true }
     ensures reserved { result.reserved ≡ (found.reserved || has_reserved_entry (raw_link bytes.now)) }
@@ -122,7 +122,7 @@ fn with_link(found: Findings, bytes: &[u8]) -> Findings
     }
 }
 
-/// Whether the link in front is a stub link whose Link Data is no mask.
+/// Returns true if the first link is a stub link whose Link Data is not a valid mask.
 fn is_wrong_mask(bytes: &[u8]) -> bool
     requires { 12 ≤ length bytes.now }
     ensures { result ≡ has_wrong_mask (raw_link bytes.now) }
@@ -136,7 +136,7 @@ fn is_unknown_type(number: u8) -> bool
     number < 1 || number > 4
 }
 
-/// The bytes after the first `count` links, or after those that lie whole in the bytes.
+/// Returns the bytes after the first `count` links, or after all whole links if there are fewer.
 pub(crate) fn after_links(count: usize, bytes: &[u8]) -> &[u8]
     ensures { result.now ≡ (walk count bytes.now).left }
 {
@@ -161,7 +161,7 @@ fn link_kind(number: u8) -> LinkKind
     }
 }
 
-/// The link in front, without its TOS entries.
+/// Returns the first link, without its TOS metrics.
 pub(crate) fn front_link(bytes: &[u8]) -> Link
     requires { 12 ≤ length bytes.now }
     ensures { result ≡ without_tos (decoded_link (raw_link bytes.now)) }

@@ -1,7 +1,7 @@
 ghost use Rattle.std.specs.Prelude.{◌≡◌};
 ghost use Rattle.lsa_codec.specs.Faults.{is_mask as is_mask_test};
 
-/// Whether the number is ones and then zeros.
+/// Returns true if the number is ones and then zeros.
 pub(crate) fn is_mask(mask: u32) -> bool
     ensures { result ≡ is_mask_test mask }
 {

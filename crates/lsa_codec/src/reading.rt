@@ -12,24 +12,25 @@ use crate::header::{HEADER, header_in, is_wrong_length};
 use ospf_types::lsa::{AS_EXTERNAL_LSA, Header, MAX_AGE, ROUTER_LSA};
 use std::alloc::Global;
 
-/// The sequence number that no instance has (12.1.6).
+/// The LS sequence number that no instance has (RFC 2328, 12.1.6).
 const RESERVED_SEQUENCE: u32 = 0x8000_0000;
 
-/// Whether the LS type is none of the five (A.4.1).
+/// Returns true if the LS type is not 1 to 5 (RFC 2328, A.4.1).
 fn is_unknown_kind(kind: u8) -> bool
     ensures { result ≡ is_unknown_kind_test kind }
 {
     kind < ROUTER_LSA || kind > AS_EXTERNAL_LSA
 }
 
-/// Whether a router-LSA's Link State ID is not its Advertising Router (12.1.4).
+/// Returns true if the Link State ID of a router-LSA is not its Advertising Router (RFC 2328,
+/// 12.1.4).
 fn is_other_router(header: &Header) -> bool
     ensures { result ≡ is_other_router_test header.now.kind header.now.id header.now.router }
 {
     header.kind == ROUTER_LSA && header.id != header.router
 }
 
-/// The first fault past the LS type.
+/// Returns the first fault that comes after `Kind` in the order of `WireFault`.
 fn body_fault(bytes: &[u8]) -> Option<WireFault>
     requires { 20 ≤ length bytes.now }
     ensures { result ≡ body_fault_of bytes.now }
@@ -54,7 +55,7 @@ fn body_fault(bytes: &[u8]) -> Option<WireFault>
     None
 }
 
-/// The first fault of the bytes.
+/// Returns the first fault of the bytes.
 fn fault(bytes: &[u8]) -> Option<WireFault>
     ensures { result ≡ fault_of bytes.now }
 {
@@ -77,18 +78,23 @@ fn fault(bytes: &[u8]) -> Option<WireFault>
     body_fault(bytes)
 }
 
-/// Reads exactly one advertisement, and copies its bytes.
+/// Reads one LSA, and copies its bytes. It has to be all of the bytes.
+///
+/// # Errors
+///
+/// Returns the first fault of the bytes, in the order of `WireFault`, or 30 Memory if they have no
+/// fault and memory runs out.
 pub fn read(alloc: Global, bytes: &[u8]) -> Result<Checked, WireFault>
-    // Refused bytes are refused for their first fault.
+    // Bytes with a fault are refused for their first fault.
     ensures fault { (f : WireFault) → fault_of bytes.now ≡ Some f → result ≡ Err f }
-    // All others are read, unless memory runs out.
+    // All other bytes are read, unless memory runs out.
     ensures accepted { fault_of bytes.now ≡ None → IsOkUnless result WireFault.Memory }
-    // What is read is sound, and spelled so.
+    // The bytes read are sound, and spell the LSA.
     ensures sound { IfOk result (λ lsa. IsSound bytes.now) }
     ensures found { IfOk result (λ lsa. Spells bytes.now lsa) }
-    // What is sound and spelled so is read, unless memory runs out.
+    // Sound bytes that spell an LSA are read as that LSA, unless memory runs out.
     ensures only { (l : Lsa) → IsSound bytes.now → Spells bytes.now l → MatchResult result (λ lsa. lsa ≡ l) (λ e. e ≡ WireFault.Memory) }
-    // No two advertisements share a spelling.
+    // No two LSAs have the same spelling.
     ensures unshared { (l m : Lsa) → Spells bytes.now l → Spells bytes.now m → l ≡ m }
 {
     match fault(bytes) {

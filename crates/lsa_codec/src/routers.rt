@@ -1,9 +1,9 @@
-//! The Router IDs of a network-LSA (RFC 2328, A.4.3), by a walk over their bytes.
+//! The Router IDs of a network-LSA (RFC 2328, A.4.3), read from its bytes.
 
 use byteorder::{BigEndian, ByteOrder};
 use std::marker::Model;
 
-/// The Router IDs of a network-LSA (host order), in their order. A step takes constant time.
+/// An iterator over the Router IDs of a network-LSA (in host order). A step takes constant time.
 #[derive(Drop)]
 pub struct Routers<'a> {
     pub(crate) rest: &'a [u8],

@@ -5,9 +5,10 @@ ghost use Rattle.lsa_codec.specs.Readers.{with_age};
 use lsa_codec::Checked;
 use ospf_types::lsa::MAX_AGE;
 
-/// Whether the contents of two instances of an LSA differ (RFC 2328, 13.2): their Options, their
-/// length, their bodies, or that one of them is at MaxAge. The ages, in seconds, are those handed in:
-/// an LSA in a database may be older than its header says.
+/// Returns true if the contents of two instances of an LSA differ (RFC 2328, 13.2).
+///
+/// They differ in Options, length or body, or because only one instance is at MaxAge. The ages, in
+/// seconds, are passed separately: an LSA in a database may be older than its header says.
 pub fn contents_differ(first: &Checked, first_age: u16, second: &Checked, second_age: u16) -> bool
     ensures { (result ≡ false) ↔ HaveSameContents (with_age first.now first_age) (with_age second.now second_age) }
 {

@@ -1,4 +1,4 @@
-//! Which of two instances of a link-state advertisement is newer (RFC 2328, 13.1), and whether their
+//! The comparison of two instances of an LSA: the newer one (RFC 2328, 13.1), and whether their
 //! contents differ (13.2).
 #![tactic(auto)]
 

@@ -4,18 +4,23 @@ ghost use Rattle.ospf_types.specs.Instances.{newer_of, age_cmp, swapped};
 use ospf_types::lsa::{Header, MAX_AGE, Newer};
 use std::cmp::Ordering;
 
-/// Ages that differ by no more seconds count as the same (RFC 2328, appendix B).
+/// MaxAgeDiff, in seconds: ages count as the same if they differ by no more (RFC 2328, appendix B).
 const MAX_AGE_DIFF: u16 = 900;
 
-/// Which of two instances of an LSA is newer (RFC 2328, 13.1): the one with the greater signed
-/// sequence number, else with the greater checksum, else the one that alone is at MaxAge, else the
-/// younger where the ages are more than 900 seconds apart. It compares nothing else: that the two are
-/// instances of one LSA is the caller's affair.
+/// Returns the newer one of two instances of an LSA (RFC 2328, 13.1), by the first of these rules
+/// that decides:
+///
+/// 1. the higher LS sequence number, as a signed number,
+/// 2. the higher LS checksum,
+/// 3. the only one at MaxAge,
+/// 4. the lower age, if the ages differ by more than 900 seconds.
+///
+/// It compares nothing else: the caller has to pass two instances of the same LSA.
 #[tactic(auto, using(crate::proofs::Swapping::other_way))]
 pub fn newer(first: &Header, second: &Header) -> Newer
     ensures value { result ≡ newer_of first.now second.now }
-    // Asked the other way round the answer is the same instance: what is `First` one way is `Second`
-    // the other, and `Same` is `Same` both ways.
+    // With the instances swapped, the result means the same instance: `First` becomes `Second`,
+    // `Second` becomes `First`, and `Same` stays.
     ensures other_way { newer_of second.now first.now ≡ swapped result }
 {
     let by_seq = first.seq.cast_signed().cmp(&second.seq.cast_signed());
@@ -28,7 +33,7 @@ pub fn newer(first: &Header, second: &Header) -> Newer
     }
 }
 
-// The greater is newer.
+// Compares two ages. The greater one, in this order, is of the newer instance.
 fn compare_ages(first: u16, second: u16) -> Ordering
     ensures { result ≡ age_cmp first second }
 {

@@ -1,4 +1,4 @@
-//! The body of an AS-external-LSA (RFC 2328, A.4.5) in words.
+//! The body of an AS-external-LSA in words (RFC 2328, A.4.5).
 ghost use Rattle.std.specs.Prelude.{◌≡◌, ◌≤◌, ◌++◌, OnOk, nat_le, length, drop, slice_index, string_bytes};
 ghost use Rattle.std.specs.List.{flat_map};
 ghost use Rattle.lsa_codec.specs.Decoding.{external_body_of, external_at, records_met};
@@ -10,7 +10,8 @@ use byteorder::{BigEndian, ByteOrder};
 use ospf_types::address::Address;
 use ospf_types::memory::Memory;
 
-/// The mask, a line for each field of the record of TOS 0, then a line for each further record.
+/// Appends the mask, a line for each field of the record of TOS 0, and a line for each further
+/// record.
 pub(crate) fn put_external(body: &[u8], text: &mut String) -> Result<(), Memory>
     requires { 16 ≤ length body.now }
     ensures { OnOk result (string_bytes text.new ≡ string_bytes text.old
@@ -22,7 +23,7 @@ pub(crate) fn put_external(body: &[u8], text: &mut String) -> Result<(), Memory>
     Ok(())
 }
 
-// The record of TOS 0.
+// Appends a line for each field of the record of TOS 0, which is at the start of the bytes.
 fn put_first(bytes: &[u8], text: &mut String) -> Result<(), Memory>
     requires { 12 ≤ length bytes.now }
     ensures { OnOk result (string_bytes text.new ≡ string_bytes text.old
@@ -35,7 +36,7 @@ fn put_first(bytes: &[u8], text: &mut String) -> Result<(), Memory>
     Ok(())
 }
 
-// A line for bit E of the byte.
+// Appends a line for bit E of the byte.
 fn put_external_type(byte: u8, text: &mut String) -> Result<(), Memory>
     ensures { OnOk result (string_bytes text.new ≡ string_bytes text.old
         ++ external_type_line (nat_le 128 byte)) }
@@ -45,7 +46,7 @@ fn put_external_type(byte: u8, text: &mut String) -> Result<(), Memory>
     Ok(())
 }
 
-// Bit E of the byte, whose other bits are the TOS.
+// Returns the text of bit E of the byte. The other bits are the TOS.
 fn external_type(byte: u8) -> &'static str
     ensures { result.now ≡ external_type_text (nat_le 128 byte) }
 {
@@ -68,7 +69,7 @@ fn put_records(records: &[u8], text: &mut String) -> Result<(), Memory>
     Ok(())
 }
 
-// The record in front, of another TOS than 0.
+// Appends a line for the record of another TOS at the start of the bytes.
 fn put_record(bytes: &[u8], text: &mut String) -> Result<(), Memory>
     requires { 12 ≤ length bytes.now }
     ensures { OnOk result (string_bytes text.new ≡ string_bytes text.old
@@ -81,7 +82,7 @@ fn put_record(bytes: &[u8], text: &mut String) -> Result<(), Memory>
     Ok(())
 }
 
-// Its forwarding address and its tag.
+// Appends the forwarding address and the external route tag of the record.
 fn put_record_end(bytes: &[u8], text: &mut String) -> Result<(), Memory>
     requires { 12 ≤ length bytes.now }
     ensures { OnOk result (string_bytes text.new ≡ string_bytes text.old

@@ -1,4 +1,4 @@
-//! One field: its value in words, appended to a text.
+//! Single fields of an LSA in words, each appended to a text.
 ghost use Rattle.std.specs.Prelude.{◌≡◌, ◌≤◌, ◌++◌, OnOk, length, string_bytes};
 ghost use Rattle.hex.specs.Hex.{encode_lower};
 ghost use Rattle.lsa_words.specs.Fields.{address_line, number_line, hexadecimal_line, metric_note as note_of_metric, metric_text, bit_text};
@@ -7,7 +7,7 @@ use ospf_types::address::Address;
 use ospf_types::lsa::LS_INFINITY;
 use ospf_types::memory::Memory;
 
-/// An address, a mask or a Router ID in host order, behind its name.
+/// Appends a line with the name and an address, a mask or a Router ID (in host order).
 pub(crate) fn put_address(name: &str, address: u32, text: &mut String) -> Result<(), Memory>
     ensures { OnOk result (string_bytes text.new ≡ string_bytes text.old
         ++ address_line name.now address) }
@@ -17,7 +17,7 @@ pub(crate) fn put_address(name: &str, address: u32, text: &mut String) -> Result
     Ok(())
 }
 
-/// A number in decimal, behind its name.
+/// Appends a line with the name and a number in decimal.
 pub(crate) fn put_number(name: &str, number: u32, text: &mut String) -> Result<(), Memory>
     ensures { OnOk result (string_bytes text.new ≡ string_bytes text.old
         ++ number_line name.now number) }
@@ -26,7 +26,7 @@ pub(crate) fn put_number(name: &str, number: u32, text: &mut String) -> Result<(
     Ok(())
 }
 
-/// At most four bytes in hexadecimal, behind their name.
+/// Appends a line with the name and at most four bytes in hexadecimal.
 pub(crate) fn put_bytes(name: &str, bytes: &[u8], text: &mut String) -> Result<(), Memory>
     requires { length bytes.now ≤ 4 }
     ensures { OnOk result (string_bytes text.new ≡ string_bytes text.old
@@ -38,7 +38,11 @@ pub(crate) fn put_bytes(name: &str, bytes: &[u8], text: &mut String) -> Result<(
     Ok(())
 }
 
-/// At most four bytes in hexadecimal, in lower case.
+/// Appends at most four bytes in hexadecimal, in lower case.
+///
+/// # Errors
+///
+/// Returns `Memory` if memory runs out. The text may then have a part of the digits.
 pub fn put_hexadecimal(bytes: &[u8], text: &mut String) -> Result<(), Memory>
     requires { length bytes.now ≤ 4 }
     ensures { OnOk result (string_bytes text.new ≡ string_bytes text.old
@@ -56,7 +60,7 @@ pub fn put_hexadecimal(bytes: &[u8], text: &mut String) -> Result<(), Memory>
     }
 }
 
-/// The name of the bit behind a comma, if the byte has the bit.
+/// Appends a comma and the name of the bit, if the byte has the bit.
 pub(crate) fn put_bit(byte: u8, bit: u8, name: &str, text: &mut String) -> Result<(), Memory>
     ensures { OnOk result (string_bytes text.new ≡ string_bytes text.old
         ++ bit_text byte bit name.now) }
@@ -67,7 +71,7 @@ pub(crate) fn put_bit(byte: u8, bit: u8, name: &str, text: &mut String) -> Resul
     Ok(())
 }
 
-/// A metric of 24 bits, and whether it is LSInfinity.
+/// Appends a metric of 24 bits, with a note if it is LSInfinity.
 pub(crate) fn put_metric(metric: u32, text: &mut String) -> Result<(), Memory>
     ensures { OnOk result (string_bytes text.new ≡ string_bytes text.old ++ metric_text metric) }
 {

@@ -1,4 +1,4 @@
-//! The header of an LSA (RFC 2328, A.4.1) in words.
+//! The header of an LSA in words (RFC 2328, A.4.1).
 ghost use Rattle.std.specs.Prelude.{◌≡◌, ◌++◌, OnOk, string_bytes};
 ghost use Rattle.lsa_words.specs.Fields.{age_note as note_of_age, type_text};
 ghost use Rattle.lsa_words.specs.Words.{age_line, options_line, type_line, length_line, instance_words, header_words};
@@ -8,7 +8,7 @@ use lsa_codec::Header;
 use ospf_types::lsa::{ASBR_SUMMARY_LSA, MAX_AGE, NETWORK_LSA, ROUTER_LSA, SUMMARY_LSA};
 use ospf_types::memory::Memory;
 
-/// All fields of the header.
+/// Appends a line for each field of the header.
 pub(crate) fn put_header(header: &Header, text: &mut String) -> Result<(), Memory>
     ensures { OnOk result (string_bytes text.new ≡ string_bytes text.old
         ++ header_words header.now) }
@@ -22,7 +22,7 @@ pub(crate) fn put_header(header: &Header, text: &mut String) -> Result<(), Memor
     Ok(())
 }
 
-// In seconds.
+// Appends the age in seconds, with a note if it is MaxAge.
 fn put_age(age: u16, text: &mut String) -> Result<(), Memory>
     ensures { OnOk result (string_bytes text.new ≡ string_bytes text.old ++ age_line age) }
 {
@@ -37,7 +37,7 @@ fn age_note(age: u16) -> &'static str
     if age == MAX_AGE { " (MaxAge)" } else { "" }
 }
 
-// A.2: the byte, and its bits by their names.
+// A.2: the byte, and the names of the bits that it has.
 fn put_options(options: u8, text: &mut String) -> Result<(), Memory>
     ensures { OnOk result (string_bytes text.new ≡ string_bytes text.old ++ options_line options) }
 {
@@ -72,7 +72,7 @@ fn type_name(kind: u8) -> &'static str
     }
 }
 
-// What tells one instance from another, and the length.
+// Appends the LS sequence number, the LS checksum and the length.
 fn put_instance(header: &Header, text: &mut String) -> Result<(), Memory>
     ensures { OnOk result (string_bytes text.new ≡ string_bytes text.old
         ++ instance_words header.now) }

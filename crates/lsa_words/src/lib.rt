@@ -1,4 +1,4 @@
-//! An LSA in words: every field by its name in RFC 2328, A.4, a field or a link a line.
+//! LSAs in words: each field by its name in RFC 2328, A.4.
 #![tactic(auto)]
 
 mod external;

@@ -1,4 +1,4 @@
-//! The body of a network-LSA (RFC 2328, A.4.3) in words.
+//! The body of a network-LSA in words (RFC 2328, A.4.3).
 ghost use Rattle.std.specs.Prelude.{◌≡◌, ◌≤◌, ◌++◌, OnOk, length, string_bytes};
 ghost use Rattle.std.specs.List.{flat_map};
 ghost use Rattle.lsa_codec.specs.Decoding.{network_body_of};
@@ -9,7 +9,7 @@ use crate::fields::put_address;
 use byteorder::{BigEndian, ByteOrder};
 use ospf_types::memory::Memory;
 
-/// The mask, then a line for each router.
+/// Appends the mask, and a line for each attached router.
 pub(crate) fn put_network(body: &[u8], text: &mut String) -> Result<(), Memory>
     requires { 4 ≤ length body.now }
     ensures { OnOk result (string_bytes text.new ≡ string_bytes text.old

@@ -1,4 +1,4 @@
-//! The body of a router-LSA (RFC 2328, A.4.2) in words.
+//! The body of a router-LSA in words (RFC 2328, A.4.2).
 ghost use Rattle.std.specs.Prelude.{◌≡◌, ◌≤◌, ◌+◌, ◌*◌, ◌++◌, OnOk, length, map, string_bytes};
 ghost use Rattle.std.specs.List.{flat_map};
 ghost use Rattle.lsa_codec.specs.Faults.{raw_entries, raw_link, link_size as size_of_link, walk};
@@ -13,7 +13,7 @@ use byteorder::{BigEndian, ByteOrder};
 use ospf_types::address::Address;
 use ospf_types::memory::Memory;
 
-/// The bits V, E and B, the number of links, then the links.
+/// Appends the bits V, E and B, the number of links, and the links.
 pub(crate) fn put_router(body: &[u8], text: &mut String) -> Result<(), Memory>
     requires { IsRouterBody body.now }
     ensures { OnOk result (string_bytes text.new ≡ string_bytes text.old
@@ -51,7 +51,7 @@ fn put_links(count: u32, links: &[u8], text: &mut String) -> Result<(), Memory>
     Ok(())
 }
 
-// The number of bytes of the link in front, its TOS entries counted.
+// Returns the number of bytes of the first link, with its TOS entries.
 fn link_size(bytes: &[u8]) -> usize
     requires { 12 ≤ length bytes.now }
     ensures { result ≡ size_of_link bytes.now }
@@ -59,7 +59,7 @@ fn link_size(bytes: &[u8]) -> usize
     12 + 4 * usize::from(bytes[9])
 }
 
-// The link in front, then its TOS entries.
+// Appends a line for the first link, and a line for each of its TOS entries.
 fn put_link(number: u32, bytes: &[u8], text: &mut String) -> Result<(), Memory>
     requires { size_of_link bytes.now ≤ length bytes.now }
     ensures { OnOk result (string_bytes text.new ≡ string_bytes text.old
@@ -81,7 +81,7 @@ fn put_link_line(number: u32, bytes: &[u8], text: &mut String) -> Result<(), Mem
     Ok(())
 }
 
-// What the link says beside its type.
+// Appends the Link ID, the Link Data and the metric of the first link.
 fn put_link_end(bytes: &[u8], text: &mut String) -> Result<(), Memory>
     requires { 12 ≤ length bytes.now }
     ensures { OnOk result (string_bytes text.new ≡ string_bytes text.old
@@ -105,7 +105,7 @@ fn link_kind(number: u8) -> &'static str
     }
 }
 
-// The TOS entries of the link with the number.
+// Appends a line for each TOS entry of the link with this number.
 fn put_entries(number: u32, count: u8, entries: &[u8], text: &mut String) -> Result<(), Memory>
     requires { 4 * count ≤ length entries.now }
     ensures { OnOk result (string_bytes text.new ≡ string_bytes text.old
@@ -119,7 +119,7 @@ fn put_entries(number: u32, count: u8, entries: &[u8], text: &mut String) -> Res
     Ok(())
 }
 
-// The TOS entry in front.
+// Appends a line for the first TOS entry.
 fn put_entry(number: u32, bytes: &[u8], text: &mut String) -> Result<(), Memory>
     requires { 4 ≤ length bytes.now }
     ensures { OnOk result (string_bytes text.new ≡ string_bytes text.old

@@ -1,4 +1,4 @@
-//! The body of a summary-LSA (RFC 2328, A.4.4) in words.
+//! The body of a summary-LSA in words (RFC 2328, A.4.4).
 ghost use Rattle.std.specs.Prelude.{◌≡◌, ◌≤◌, ◌++◌, OnOk, length, drop, string_bytes};
 ghost use Rattle.std.specs.List.{flat_map};
 ghost use Rattle.lsa_codec.specs.Decoding.{summary_body_of, summary_tos_at, records_met};
@@ -8,7 +8,7 @@ use crate::fields::{put_address, put_metric};
 use byteorder::{BigEndian, ByteOrder};
 use ospf_types::memory::Memory;
 
-/// The mask, the metric, then a line for each TOS entry.
+/// Appends the mask, the metric, and a line for each TOS entry.
 pub(crate) fn put_summary(body: &[u8], text: &mut String) -> Result<(), Memory>
     requires { 8 ≤ length body.now }
     ensures { OnOk result (string_bytes text.new ≡ string_bytes text.old
@@ -20,7 +20,7 @@ pub(crate) fn put_summary(body: &[u8], text: &mut String) -> Result<(), Memory>
     Ok(())
 }
 
-/// A line for the metric.
+/// Appends a line for the metric.
 pub(crate) fn put_metric_line(metric: u32, text: &mut String) -> Result<(), Memory>
     ensures { OnOk result (string_bytes text.new ≡ string_bytes text.old ++ metric_line metric) }
 {
@@ -42,7 +42,7 @@ fn put_entries(entries: &[u8], text: &mut String) -> Result<(), Memory>
     Ok(())
 }
 
-// The TOS entry in front.
+// Appends a line for the first TOS entry.
 fn put_entry(bytes: &[u8], text: &mut String) -> Result<(), Memory>
     requires { 4 ≤ length bytes.now }
     ensures { OnOk result (string_bytes text.new ≡ string_bytes text.old

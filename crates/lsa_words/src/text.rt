@@ -1,4 +1,4 @@
-//! All of an LSA: the header, then the body by its LS type.
+//! A whole LSA in words: the header, and the body by its LS type.
 ghost use Rattle.std.specs.Prelude.{◌≡◌, ◌++◌, OnOk, string_bytes};
 ghost use Rattle.lsa_words.specs.Words.{body_words, words_of};
 
@@ -11,10 +11,15 @@ use lsa_codec::Checked;
 use ospf_types::lsa::{ASBR_SUMMARY_LSA, NETWORK_LSA, ROUTER_LSA, SUMMARY_LSA};
 use ospf_types::memory::Memory;
 
-/// Appends the LSA in words, a line for each field, link, attached router and TOS entry, in the
-/// order of its bytes. Ages are in seconds, and the length is in bytes. Options, router bits,
-/// sequence number and checksum are in hexadecimal. If memory runs out, the text may have a part
-/// of this.
+/// Appends the LSA in words (RFC 2328, A.4), line by line in the order of its bytes.
+///
+/// Each link, attached router, TOS entry and further TOS record has one line, and so has each other
+/// field. Ages are in seconds, and the length is in bytes. Options, router bits, sequence number
+/// and checksum are in hexadecimal.
+///
+/// # Errors
+///
+/// Returns `Memory` if memory runs out. The text may then have a part of the words.
 pub fn put_lsa_text(lsa: &Checked, text: &mut String) -> Result<(), Memory>
     ensures { OnOk result (string_bytes text.new ≡ string_bytes text.old ++ words_of lsa.now) }
 {
@@ -32,7 +37,7 @@ fn put_body(lsa: &Checked, text: &mut String) -> Result<(), Memory>
         ROUTER_LSA => put_router(body, text),
         NETWORK_LSA => put_network(body, text),
         SUMMARY_LSA => put_summary(body, text),
-        // A.4.4: the mask of this one is zero.
+        // A.4.4: the mask of a type 4 summary-LSA is zero.
         ASBR_SUMMARY_LSA => put_summary(body, text),
         _ => put_external(body, text),
     }

@@ -4,8 +4,11 @@ use lsa_codec::Checked;
 use lsa_order::contents_differ;
 use ospf_types::lsa::MAX_AGE;
 
-/// Whether what is used of the LSA, Options and body, differs from what is used of the instance that
-/// is held, which has the age in seconds that stands beside it (RFC 2328, 13.2).
+/// Returns true if installing the LSA changes what calculations use: Options and body (RFC 2328,
+/// 13.2).
+///
+/// `held` is the database instance with its present age in seconds. An instance at MaxAge is not
+/// used.
 pub(crate) fn is_used_otherwise(held: Option<(&Checked, u16)>, lsa: &Checked) -> bool
     ensures { TellsUseBeside held.entry lsa.now result }
 {
@@ -14,7 +17,7 @@ pub(crate) fn is_used_otherwise(held: Option<(&Checked, u16)>, lsa: &Checked) ->
     match held {
         None => is_used,
         Some((held, held_age)) => {
-            // It is in the grammar, so its length is that of its body.
+            // proof: the instance is in the grammar, so its length follows from its body.
             prove!(held.header().age <= MAX_AGE);
             let was_used = held_age < MAX_AGE;
             was_used != is_used || was_used && contents_differ(held, held_age, lsa, age)

@@ -1,3 +1,24 @@
+//! A link-state database in rows and columns.
+//!
+//! Each LSA has a row. The rows of an `IndexMap` hold the LSAs by key, and each column holds one
+//! value per row:
+//!
+//! ```text
+//!  row │ rows: key ─> LSA │ ages │ kinds   │ routers
+//! ─────┼──────────────────┼──────┼─────────┼────────────────────
+//!    0 │ ..               │ age  │ LS type │ Advertising Router
+//!    1 │ ..               │ age  │ LS type │ Advertising Router
+//! ```
+//!
+//! Ageing by a second touches only `ages`. The LSAs of one router, or of one age, are found by a
+//! scan of one column. A new key gets a new row at the end. If an LSA is purged, the last row moves
+//! to its index, in all columns.
+//!
+//! The column of ages is the only source of the present age. The age in an LSA's header is its age
+//! when it was installed.
+//!
+//! Contracts see a finite map from key to LSA at its present age, and the keys in the order of
+//! their rows. Only `ages`, `kinds`, `keys` and `key_at` speak of rows.
 ghost use Rattle.std.specs.Prelude.{◌≡◌, ◌+◌, ◌<◌, ◌≤◌, ◌++◌, [], ◌∷◌, None, Some, IsSome, OnOk, OnErr, IfOk, IfErr, IfSome, nat_le, count_by, length, option_map, is_some, position, slice_get, vec_len, vec_capacity, map as list_map};
 ghost use Rattle.std.specs.FinMap as map;
 ghost use Rattle.std.specs.Option.{option_copied};
@@ -20,8 +41,10 @@ use std::hash::RandomState;
 use std::marker::Model;
 use word_hash::WordHash;
 
-/// A link-state database (RFC 2328, 12): LSAs by key, each at its present age. A key's row stays
-/// until it is purged, or the last row takes the place of one that is.
+/// A link-state database (RFC 2328, 12): LSAs by key, each at its present age.
+///
+/// A row keeps its index until its own LSA is purged, or until it is the last row and moves to the
+/// index of a purged one.
 pub struct Database {
     rows: IndexMap<Key, Checked, WordHash>,
     ages: Vec<u16>,
@@ -30,7 +53,7 @@ pub struct Database {
     limit: u32,
 }
 
-// proof: one call drops it, in place of a drop of each part wherever one is held.
+// proof: a value is dropped by one call, not part by part at each exit of a function.
 impl Drop for Database {
     fn drop(self) {
         let Database {
@@ -61,7 +84,8 @@ impl Model for Database {
 }
 
 impl Database {
-    /// No LSAs, and room for so many.
+    /// Creates an empty database for at most `limit` LSAs. `hashing` supplies the keys of its hash
+    /// function.
     pub fn new(alloc: Global, limit: u32, hashing: RandomState) -> Database
         ensures { result ≡ record { lsas = map.empty; order = []; limit = limit } }
     {
@@ -74,7 +98,7 @@ impl Database {
         }
     }
 
-    /// How many LSAs are held.
+    /// Returns the number of LSAs.
     pub fn len(&self) -> usize
         ensures value { result ≡ map.len self.now.lsas }
         ensures sound { IsSound self.now.lsas }
@@ -84,8 +108,8 @@ impl Database {
         self.rows.len()
     }
 
-    /// The LSA under the key, with its present age in seconds. The age in its header is that of the
-    /// time when it was put there.
+    /// Returns the LSA with this key and its present age in seconds. The age in its header is its
+    /// age when it was installed.
     pub fn get(&self, key: Key) -> Option<(&Checked, u16)>
         ensures value { at_age_beside result ≡ map.get self.now.lsas key }
         ensures own { IfSome result (λ found. key_of found.0.now ≡ key) }
@@ -94,7 +118,7 @@ impl Database {
         Some((lsa, self.ages[row]))
     }
 
-    /// The LSA under the key, if it is below MaxAge, and so used in calculations.
+    /// Returns the LSA with this key if it is below MaxAge, and so is used in calculations.
     pub fn usable(&self, key: Key) -> Option<&Checked>
         ensures body { option_map (λ l. l.now.body) result ≡ body_at self.now.lsas key }
         ensures own { IfSome result (λ l. key_of l.now ≡ key) }
@@ -103,12 +127,13 @@ impl Database {
         if age < MAX_AGE { Some(lsa) } else { None }
     }
 
-    /// Why the LSA would not be installed, memory aside (RFC 2328, 13.1).
+    /// Returns the reason why the LSA would not be installed, memory aside (RFC 2328, 13.1), or
+    /// `None`.
     pub fn install_refusal(&self, lsa: &Checked) -> Option<InstallRefusal>
         ensures { result ≡ install_refusal_of self.now.lsas self.now.limit lsa.now }
     {
         match self.held(lsa.key()) {
-            // 13.1: which of two instances is newer.
+            // 13.1: the newer of two instances.
             Some(held) => match newer(&held, &lsa.header()) {
                 Newer::First => Some(InstallRefusal::Older),
                 Newer::Same => Some(InstallRefusal::Same),
@@ -119,8 +144,14 @@ impl Database {
         }
     }
 
-    /// Installs the LSA in place of what is held under its key (RFC 2328, 13.2), unless that is not
-    /// older or there is no room. The answer is whether what is used of it differs from before.
+    /// Installs the LSA in place of the instance with its key, if there is one (RFC 2328, 13.2).
+    /// Returns true if this changes what calculations use.
+    ///
+    /// # Errors
+    ///
+    /// Returns `Older` or `Same` if the database instance is newer or the same (13.1). Returns
+    /// `Full` if the key is new and the database is at its limit, or `Memory`. The database is then
+    /// unchanged.
     pub fn install(&mut self, lsa: Checked) -> Result<bool, InstallRefusal>
         ensures refused { IfErr result (IsInstallRefusal self.old.lsas self.old.limit lsa) }
         ensures unchanged { OnErr result (self.new ≡ self.old) }
@@ -139,8 +170,12 @@ impl Database {
         }
     }
 
-    /// Installs an LSA of which it is known that nothing refuses it (RFC 2328, 13.2). The answer is
-    /// whether what is used of it differs from before.
+    /// Installs an LSA that `install_refusal` does not refuse (RFC 2328, 13.2). Returns true if
+    /// this changes what calculations use.
+    ///
+    /// # Errors
+    ///
+    /// Returns `Memory` if memory runs out. The database is then unchanged.
     pub fn put(&mut self, lsa: Checked) -> Result<bool, Memory>
         requires { IsInstallable self.old lsa }
         ensures unchanged { OnErr result (self.new ≡ self.old) }
@@ -149,7 +184,7 @@ impl Database {
         ensures limit { OnOk result (self.new.limit ≡ self.old.limit) }
         ensures changed { IfOk result (TellsUseOf self.old.lsas lsa) }
     {
-        // 13.2: the contents are compared, and the LSA takes the place of the instance that is held.
+        // 13.2: the contents are compared, and the LSA replaces the database instance.
         let (row, changed) = self.compared(&lsa);
         match row {
             Some(row) => self.replace(row, lsa),
@@ -158,8 +193,12 @@ impl Database {
         Ok(changed)
     }
 
-    /// Sets the age of the LSA under the key to MaxAge (RFC 2328, 14.1). The answer is whether it was
-    /// used before.
+    /// Sets the age of the LSA with this key to MaxAge (RFC 2328, 14.1). Returns true if the LSA
+    /// was usable before.
+    ///
+    /// # Errors
+    ///
+    /// Returns `NoLsa` if the database has no LSA with this key. It is then unchanged.
     pub fn age_out(&mut self, key: Key) -> Result<bool, NoLsa>
         ensures absent { OnErr result (map.get self.old.lsas key ≡ None) }
         ensures there { OnOk result (IsSome (map.get self.old.lsas key)) }
@@ -179,7 +218,13 @@ impl Database {
         }
     }
 
-    /// Takes the LSA under the key out, which is at MaxAge (RFC 2328, 14). The last row takes its place.
+    /// Removes the LSA with this key, which has to be at MaxAge (RFC 2328, 14). The last row moves
+    /// to its index.
+    ///
+    /// # Errors
+    ///
+    /// Returns `NoLsa` if the database has no LSA with this key, or `NotMaxAge` if the LSA is below
+    /// MaxAge. The database is then unchanged.
     pub fn purge(&mut self, key: Key) -> Result<(), PurgeRefusal>
         ensures refused { IfErr result (IsPurgeRefusal self.old.lsas key) }
         ensures unchanged { OnErr result (self.new ≡ self.old) }
@@ -191,7 +236,7 @@ impl Database {
         match self.row_of(key) {
             None => Err(PurgeRefusal::NoLsa),
             Some(row) if self.ages[row] < MAX_AGE => Err(PurgeRefusal::NotMaxAge),
-            // 14: an LSA at MaxAge is taken out.
+            // 14: an LSA at MaxAge is removed.
             Some(row) => {
                 self.rows.swap_remove_index(row);
                 self.ages.swap_remove(row);
@@ -202,8 +247,8 @@ impl Database {
         }
     }
 
-    /// A second passes: each age below MaxAge rises by one (RFC 2328, 14). The answer is how many LSAs
-    /// came to MaxAge.
+    /// Ages the LSAs by one second: each age below MaxAge rises by one (RFC 2328, 14). Returns the
+    /// number of LSAs that reached MaxAge.
     pub fn second(&mut self) -> usize
         ensures aged { self.new.lsas ≡ all_aged self.old.lsas }
         ensures order { self.new.order ≡ self.old.order }
@@ -214,7 +259,11 @@ impl Database {
         lanes::second(ages)
     }
 
-    /// Adds the keys of the LSAs of an Advertising Router at the end.
+    /// Appends the keys of the LSAs of an Advertising Router, in the order of their rows.
+    ///
+    /// # Errors
+    ///
+    /// Returns `Memory` if memory runs out. `keys` is then unchanged.
     pub fn by_router(&self, router: u32, keys: &mut Vec<Key>) -> Result<(), Memory>
         ensures found { OnOk result (AddsKeys keys.old keys.new (keys_by router self.now)) }
         ensures unchanged { OnErr result (keys.new.items ≡ keys.old.items) }
@@ -224,7 +273,11 @@ impl Database {
         self.add_keys(&rows, keys)
     }
 
-    /// Adds the keys of the LSAs of an age, in seconds, at the end.
+    /// Appends the keys of the LSAs whose present age is `age` seconds, in the order of their rows.
+    ///
+    /// # Errors
+    ///
+    /// Returns `Memory` if memory runs out. `keys` is then unchanged.
     pub fn at_age(&self, age: u16, keys: &mut Vec<Key>) -> Result<(), Memory>
         ensures found { OnOk result (AddsKeys keys.old keys.new (keys_aged age self.now)) }
         ensures unchanged { OnErr result (keys.new.items ≡ keys.old.items) }
@@ -234,21 +287,21 @@ impl Database {
         self.add_keys(&rows, keys)
     }
 
-    /// The ages in seconds, one a row.
+    /// Returns the present ages in seconds, one per row.
     pub fn ages(&self) -> &[u16]
         ensures { result.now ≡ ages_of self.now }
     {
         &self.ages
     }
 
-    /// The LS types, one a row.
+    /// Returns the LS types, one per row.
     pub fn kinds(&self) -> &[u8]
         ensures { result.now ≡ list_map (λ key. key.kind) self.now.order }
     {
         &self.kinds
     }
 
-    /// The keys of all LSAs, one a row.
+    /// Returns the keys of all LSAs, one per row.
     pub fn keys(&self) -> &[Key]
         ensures value { result.now ≡ self.now.order }
         ensures ordered { IsOrder self.now }
@@ -257,7 +310,7 @@ impl Database {
         keys.as_slice()
     }
 
-    /// The key of a row.
+    /// Returns the key of the row.
     pub fn key_at(&self, row: usize) -> Option<&Key>
         ensures { option_copied result ≡ slice_get self.now.order row }
     {
@@ -265,7 +318,11 @@ impl Database {
         Some(key)
     }
 
-    /// Copies of the LSAs at their present age, in the order of their keys.
+    /// Returns copies of the LSAs at their present age, in the order of their keys.
+    ///
+    /// # Errors
+    ///
+    /// Returns `Memory` if memory runs out.
     pub fn lsas(&self) -> Result<Vec<Checked>, Memory>
         ensures { IfOk result (λ lsas. lsas.items ≡ map.values self.now.lsas) }
     {
@@ -276,7 +333,7 @@ impl Database {
 }
 
 impl Database {
-    // The row of the key.
+    // Returns the row of the key.
     fn row_of(&self, key: Key) -> Option<usize>
         ensures row { result ≡ position (is_key key) self.now.order }
         ensures found { is_some result ≡ is_some (map.get self.now.lsas key) }
@@ -284,7 +341,8 @@ impl Database {
         self.rows.get_index_of(&key)
     }
 
-    // The row of the LSA's key, and whether what is used of the LSA differs from what is used of the one in that row.
+    // Returns the row of the LSA's key, and true if installing the LSA changes what calculations
+    // use.
     fn compared(&self, lsa: &Checked) -> (Option<usize>, bool)
         ensures row { result.0 ≡ position (is_key (key_of lsa.now)) self.now.order }
         ensures found { is_some result.0 ≡ is_some (map.get self.now.lsas (key_of lsa.now)) }
@@ -296,7 +354,7 @@ impl Database {
         }
     }
 
-    // The row of the key, and the LSA there with its present age.
+    // Returns the row of the key, and its LSA with the present age.
     fn in_row(&self, key: Key) -> Option<(usize, &Checked, u16)>
         ensures value { option_map (λ x. with_age x.1.now x.2) result ≡ map.get self.now.lsas key }
         ensures row { option_map (λ x. x.0) result ≡ position (is_key key) self.now.order }
@@ -305,7 +363,7 @@ impl Database {
         Some((row, lsa, self.ages[row]))
     }
 
-    // The header of the LSA under the key, with its present age.
+    // Returns the header of the LSA with this key, at its present age.
     fn held(&self, key: Key) -> Option<Header>
         ensures { result ≡ option_map (λ l. l.header) (map.get self.now.lsas key) }
     {
@@ -316,14 +374,14 @@ impl Database {
         })
     }
 
-    // Whether as many LSAs are held as may be.
+    // Returns true if the number of LSAs is at its limit.
     fn is_full(&self) -> bool
         ensures { result ≡ nat_le self.now.limit (map.len self.now.lsas) }
     {
         self.limit as usize <= self.len()
     }
 
-    // Puts the LSA in the place of the one in the row of its key.
+    // Replaces the LSA in the row of its key.
     fn replace(&mut self, row: usize, lsa: Checked)
         requires { position (is_key (key_of lsa)) self.old.order ≡ Some row }
         ensures installed { self.new.lsas ≡ with_lsa self.old.lsas lsa }
@@ -334,7 +392,7 @@ impl Database {
         self.rows[row] = lsa;
     }
 
-    // Puts the LSA in a row of its own, the last. Each column has room before any changes.
+    // Appends the LSA in a new row. Memory for all columns is reserved before any of them changes.
     fn append(&mut self, lsa: Checked) -> Result<(), Memory>
         requires absent { position (is_key (key_of lsa)) self.old.order ≡ None }
         requires room { map.len self.old.lsas < self.old.limit }
@@ -355,7 +413,8 @@ impl Database {
         Ok(())
     }
 
-    // Adds the keys of the rows at the end. There is room for all before the first is added.
+    // Appends the keys of the rows. Memory for all of them is reserved before the first is
+    // appended.
     fn add_keys(&self, rows: &[u32], keys: &mut Vec<Key>) -> Result<(), Memory>
         ensures found { OnOk result (AddsKeys keys.old keys.new (keys_in self.now rows.now)) }
         ensures unchanged { OnErr result (keys.new.items ≡ keys.old.items) }
@@ -369,7 +428,8 @@ impl Database {
         Ok(())
     }
 
-    // Copies of the LSAs under those keys that have one, at their present age.
+    // Returns copies of the LSAs with these keys, at their present age. A key without an LSA is
+    // skipped.
     fn copies(&self, keys: &[Key]) -> Result<Vec<Checked>, Memory>
         ensures { IfOk result (λ lsas. lsas.items ≡ lsas_of_keys self.now.lsas keys.now) }
     {
@@ -382,7 +442,7 @@ impl Database {
         Ok(lsas)
     }
 
-    // A copy of the LSA under the key, at its present age.
+    // Returns a copy of the LSA with this key, at its present age.
     fn copy_of(&self, key: Key) -> Result<Option<Checked>, Memory>
         ensures { IfOk result (λ copy. copy ≡ map.get self.now.lsas key) }
     {
@@ -397,7 +457,7 @@ impl Database {
     }
 }
 
-// Appends the value to a column with room for it.
+// Appends a value to a list that has room for it.
 fn push_in_room<T: Drop>(column: &mut Vec<T>, value: T)
     requires { vec_len column.old < vec_capacity column.old }
     ensures items { column.new.items ≡ column.old.items ++ value ∷ [] }

@@ -1,5 +1,7 @@
 //! One link-state database of an OSPF area border router (RFC 2328, 12 to 14): LSAs by key, each at
-//! its present age. The LSAs stand in rows, a column for each thing that is looked for among them.
+//! its present age.
+//!
+//! A database is kept in rows and columns; `database` describes them.
 #![tactic(auto)]
 
 mod contents;

@@ -4,20 +4,20 @@ ghost use Rattle.lsdb.specs.Texts.{install_refusal_text, no_lsa_text, purge_refu
 use std::fmt;
 use thiserror::Error;
 
-/// Why an LSA was not installed. The database is as it was.
+/// The reason why an LSA was not installed. The database is unchanged.
 #[derive(Clone, Copy, Debug, PartialEq, Eq, Error)]
 pub enum InstallRefusal {
-    /// The instance that is held is newer (RFC 2328, 13.1).
+    /// The database instance is newer (RFC 2328, 13.1).
     Older,
-    /// The instance that is held is the same (RFC 2328, 13.1).
+    /// The database instance is the same (RFC 2328, 13.1).
     Same,
-    /// The LSA has a new key, and as many LSAs are held as may be.
+    /// The LSA has a new key, and the database is at its limit.
     Full,
     /// Memory ran out.
     Memory,
 }
 
-/// The number and the name, as `22 Older`.
+/// The refusal as a number and a name, such as `22 Older`.
 impl fmt::Display for InstallRefusal {
     ghost output = { λ refusal. Some (install_refusal_text refusal) };
 
@@ -31,11 +31,11 @@ impl fmt::Display for InstallRefusal {
     }
 }
 
-/// No LSA is held under the key. The database is as it was.
+/// The database has no LSA with this key. It is unchanged.
 #[derive(Clone, Copy, Debug, PartialEq, Eq, Error)]
 pub struct NoLsa;
 
-/// The number and the name, `24 NoLsa`.
+/// The refusal as a number and a name: `24 NoLsa`.
 impl fmt::Display for NoLsa {
     ghost output = { λ _. Some no_lsa_text };
 
@@ -44,16 +44,16 @@ impl fmt::Display for NoLsa {
     }
 }
 
-/// Why an LSA was not purged. The database is as it was.
+/// The reason why an LSA was not purged. The database is unchanged.
 #[derive(Clone, Copy, Debug, PartialEq, Eq, Error)]
 pub enum PurgeRefusal {
-    /// No LSA is held under the key.
+    /// The database has no LSA with this key.
     NoLsa,
     /// The LSA is not at MaxAge (RFC 2328, 14).
     NotMaxAge,
 }
 
-/// The number and the name, as `26 NotMaxAge`.
+/// The refusal as a number and a name, such as `26 NotMaxAge`.
 impl fmt::Display for PurgeRefusal {
     ghost output = { λ refusal. Some (purge_refusal_text refusal) };
 

@@ -1,13 +1,13 @@
-//! The bits of a hash that tell where the search of a network begins.
+//! The bits of a hash that say where the search for a network begins.
 ghost use Rattle.std.specs.Prelude.{◌≡◌, ◌≤◌, ◌+◌, ◌-◌, ◌*◌, ◌/◌, ◌^◌, bit_and};
 
 use std::marker::Model;
 
-/// How many of the lowest bits of a hash tell a home: at most 31.
+/// The number of bits of a home, at most 31: the lowest bits of a hash.
 #[derive(Clone, Copy)]
 pub(crate) struct HomeBits {
     bits: u32,
-    // A one for each.
+    // A mask with a one for each of these bits.
     mask: u64,
 }
 
@@ -34,7 +34,7 @@ impl HomeBits {
         }
     }
 
-    // How many homes they tell apart.
+    // Returns the number of homes that these bits can name.
     #[inline]
     pub(crate) fn homes(self) -> usize
         ensures value { result ≡ 2 ^ self }
@@ -43,7 +43,7 @@ impl HomeBits {
         self.mask as usize + 1
     }
 
-    // The home of a hash.
+    // Returns the home of a hash: its lowest bits.
     #[inline]
     pub(crate) fn home(self, hash: u64) -> usize
         ensures { result ≡ bit_and hash (2 ^ self - 1) }
@@ -51,7 +51,8 @@ impl HomeBits {
         (hash & self.mask) as usize
     }
 
-    // The tag of a hash: its highest 32 bits, with zeros for as many as tell a home.
+    // Returns the tag of a hash: its highest 32 bits, of which the lowest are set to zero, one for
+    // each bit of a home.
     #[inline]
     pub(crate) fn tag(self, hash: u64) -> usize
         ensures value { result ≡ hash / 2 ^ 32 / 2 ^ self * 2 ^ self }
@@ -62,7 +63,7 @@ impl HomeBits {
     }
 }
 
-// How many homes so many bits tell apart.
+// Returns the number of homes that the given number of bits can name.
 pub(crate) fn homes(bits: u32) -> usize
     requires { bits ≤ 31 }
     ensures value { result ≡ 2 ^ bits }

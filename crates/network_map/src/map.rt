@@ -1,4 +1,4 @@
-//! The map.
+//! The map from networks to values.
 ghost use Rattle.std.specs.Prelude.{◌≡◌, ◌≢◌, ◌<◌, ◌^◌, true, None, IfNone, IfSome, IsSome, OnOk, OnErr, is_some, option_copied, option_map, IsTrue};
 ghost use Rattle.std.specs.FinMap as map;
 ghost use Rattle.std.specs.List.{AllPairs};
@@ -13,18 +13,20 @@ use std::fmt::{Debug, Formatter};
 use std::marker::Model;
 use word_hash::WordHash;
 
-/// Values by network. A look-up of a network that has a value mostly reads one slot and the entry.
-/// Beside the entries, its slots take some 10 to 40 bytes a network while it grows. Removals give memory
-/// back in large steps.
+/// A map from networks to values.
+///
+/// A lookup of a network that has a value usually reads one slot and the entry. While the map
+/// grows, the slots take some 10 to 40 bytes for each network in addition to the entries. Removals
+/// give memory back in large steps.
 pub struct NetworkMap<V> {
     alloc: Global,
     hashing: WordHash,
-    // In no order.
+    // The entries, in no particular order.
     entries: Vec<(Prefix, V)>,
     slots: Slots,
 }
 
-// proof: one call drops it, in place of a drop of each part wherever one is held.
+// proof: a value is dropped by one call, not part by part at each exit of a function.
 impl<V: Drop> Drop for NetworkMap<V> {
     fn drop(self) {
         let NetworkMap {
@@ -50,7 +52,7 @@ impl<V> Model for NetworkMap<V> {
     ghost invariant = { λ m. IsWhole m.hashing m.entries.items m.slots };
 }
 
-// It prints no entry.
+// The entries are not printed.
 impl<V> Debug for NetworkMap<V> {
     fn fmt<W: fmt::Write>(&self, f: &mut Formatter<W>) -> fmt::Result {
         f.debug_struct("NetworkMap").finish_non_exhaustive()
@@ -58,7 +60,7 @@ impl<V> Debug for NetworkMap<V> {
 }
 
 impl<V> NetworkMap<V> {
-    /// How many networks have a value.
+    /// Returns the number of networks that have a value.
     #[inline]
     pub fn len(&self) -> usize
         ensures count { result ≡ map.len self.now }
@@ -67,7 +69,7 @@ impl<V> NetworkMap<V> {
         self.entries.len()
     }
 
-    /// The network's value. It takes no memory.
+    /// Returns the network's value. It takes no memory.
     #[inline]
     pub fn get(&self, network: Prefix) -> Option<&V>
         ensures { option_copied result ≡ map.get self.now network }
@@ -81,8 +83,8 @@ impl<V> NetworkMap<V> {
         }
     }
 
-    /// The network's value, with the place where it stands: a hint for `has_at` and `replace_at`. It takes no
-    /// memory.
+    /// Returns the network's value and its place, which is a hint for `has_at` and `replace_at`. It
+    /// takes no memory.
     #[inline]
     pub fn find(&self, network: Prefix) -> Option<(usize, &V)>
         ensures { option_map (λ found. found.1.now) result ≡ map.get self.now network }
@@ -96,7 +98,7 @@ impl<V> NetworkMap<V> {
         }
     }
 
-    /// Whether the network's value stands at the place. Nothing is looked up.
+    /// Returns true if the network's value is at the place. It reads no slot.
     #[inline]
     pub fn has_at(&self, place: usize, network: Prefix) -> bool
         ensures { IsTrue result → IsSome (map.get self.now network) }
@@ -104,7 +106,7 @@ impl<V> NetworkMap<V> {
         stands_at(self.entries.as_slice(), place, network)
     }
 
-    /// Whether the network has a value.
+    /// Returns true if the network has a value.
     #[inline]
     pub fn contains(&self, network: Prefix) -> bool
         ensures { result ≡ is_some (map.get self.now network) }
@@ -112,7 +114,7 @@ impl<V> NetworkMap<V> {
         self.get(network).is_some()
     }
 
-    /// The networks with their values, each once, in no stated order.
+    /// Returns the networks with their values, in no particular order.
     pub fn entries(&self) -> &[(Prefix, V)]
         ensures all { map.from_entries result.now ≡ self.now }
         ensures once { AllPairs (λ e f. e.0 ≢ f.0) result.now }
@@ -122,7 +124,7 @@ impl<V> NetworkMap<V> {
 }
 
 impl<V: Drop> NetworkMap<V> {
-    /// No values. It takes no memory yet.
+    /// Creates an empty map. It takes no memory until a value is inserted.
     pub fn new(alloc: Global, hashing: WordHash) -> NetworkMap<V>
         ensures { result ≡ map.empty }
     {
@@ -134,8 +136,12 @@ impl<V: Drop> NetworkMap<V> {
         }
     }
 
-    /// Gives the network the value, in place of the one that it had. Only a new network takes memory. If
-    /// it runs out, nothing changes.
+    /// Sets the network's value, and drops the old value if there is one.
+    ///
+    /// # Errors
+    ///
+    /// Returns `Memory` if memory runs out. This happens only if the network has no value. Nothing
+    /// changes then.
     pub fn insert(&mut self, network: Prefix, value: V) -> Result<(), Memory>
         ensures ok { OnOk result (self.new ≡ map.insert self.old network value) }
         ensures err { OnErr result (self.new ≡ self.old) }
@@ -147,8 +153,8 @@ impl<V: Drop> NetworkMap<V> {
         }
     }
 
-    /// Gives a network that has a value the value in its place. Where it has none, the value comes back,
-    /// and nothing changes.
+    /// Replaces the network's value. If the network has none, returns the new value, and nothing
+    /// changes.
     pub fn replace(&mut self, network: Prefix, value: V) -> Option<V>
         ensures replaced { IfNone result (self.new ≡ map.insert self.old network value) }
         ensures stood { IfNone result (IsSome (map.get self.old network)) }
@@ -168,7 +174,8 @@ impl<V: Drop> NetworkMap<V> {
         }
     }
 
-    /// What `replace` does, with no look-up where the network's value stands at the place.
+    /// Replaces the network's value, as `replace` does, without a search if the value is at the
+    /// place.
     #[inline]
     pub fn replace_at(&mut self, place: usize, network: Prefix, value: V) -> Option<V>
         ensures replaced { IfNone result (self.new ≡ map.insert self.old network value) }
@@ -184,7 +191,11 @@ impl<V: Drop> NetworkMap<V> {
         self.replace(network, value)
     }
 
-    /// Gives a network that has no value the value. If memory runs out, nothing changes.
+    /// Adds a network that has no value, with its value.
+    ///
+    /// # Errors
+    ///
+    /// Returns `Memory` if memory runs out. Nothing changes then.
     pub fn add(&mut self, network: Prefix, value: V) -> Result<(), Memory>
         requires { map.get self.old network ≡ None }
         ensures ok { OnOk result (self.new ≡ map.insert self.old network value) }
@@ -202,8 +213,8 @@ impl<V: Drop> NetworkMap<V> {
         Ok(())
     }
 
-    /// Takes the network's value out, and says whether it had one. Where far fewer are left than there
-    /// were, it gives memory back.
+    /// Removes the network's value, and returns true if it had one. If far fewer values are left
+    /// than there were, memory is given back.
     pub fn remove(&mut self, network: Prefix) -> bool
         ensures removed { self.new ≡ map.remove self.old network }
         ensures stood { result ≡ is_some (map.get self.old network) }
@@ -213,7 +224,7 @@ impl<V: Drop> NetworkMap<V> {
         stood
     }
 
-    /// Takes all values out, and gives their memory back.
+    /// Removes all values, and gives their memory back.
     pub fn clear(&mut self)
         ensures { self.new ≡ map.empty }
     {
@@ -221,7 +232,8 @@ impl<V: Drop> NetworkMap<V> {
         self.slots = Slots::new(self.alloc);
     }
 
-    // Takes the network's value out, and says whether it had one. The last entry takes the place of its own.
+    // Removes the network's value, and returns true if it had one. The last entry moves to its
+    // index.
     fn take(&mut self, network: Prefix) -> bool
         ensures removed { self.new ≡ map.remove self.old network }
         ensures stood { result ≡ is_some (map.get self.old network) }
@@ -238,7 +250,7 @@ impl<V: Drop> NetworkMap<V> {
         true
     }
 
-    // Makes fewer slots, if far fewer entries are left. If memory runs out, they stay.
+    // Makes fewer slots if far fewer entries are left. If memory runs out, the slots stay.
     fn shrink(&mut self)
         ensures { self.new ≡ self.old }
     {

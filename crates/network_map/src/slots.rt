@@ -1,4 +1,4 @@
-//! Slots that tell where a network's entry is.
+//! The slots that give the index of a network's entry.
 ghost use Rattle.std.specs.Prelude.{◌≡◌, ◌≢◌, ℕ, ◌+◌, ◌^◌, ◌<◌, ◌≤◌, false, [], None, IfSome, IfOk, IsTrue, OnOk, OnErr, length, slice_index};
 ghost use Rattle.std.specs.List.{slice_get};
 ghost use Rattle.ospf_types.specs.Network.{network_word};
@@ -9,41 +9,44 @@ use ospf_types::prefix::Prefix;
 use std::alloc::{AllocError, Global};
 use word_hash::WordHash;
 
-// No entry ever stood here.
+// The number of a slot that never had an entry.
 const EMPTY: u32 = 0;
 
-// An entry that stood here is gone.
+// The number of a slot whose entry was removed.
 const GONE: u32 = 1;
 
-// The least number that is neither: the number of the first entry with no tag.
+// The least number that is neither: the entry at index 0, with the tag 0.
 const FIRST: usize = 2;
 
-// The fewest and the most bits of a home.
+// The fewest bits of a home.
 const FEWEST: u32 = 3;
 
+// The most bits of a home.
 const MOST: u32 = 31;
 
-// How many homes the fewest bits tell apart.
+// The number of homes with the fewest bits.
 const LEAST: usize = 8;
 
-// Slots past the last home, so that the last ones seldom fill.
+// The number of slots past the last home, so that the last slots are seldom full.
 const TAIL: usize = 64;
 
-/// A number for each slot: 0, 1, or a tag of the network's hash above the entry's place + 2. An entry's
-/// slot is the first one from its network's home on that was free when it came. A look-up compares the
-/// network, so a number that no entry has does no harm.
+/// A table of slots with a number each: 0, 1, or the sum of the network's tag, the index of its
+/// entry, and 2.
+///
+/// The slot of an entry is the first one from its network's home on that was free when it was
+/// added. A search compares the network too, so a number without an entry does no harm.
 #[derive(Drop)]
 pub(crate) struct Slots {
-    // None until the first entry comes.
+    // Empty until the first entry is added.
     pub(crate) numbers: Vec<u32>,
     // There are 2 ^ bits homes. The bits of a number above these are the tag.
     pub(crate) bits: HomeBits,
-    // How many slots are not empty.
+    // The number of slots that are not 0.
     pub(crate) used: usize,
 }
 
 impl Slots {
-    // No slots. It takes no memory yet.
+    // Creates a table without slots. It takes no memory yet.
     pub(crate) fn new(alloc: Global) -> Slots
         ensures none { result.numbers.items ≡ [] }
         ensures few { result.bits ≡ 3 }
@@ -56,7 +59,7 @@ impl Slots {
         }
     }
 
-    // Empty slots, at least five for each of so many entries.
+    // Creates empty slots, at least five for each of `count` entries.
     fn with_room(alloc: Global, count: usize) -> Result<Slots, AllocError>
         ensures ready { IfOk result (λ s. IsReady s count) }
         ensures empty { IfOk result (λ s. (q : ℕ) → slice_index s.numbers.items q ≡ 0) }
@@ -76,7 +79,7 @@ impl Slots {
         })
     }
 
-    // Slots for the entries, and for one more.
+    // Creates slots for the entries, and for one more.
     pub(crate) fn of<V>(
         alloc: Global,
         hashing: WordHash,
@@ -93,8 +96,8 @@ impl Slots {
         Ok(slots)
     }
 
-    // Whether the next entry needs more slots: two fifths of the homes are used, or its place has too many
-    // bits.
+    // Returns true if the next entry needs more slots: there are none yet, two fifths of the homes
+    // are used, or its index has too many bits.
     pub(crate) fn is_full(&self, count: usize) -> bool
         requires { self.now.bits ≤ 31 }
         ensures { result ≡ false → IsReady self.now count }
@@ -103,13 +106,14 @@ impl Slots {
         self.numbers.len() < homes || self.used >= homes / 5 * 2 || count >= homes.saturating_sub(2)
     }
 
-    // Whether so many entries have more than 20 homes each.
+    // Returns true if there are more than 20 homes for each of `count` entries, and not yet the
+    // fewest.
     pub(crate) fn is_wide(&self, count: usize) -> bool {
         let homes = self.bits.homes();
         homes > LEAST && count < homes / 20
     }
 
-    // The place of the network's entry.
+    // Returns the index of the network's entry.
     #[inline]
     pub(crate) fn find<V>(
         &self,
@@ -130,8 +134,8 @@ impl Slots {
         probe(self.numbers.as_slice(), entries, sought)
     }
 
-    // Puts the network's entry, which is at the place, into a free slot. If memory runs out, nothing
-    // changes.
+    // Writes the number of the network's entry, which is at index `place`, to a free slot. If
+    // memory runs out, nothing changes.
     pub(crate) fn add(
         &mut self,
         hashing: WordHash,
@@ -155,7 +159,7 @@ impl Slots {
         Ok(())
     }
 
-    // Takes the slot of the entry at the place out of use. The last entry's slot tells that place then.
+    // Frees the slot of the entry at index `place`. The slot of the last entry gets that index.
     pub(crate) fn take<V>(&mut self, hashing: WordHash, entries: &[(Prefix, V)], place: usize)
         requires slotted { AreSlotted hashing entries.now self.old }
         requires within { place < length entries.now }
@@ -169,7 +173,7 @@ impl Slots {
         self.relocate(hashing, entries[last].0, last, place);
     }
 
-    // Takes the slot of the network's entry, which is at the place, out of use.
+    // Frees the slot of the network's entry, which is at index `place`.
     fn remove(&mut self, hashing: WordHash, network: Prefix, place: usize)
         requires room { place + 3 ≤ 2 ^ self.old.bits }
         requires placed { LeadsTo hashing self.old network place }
@@ -188,7 +192,7 @@ impl Slots {
         );
     }
 
-    // Notes that the network's entry went from one place to another.
+    // Changes the index of the network's entry in its slot.
     fn relocate(&mut self, hashing: WordHash, network: Prefix, from: usize, to: usize)
         requires from { from + 3 ≤ 2 ^ self.old.bits }
         requires to { to + 3 ≤ 2 ^ self.old.bits }
@@ -210,7 +214,7 @@ impl Slots {
     }
 }
 
-// Sees to it that there are slots for one entry more. If memory runs out, they stay.
+// Makes sure that there are slots for one more entry. If memory runs out, the slots are unchanged.
 pub(crate) fn make_room<V>(
     slots: &mut Slots,
     entries: &[(Prefix, V)],
@@ -228,7 +232,8 @@ pub(crate) fn make_room<V>(
     Ok(())
 }
 
-// How many bits the homes of so many entries need, at most one home in five being full.
+// Returns the number of bits of a home for `count` entries, so that at most one home in five is
+// used.
 fn bits_for(count: usize) -> Option<u32>
     ensures { IfSome result (AreBitsFor count) }
 {
@@ -240,7 +245,7 @@ fn bits_for(count: usize) -> Option<u32>
     None
 }
 
-// The number that a network is hashed by.
+// Returns the word by which the network is hashed.
 #[inline]
 fn word(network: Prefix) -> u64
     ensures { result ≡ network_word network }
@@ -248,7 +253,7 @@ fn word(network: Prefix) -> u64
     u64::from(network.address()) * 256 + u64::from(network.length())
 }
 
-// The slot at which the search of a network begins: the lowest bits of its hash.
+// Returns the network's home, the slot at which the search begins: the lowest bits of its hash.
 #[inline]
 fn home(hashing: WordHash, bits: HomeBits, network: Prefix) -> usize
     ensures value { result ≡ home_of hashing bits network }
@@ -257,7 +262,8 @@ fn home(hashing: WordHash, bits: HomeBits, network: Prefix) -> usize
     bits.home(hashing.hash_word(word(network)))
 }
 
-// The number of a network's entry at the place 0: the tag is of the highest bits of its hash.
+// Returns the number of the network's entry if its index were 0. The tag is made of the highest
+// bits of the hash.
 #[inline]
 fn base(hashing: WordHash, bits: HomeBits, network: Prefix) -> usize
     ensures value { result ≡ base_of hashing bits network }
@@ -267,7 +273,7 @@ fn base(hashing: WordHash, bits: HomeBits, network: Prefix) -> usize
     bits.tag(hashing.hash_word(word(network))) + FIRST
 }
 
-// The number of a network's entry.
+// Returns the number of the network's entry at index `place`.
 #[inline]
 fn number(hashing: WordHash, bits: HomeBits, network: Prefix, place: usize) -> u32
     requires { place + 3 ≤ 2 ^ bits }
@@ -277,7 +283,7 @@ fn number(hashing: WordHash, bits: HomeBits, network: Prefix, place: usize) -> u
     (base(hashing, bits, network) + place) as u32
 }
 
-// The network that a search is for, the slot at which it begins, and the number of an entry at the place 0.
+// A search: its network, its first slot, and the number of the network's entry at index 0.
 #[derive(Clone, Copy)]
 struct Sought {
     home: usize,
@@ -285,7 +291,7 @@ struct Sought {
     network: Prefix,
 }
 
-// The place of the network's entry, found by the numbers from the home on.
+// Searches the slots from the home on, and returns the index of the network's entry.
 #[inline]
 fn probe<V>(numbers: &[u32], entries: &[(Prefix, V)], sought: Sought) -> Option<usize>
     requires { 2 ≤ sought.base }
@@ -307,13 +313,13 @@ fn probe<V>(numbers: &[u32], entries: &[(Prefix, V)], sought: Sought) -> Option<
     None
 }
 
-// The place that the number tells, if the network's entry is there.
+// Returns the index that the number gives, if the network's entry is there.
 #[inline]
 fn named<V>(entries: &[(Prefix, V)], number: u32, base: usize, network: Prefix) -> Option<usize>
     ensures found { IfSome result (λ i. HasNetwork entries.now i network) }
     ensures missing { result ≡ None → IsOtherNumber number base entries.now network }
 {
-    // A number below the base gives a place past the end.
+    // A number below the base gives an index past the end.
     let place = (number as usize).wrapping_sub(base);
     if place < entries.len() && entries[place].0 == network {
         return Some(place);
@@ -321,7 +327,7 @@ fn named<V>(entries: &[(Prefix, V)], number: u32, base: usize, network: Prefix) 
     None
 }
 
-// Whether the entry at the place is the network's.
+// Returns true if the entry at index `place` is that network's.
 #[inline]
 pub(crate) fn stands_at<V>(entries: &[(Prefix, V)], place: usize, network: Prefix) -> bool
     ensures { IsTrue result → HasNetwork entries.now place network }
@@ -329,7 +335,7 @@ pub(crate) fn stands_at<V>(entries: &[(Prefix, V)], place: usize, network: Prefi
     place < entries.len() && entries[place].0 == network
 }
 
-// The first slot from the home on that is free, or the end.
+// Returns the first free slot from the home on, or the number of slots if there is none.
 fn free_from(numbers: &[u32], home: usize) -> usize
     requires { home ≤ length numbers.now }
     ensures { IsFree numbers.now home result }
@@ -341,7 +347,7 @@ fn free_from(numbers: &[u32], home: usize) -> usize
     slot
 }
 
-// The first slot from the home on that has the number.
+// Returns the first slot from the home on that has the number.
 fn slot_of(numbers: &[u32], home: usize, number: u32) -> usize
     requires some { number ≢ 0 }
     requires placed { IsPlaced numbers.now home number }
@@ -357,7 +363,7 @@ fn slot_of(numbers: &[u32], home: usize, number: u32) -> usize
     slot
 }
 
-// Gives the first slot from the home on that has the number another.
+// Replaces the number in the first slot from the home on that has it.
 fn renumber(numbers: &mut Vec<u32>, home: usize, old: u32, new: u32)
     requires placed { IsPlaced numbers.old.items home old }
     requires old { old ≢ 0 }

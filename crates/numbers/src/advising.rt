@@ -1,10 +1,12 @@
-//! The advice for each number, a function for each table of them.
+//! The advice for each number, with one function for each table.
 ghost use Rattle.std.specs.Prelude.{◌≡◌, option_map};
 ghost use Rattle.numbers.specs.Advice.{advice_of, advice_in, lsa_faults, refusals, later_refusals, config_faults, line_faults, call_faults, capture_faults, packet_faults, datagram_faults};
 
-/// What the number of a fault or a refusal means, and what to do about it: one line, with number and
-/// name, a sentence that says what holds, and one that says what to do. Another number has no advice.
-/// (11 is no refusal: C is told by it that an event was taken, and what follows is older.)
+/// Returns the advice for the number of a fault or a refusal, or `None` for any other number.
+///
+/// The advice is one line. It has the number and the name, a sentence about its meaning, and a
+/// sentence about what to do. 11 is not a refusal: it reports to C that an event was taken and that
+/// the table and the due summaries are older.
 pub fn advice(number: u32) -> Option<&'static str>
     ensures { option_map (λ t. t.now) result ≡ advice_of number }
 {
@@ -19,7 +21,7 @@ pub fn advice(number: u32) -> Option<&'static str>
         .or(datagram_fault(number))
 }
 
-// Of the bytes of an LSA.
+// Returns the advice for a fault of the bytes of an LSA.
 fn lsa_fault(number: u32) -> Option<&'static str>
     ensures { option_map (λ t. t.now) result ≡ advice_in lsa_faults number }
 {
@@ -51,7 +53,7 @@ fn lsa_fault(number: u32) -> Option<&'static str>
     Some(text)
 }
 
-// Of an event.
+// Returns the advice for a refusal of an event.
 fn refusal(number: u32) -> Option<&'static str>
     ensures { option_map (λ t. t.now) result ≡ advice_in refusals number }
 {
@@ -80,7 +82,7 @@ fn refusal(number: u32) -> Option<&'static str>
     Some(text)
 }
 
-// Of an event, or a roll.
+// Returns the advice for a refusal of an event or a roll.
 fn later_refusal(number: u32) -> Option<&'static str>
     ensures { option_map (λ t. t.now) result ≡ advice_in later_refusals number }
 {
@@ -107,7 +109,7 @@ fn later_refusal(number: u32) -> Option<&'static str>
     Some(text)
 }
 
-// Of a configuration, a base, or an engine that is opened.
+// Returns the advice for a fault of a configuration or a base, or in opening an engine.
 fn config_fault(number: u32) -> Option<&'static str>
     ensures { option_map (λ t. t.now) result ≡ advice_in config_faults number }
 {
@@ -131,7 +133,7 @@ fn config_fault(number: u32) -> Option<&'static str>
     Some(text)
 }
 
-// Of a line of a recording.
+// Returns the advice for a fault of a line of a recording.
 fn line_fault(number: u32) -> Option<&'static str>
     ensures { option_map (λ t. t.now) result ≡ advice_in line_faults number }
 {
@@ -156,7 +158,7 @@ fn line_fault(number: u32) -> Option<&'static str>
     Some(text)
 }
 
-// Of a call from C.
+// Returns the advice for a fault of a call from C.
 fn call_fault(number: u32) -> Option<&'static str>
     ensures { option_map (λ t. t.now) result ≡ advice_in call_faults number }
 {
@@ -169,7 +171,7 @@ fn call_fault(number: u32) -> Option<&'static str>
     Some(text)
 }
 
-// Of a capture of a network, a pcap or a pcapng.
+// Returns the advice for a fault of a capture, a pcap or pcapng file.
 fn capture_fault(number: u32) -> Option<&'static str>
     ensures { option_map (λ t. t.now) result ≡ advice_in capture_faults number }
 {
@@ -202,7 +204,7 @@ fn capture_fault(number: u32) -> Option<&'static str>
     Some(text)
 }
 
-// Of an OSPF packet, and of the LSAs of a Link State Update.
+// Returns the advice for a fault of an OSPF packet, or of the LSAs of a Link State Update.
 fn packet_fault(number: u32) -> Option<&'static str>
     ensures { option_map (λ t. t.now) result ≡ advice_in packet_faults number }
 {
@@ -229,7 +231,7 @@ fn packet_fault(number: u32) -> Option<&'static str>
     Some(text)
 }
 
-// Of an IPv4 datagram.
+// Returns the advice for a fault of an IPv4 datagram.
 fn datagram_fault(number: u32) -> Option<&'static str>
     ensures { option_map (λ t. t.now) result ≡ advice_in datagram_faults number }
 {

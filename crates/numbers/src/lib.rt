@@ -1,4 +1,4 @@
-//! What each number of a fault or a refusal means, and what to do about it.
+//! The meaning of each number of a fault or a refusal, and advice on what to do about it.
 #![tactic(auto)]
 
 mod advising;

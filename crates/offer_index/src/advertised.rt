@@ -1,4 +1,4 @@
-//! What an LSA advertises.
+//! The route that an LSA advertises.
 ghost use Rattle.std.specs.Prelude.{◌≡◌, ◌<◌, ◌↔◌, false, IsTrue};
 ghost use Rattle.ospf_types.specs.Inter.{LSInfinity};
 ghost use Rattle.ospf_types.specs.Lsa.{key_of};
@@ -14,13 +14,14 @@ use ospf_types::lsa::{External, LS_INFINITY};
 use result_map::Same;
 use std::marker::Model;
 
-// What a summary-LSA says of these.
+// The external fields of a route that a summary-LSA advertises.
 const NO_EXTERNAL: External = External {
     is_type_2: false,
     forwarding: 0,
 };
 
-/// A destination that an LSA advertises at a metric, and of an external one its type and its forwarding address.
+/// A destination and the metric at which an LSA advertises it. The route of an AS-external-LSA also
+/// has the type of its metric, and may have a forwarding address.
 #[derive(Clone, Copy, Debug, PartialEq, Eq)]
 pub struct AdvertisedRoute {
     dest: Dest,
@@ -50,7 +51,7 @@ impl AdvertisedRoute {
         self.dest
     }
 
-    /// The metric, below LSInfinity.
+    /// Returns the metric, which is below LSInfinity.
     pub fn metric(self) -> u32
         ensures value { result ≡ self.metric }
         ensures finite { result < LSInfinity }
@@ -58,21 +59,21 @@ impl AdvertisedRoute {
         self.metric
     }
 
-    /// Whether the metric is one of type 2 (RFC 2328, A.4.5).
+    /// Returns true if the metric is of type 2 (RFC 2328, A.4.5).
     pub fn is_type_2(self) -> bool
         ensures { result ≡ self.is_type_2 }
     {
         self.is_type_2
     }
 
-    /// The forwarding address; 0 for none.
+    /// Returns the forwarding address in host order, or 0 if there is none.
     pub fn forwarding(self) -> u32
         ensures { result ≡ self.forwarding }
     {
         self.forwarding
     }
 
-    // Whether the route is one of the group.
+    // Returns true if the route, which the LSA with this key advertises, is in the group.
     pub(crate) fn is_of(self, group: &IndexKey, key: Key) -> bool
         ensures { IsTrue result ↔ IsOfGroup group.now key self }
     {
@@ -84,22 +85,23 @@ impl AdvertisedRoute {
     }
 }
 
-/// The LSAs of a scope, and the router that reads what they advertise.
+/// The database of a scope, and the router that reads its advertised routes.
 #[derive(Clone, Copy)]
 pub struct ScopeDatabase<'a> {
-    /// The Router ID of that router.
+    /// The Router ID of this router.
     pub root: u32,
     pub scope: Scope,
     pub database: &'a Database,
 }
 
 impl ScopeDatabase<'_> {
-    /// What is advertised under the key: in an area by summary-LSAs, in the AS by AS-external-LSAs (RFC 2328, 16.2 and 16.4).
+    /// Returns the route that the LSA with this key advertises, if there is one. In an area it is
+    /// of a summary-LSA, in the AS of an AS-external-LSA (RFC 2328, 16.2 and 16.4).
     pub(crate) fn advertised_under(self, key: Key) -> Option<AdvertisedRoute>
         ensures { result ≡ advertised_at self.entry.root self.entry.scope key
             (body_at self.entry.database.now.lsas key) }
     {
-        // 16.2 (1), 16.4 (1): an LSA at MaxAge counts for nothing.
+        // 16.2 (1), 16.4 (1): an LSA at MaxAge is not used.
         let lsa = self.database.usable(key)?;
         match self.scope {
             Scope::Area(_) => summarized(self.root, key, lsa),
@@ -108,7 +110,7 @@ impl ScopeDatabase<'_> {
     }
 }
 
-// A route as its LSA has it, at a metric that may be LSInfinity.
+// A route as its LSA states it, whose metric may be LSInfinity.
 #[derive(Clone, Copy)]
 struct LsaRoute {
     dest: Dest,
@@ -116,7 +118,7 @@ struct LsaRoute {
     external: External,
 }
 
-// What a summary-LSA advertises: nothing for the root itself.
+// Returns the route of a summary-LSA, or `None` if its destination is the root.
 fn summarized(root: u32, key: Key, lsa: &Checked) -> Option<AdvertisedRoute>
     requires { key_of lsa.now ≡ key }
     ensures { result ≡ summarized_by root key lsa.now.body }
@@ -132,7 +134,7 @@ fn summarized(root: u32, key: Key, lsa: &Checked) -> Option<AdvertisedRoute>
     }
 }
 
-// The route of a summary-LSA.
+// Creates the route of a summary-LSA.
 fn summary_route(dest: Dest, metric: u32) -> LsaRoute
     ensures dest { result.dest ≡ dest }
     ensures metric { result.metric ≡ metric }
@@ -146,7 +148,7 @@ fn summary_route(dest: Dest, metric: u32) -> LsaRoute
     }
 }
 
-// What an AS-external-LSA advertises.
+// Returns the route of an AS-external-LSA.
 fn externalized(root: u32, key: Key, lsa: &Checked) -> Option<AdvertisedRoute>
     requires { key_of lsa.now ≡ key }
     ensures { result ≡ externalized_by root key lsa.now.body }
@@ -163,12 +165,13 @@ fn externalized(root: u32, key: Key, lsa: &Checked) -> Option<AdvertisedRoute>
     offer(root, key, route)
 }
 
-// The route, unless it is the root's own or not below LSInfinity.
+// Returns the route, or `None` if the root originated it or its metric is not below LSInfinity.
 fn offer(root: u32, key: Key, route: LsaRoute) -> Option<AdvertisedRoute>
     ensures { result ≡ unless_useless root key route.metric
         (route_to route.dest route.metric route.external.is_type_2 route.external.forwarding) }
 {
-    // 16.2 (1) and (2), 16.4 (1) and (2): the metric is below LSInfinity, and another router originated the LSA.
+    // 16.2 (1) and (2), 16.4 (1) and (2): the metric is below LSInfinity, and another router
+    // originated the LSA.
     if key.router == root || route.metric >= LS_INFINITY {
         return None;
     }

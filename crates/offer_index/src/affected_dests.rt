@@ -1,4 +1,4 @@
-//! What follows from changes in what is advertised.
+//! The destinations and addresses that a change of advertised routes affects.
 ghost use Rattle.std.specs.Prelude.{◌≡◌, [], OnOk, IsTrue, Contains, option_copied};
 ghost use Rattle.offer_index.specs.AffectedDests.{AreAdded};
 ghost use Rattle.offer_index.specs.Lists.{HasMore};
@@ -9,7 +9,8 @@ use ospf_types::memory::Memory;
 use std::alloc::Global;
 use std::marker::Model;
 
-/// Destinations and forwarding addresses whose result may differ, in no stated order.
+/// Destinations, and forwarding addresses in host order, whose result may change. They are in no
+/// stated order, and may occur twice.
 #[derive(Drop)]
 pub struct AffectedDests {
     pub dests: Vec<Dest>,
@@ -25,7 +26,7 @@ impl Model for AffectedDests {
 }
 
 impl AffectedDests {
-    /// None.
+    /// Creates an empty value.
     pub fn none(alloc: Global) -> AffectedDests
         ensures { result ≡ record { dests = []; addresses = [] } }
     {
@@ -35,7 +36,7 @@ impl AffectedDests {
         }
     }
 
-    /// Adds the destination of the route, and its forwarding address if it has one.
+    /// Appends the destination of the route, and its forwarding address if it has one.
     pub(crate) fn add(&mut self, route: Option<&AdvertisedRoute>) -> Result<(), Memory>
         ensures { OnOk result (AreAdded (option_copied route.entry) self.old self.new) }
     {
@@ -51,7 +52,7 @@ impl AffectedDests {
     }
 }
 
-// Adds the address, unless it was added last.
+// Appends the address, unless it is the last one already.
 pub(crate) fn push_new(addresses: &mut Vec<u32>, address: u32) -> Result<(), Memory>
     ensures { OnOk result (HasMore (λ a. a ≡ address) addresses.old.items addresses.new.items) }
 {
@@ -62,7 +63,7 @@ pub(crate) fn push_new(addresses: &mut Vec<u32>, address: u32) -> Result<(), Mem
     Ok(())
 }
 
-// Whether the address was added last.
+// Returns true if the address is the last one.
 fn is_last(addresses: &[u32], address: u32) -> bool
     ensures { IsTrue result → Contains addresses.now address }
 {

@@ -1,4 +1,4 @@
-//! A coarse set of numbers, which tells at little cost that a number is not among them.
+//! A coarse set of numbers, which shows at little cost that a number was not put in.
 ghost use Rattle.std.specs.Prelude.{◌≡◌, ◌<◌, ◌↔◌, ℕ, IsTrue, OnOk};
 ghost use Rattle.offer_index.specs.BloomFilter.{IsMarked, place_of};
 
@@ -7,16 +7,17 @@ use std::alloc::Global;
 use std::hash::RandomState;
 use word_hash::WordHash;
 
-// So many places there are, each of which some numbers share.
+// The number of marks. Several numbers share a mark.
 const PLACES: usize = 4096;
 
-/// A coarse set of numbers. It has each that was put in, and may have others. The first takes memory for all.
+/// A coarse set of numbers. It has each number that was put in, and may have others. The first
+/// number allocates all its memory.
 pub(crate) struct BloomFilter {
     hashing: WordHash,
     marks: Vec<bool>,
 }
 
-// proof: one call drops it, in place of a drop of each part wherever one is held.
+// proof: a value is dropped by one call, not part by part at each exit of a function.
 impl Drop for BloomFilter {
     fn drop(self) {
         let BloomFilter {
@@ -34,7 +35,7 @@ impl BloomFilter {
         }
     }
 
-    /// Puts the number in.
+    /// Adds the number.
     pub(crate) fn put(&mut self, number: u32) -> Result<(), Memory>
         ensures kept { (n : ℕ) → IsMarked self.old n → IsMarked self.new n }
         ensures there { OnOk result (IsMarked self.new number) }
@@ -45,11 +46,11 @@ impl BloomFilter {
         Ok(())
     }
 
-    /// Whether the number is in the set, which may have more than was put in.
+    /// Returns true if the number is in the set, which may have more numbers than were put in.
     pub(crate) fn has(&self, number: u32) -> bool
         ensures { IsTrue result ↔ IsMarked self.now number }
     {
-        // Where there is none, nothing is hashed.
+        // An empty set need not hash the number.
         if self.marks.is_empty() {
             return false;
         }
@@ -63,7 +64,7 @@ impl BloomFilter {
         self.marks.clear();
     }
 
-    // The place of the number.
+    // Returns the index of the number's mark.
     fn place(&self, number: u32) -> usize
         ensures value { result ≡ place_of self.now number }
         ensures bounded { result < 4096 }

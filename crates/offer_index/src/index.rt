@@ -1,4 +1,4 @@
-//! The index of what is advertised.
+//! The index of advertised routes.
 ghost use Rattle.std.specs.Prelude.{◌≡◌, ◌≢◌, ◌↔◌, ◌≤◌, ◌<◌, ℕ, IsTrue, OnOk, OnErr, option_copied};
 ghost use Rattle.std.specs.FinMap as map;
 ghost use Rattle.ospf_types.specs.declared.key.Key.{Key as KeyValue};
@@ -22,13 +22,13 @@ use std::alloc::Global;
 use std::hash::RandomState;
 use std::marker::Model;
 
-/// What each LSA of a database advertises, as it was last taken from it.
+/// The route that each LSA of a database advertises, as last taken from the LSA.
 pub struct AdvertisedIndex {
     routes: ResultMap<Key, AdvertisedRoute>,
     members: LsasByKey,
 }
 
-// proof: one call drops it, in place of a drop of each part wherever one is held.
+// proof: a value is dropped by one call, not part by part at each exit of a function.
 impl Drop for AdvertisedIndex {
     fn drop(self) {
         let AdvertisedIndex {
@@ -53,12 +53,12 @@ impl Model for AdvertisedIndex {
 
     ghost view = { λ i. record { routes = map.from_entries i.routes.entries } };
 
-    // What is found again is just what the routes are of: no key stays in a group.
+    // The groups have the keys of the routes in them, and no others.
     ghost invariant = { λ i. AreMembersOf (map.from_entries i.routes.entries) i.members };
 }
 
 impl AdvertisedIndex {
-    /// The index of no LSAs.
+    /// Creates the index of a database without LSAs.
     pub fn new(alloc: Global, hashing: RandomState) -> AdvertisedIndex
         ensures { result ≡ empty_index }
     {
@@ -68,15 +68,22 @@ impl AdvertisedIndex {
         }
     }
 
-    /// What is advertised under the key.
+    /// Returns the route that the LSA with this key advertises, if there is one.
     pub fn route(&self, key: Key) -> Option<&AdvertisedRoute>
         ensures { option_copied result ≡ map.get self.now.routes key }
     {
         self.routes.get(key)
     }
 
-    /// Takes what the named LSAs of the scope's database say now. The destinations and forwarding addresses that they had and
-    /// have are added to those that are affected. The root's own LSAs advertise nothing to it.
+    /// Updates the routes of the LSAs with these keys in the scope. The root's own LSAs give it no
+    /// route.
+    ///
+    /// Appends to `affected` the destinations and forwarding addresses of each route that changed,
+    /// before and after.
+    ///
+    /// # Errors
+    ///
+    /// Returns `Memory` if memory runs out. Some routes are then updated and others are not.
     pub fn follow(
         &mut self,
         from: ScopeDatabase<'_>,
@@ -95,7 +102,11 @@ impl AdvertisedIndex {
         Ok(())
     }
 
-    /// Takes what all LSAs of the database say, where nothing was taken before.
+    /// Adds the routes of all LSAs of the database to an empty index.
+    ///
+    /// # Errors
+    ///
+    /// Returns `Memory` if memory runs out. Some routes are then added and others are not.
     pub fn follow_all(
         &mut self,
         from: ScopeDatabase<'_>,
@@ -112,7 +123,11 @@ impl AdvertisedIndex {
         Ok(())
     }
 
-    /// Forgets all, and adds what it had to what is affected.
+    /// Removes all routes, and appends their destinations and forwarding addresses to `affected`.
+    ///
+    /// # Errors
+    ///
+    /// Returns `Memory` if memory runs out. The index is then unchanged.
     pub fn clear(&mut self, affected: &mut AffectedDests) -> Result<(), Memory>
         ensures cleared { OnOk result (self.new ≡ empty_index) }
         ensures touched { OnOk result (AreTouched self.old self.new affected.old affected.new) }
@@ -123,7 +138,11 @@ impl AdvertisedIndex {
         Ok(())
     }
 
-    /// Adds the keys of the group, in no stated order, each once.
+    /// Appends the keys in the group, in no stated order, without duplicates.
+    ///
+    /// # Errors
+    ///
+    /// Returns `Memory` if memory runs out. Some keys may then be appended.
     pub fn list_keys(&self, group: IndexKey, keys: &mut Vec<Key>) -> Result<(), Memory>
         ensures exact { OnOk result
             (HasMore (IsInGroup self.now group) keys.old.items keys.new.items) }
@@ -135,7 +154,11 @@ impl AdvertisedIndex {
         Ok(())
     }
 
-    /// Adds the destinations that the group leads to; some may stand there twice.
+    /// Appends the destinations of the routes in the group. Some may be appended twice.
+    ///
+    /// # Errors
+    ///
+    /// Returns `Memory` if memory runs out. Some destinations may then be appended.
     pub fn list_dests(&self, group: IndexKey, dests: &mut Vec<Dest>) -> Result<(), Memory>
         ensures { OnOk result
             (HasMore (GroupLeadsTo self.now group) dests.old.items dests.new.items) }
@@ -146,7 +169,11 @@ impl AdvertisedIndex {
         Ok(())
     }
 
-    /// Adds the forwarding addresses that lie in the network; some may stand there twice.
+    /// Appends the forwarding addresses in the network, in host order.
+    ///
+    /// # Errors
+    ///
+    /// Returns `Memory` if memory runs out. Some addresses may then be appended.
     pub fn list_addresses(&self, network: Prefix, addresses: &mut Vec<u32>) -> Result<(), Memory>
         ensures { OnOk result
             (HasMore (IsForwardedInto self.now network) addresses.old.items addresses.new.items) }
@@ -161,21 +188,21 @@ impl AdvertisedIndex {
         Ok(())
     }
 
-    /// Whether something is advertised with a forwarding address.
+    /// Returns true if a route has a forwarding address.
     pub fn has_addresses(&self) -> bool
         ensures { IsTrue result ↔ ((a : ℕ) × IsForwardedTo self.now a) }
     {
         self.members.has_addresses()
     }
 
-    /// Whether something is advertised to the destination.
+    /// Returns true if a route leads to the destination.
     pub fn leads_to(&self, dest: Dest) -> bool
         ensures { IsTrue result ↔ IsLedTo self.now dest }
     {
         self.members.has_dest(dest)
     }
 
-    /// Whether something is advertised with this forwarding address.
+    /// Returns true if a route has this forwarding address (in host order).
     pub fn has_address(&self, address: u32) -> bool
         ensures { IsTrue result ↔ IsForwardedTo self.now address }
     {
@@ -188,7 +215,7 @@ impl AdvertisedIndex {
 }
 
 impl AdvertisedIndex {
-    // Takes what the named LSA says now, if it is one of the scope.
+    // Updates the route of the LSA with this key, if the LSA is in the scope.
     fn follow_named(
         &mut self,
         from: ScopeDatabase<'_>,
@@ -209,7 +236,7 @@ impl AdvertisedIndex {
         self.follow_key(from, key, affected)
     }
 
-    // Takes what the LSA under the key says now.
+    // Updates the route of the LSA with this key.
     fn follow_key(
         &mut self,
         from: ScopeDatabase<'_>,
@@ -228,7 +255,8 @@ impl AdvertisedIndex {
         self.exchange(key, fresh, affected)
     }
 
-    // This is advertised under the key from now on. What was is affected, and so is this.
+    // Sets the route at the key, or removes it if `fresh` is `None`. Appends the destination and
+    // the forwarding address of the old and of the new route.
     fn exchange(
         &mut self,
         key: Key,
@@ -246,7 +274,7 @@ impl AdvertisedIndex {
         Ok(())
     }
 
-    // This is advertised under the key in the place of what was. If memory runs out, all is as it was.
+    // Replaces the route at the key. If memory runs out, the index is unchanged.
     fn put(
         &mut self,
         key: Key,
@@ -270,7 +298,7 @@ impl AdvertisedIndex {
         }
     }
 
-    // All that is advertised is affected.
+    // Appends the destinations and forwarding addresses of all routes.
     fn touch_all(&self, affected: &mut AffectedDests) -> Result<(), Memory>
         ensures { OnOk result (AreTouched self.now empty_index affected.old affected.new) }
     {
@@ -281,7 +309,7 @@ impl AdvertisedIndex {
         Ok(())
     }
 
-    // Adds what the key leads to.
+    // Appends the destination of the route at the key.
     fn list_dest(&self, key: Key, dests: &mut Vec<Dest>) -> Result<(), Memory>
         ensures { OnOk result
             (HasMore (HasDest (map.get self.now.routes key)) dests.old.items dests.new.items) }
@@ -294,8 +322,8 @@ impl AdvertisedIndex {
     }
 }
 
-// The route comes to stand under the key, and the key in the groups that it is of, beside those where it was. If memory
-// runs out, the routes are as they were, and the key stands in some of the groups.
+// Adds the key to the groups of the new route, and sets the route at the key. If memory runs out,
+// the routes are unchanged, and the key is in some of the groups.
 fn put_in(
     members: &mut LsasByKey,
     routes: &mut ResultMap<Key, AdvertisedRoute>,
@@ -314,7 +342,7 @@ fn put_in(
     Ok(())
 }
 
-// Adds the address, if it lies in the network.
+// Appends the address, if it is in the network.
 fn push_inside(network: Prefix, address: u32, addresses: &mut Vec<u32>) -> Result<(), Memory>
     ensures { OnOk result
         (HasMore (λ a. (a ≡ address) × HasAddress network a)
@@ -326,7 +354,7 @@ fn push_inside(network: Prefix, address: u32, addresses: &mut Vec<u32>) -> Resul
     Ok(())
 }
 
-// The last address of the network.
+// Returns the last address of the network.
 fn last_address(network: Prefix) -> u32
     ensures not_before { network.address ≤ result }
     ensures within { (a : ℕ) → HasAddress network a → (network.address ≤ a) × (a ≤ result) }

@@ -1,4 +1,4 @@
-//! The groups that may have a key, as far as it pays to ask that first.
+//! A coarse filter of the groups that may have a key, for the cases in which a filter pays.
 ghost use Rattle.std.specs.Prelude.{◌≡◌, false, OnOk};
 ghost use Rattle.offer_index.specs.declared.index_key.IndexKey.{IndexKey as GroupValue};
 ghost use Rattle.offer_index.specs.declared.index_key.IndexKey.TheVariants as group_value;
@@ -12,13 +12,13 @@ use ospf_types::memory::Memory;
 use std::alloc::Global;
 use std::hash::RandomState;
 
-/// The groups of networks and of forwarding addresses that may have a key. It has each that has one, and maybe others:
-/// a group stays when its last key goes.
+/// The groups of networks and of forwarding addresses that may have a key. It has each group that
+/// has one, and maybe others: a group is not removed with its last key.
 #[derive(Drop)]
 pub(crate) struct IndexFilter {
-    // By their addresses.
+    // The networks, by their addresses.
     networks: BloomFilter,
-    // The forwarding addresses, by the /24 around each.
+    // The forwarding addresses, by the /24 that contains each.
     blocks: BloomFilter,
 }
 
@@ -30,7 +30,7 @@ impl IndexFilter {
         }
     }
 
-    /// The group may have a key from now on.
+    /// Adds the group.
     pub(crate) fn note(&mut self, group: &IndexKey) -> Result<(), Memory>
         ensures kept { (g : GroupValue) → MayHave self.old g → MayHave self.new g }
         ensures noted { OnOk result (MayHave self.new group.now) }
@@ -42,7 +42,7 @@ impl IndexFilter {
         }
     }
 
-    /// Whether the group of the destination may have a key.
+    /// Returns true if the group of the destination may have a key, or false if it has none.
     pub(crate) fn may_have_dest(&self, dest: &Dest) -> bool
         ensures { result ≡ false → MayHave self.now (group_value.To dest.now) → ⊥ }
     {
@@ -52,7 +52,8 @@ impl IndexFilter {
         }
     }
 
-    /// Whether the group of a forwarding address from the first to the last may have a key.
+    /// Returns true if the group of a forwarding address from `first` to `last` may have a key, or
+    /// false if none has one.
     pub(crate) fn may_have_addresses(&self, first: u32, last: u32) -> bool
         ensures { result ≡ false →
             HasNoneFrom first last (λ a. MayHave self.now (group_value.Forwarded a)) }
@@ -69,7 +70,7 @@ impl IndexFilter {
         self.blocks.clear();
     }
 
-    // The group of the destination may have a key from now on.
+    // Adds the group of the destination.
     fn note_dest(&mut self, dest: Dest) -> Result<(), Memory>
         ensures kept { (g : GroupValue) → MayHave self.old g → MayHave self.new g }
         ensures noted { OnOk result (MayHave self.new (group_value.To dest)) }

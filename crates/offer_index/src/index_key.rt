@@ -1,12 +1,12 @@
 use ospf_types::key::Dest;
 
-/// What advertised routes are found again by.
+/// A group of advertised routes, by which they are found.
 #[derive(Clone, Copy, Debug, PartialEq, Eq, PartialOrd, Ord)]
 pub enum IndexKey {
-    /// Those to a destination.
+    /// The routes to a destination.
     To(Dest),
-    /// Those by an advertising router.
+    /// The routes that a router advertises, by its Router ID.
     By(u32),
-    /// Those with a forwarding address.
+    /// The routes with a forwarding address, in host order. The group of address 0 is empty.
     Forwarded(u32),
 }

@@ -1,4 +1,4 @@
-//! The groups that have a key, as far as it pays to know that at once: those of destinations and of forwarding addresses.
+//! The groups of destinations and of forwarding addresses that have a key.
 ghost use Rattle.std.specs.Prelude.{◌≢◌, ◌↔◌, ◌≤◌, ℕ, IsTrue, OnOk, OnErr};
 ghost use Rattle.offer_index.specs.declared.index_key.IndexKey.{IndexKey as GroupValue};
 ghost use Rattle.offer_index.specs.declared.index_key.IndexKey.TheVariants as group_value;
@@ -15,13 +15,13 @@ use std::collections::btree_set::Range;
 use std::hash::RandomState;
 use word_hash::WordHash;
 
-/// The destinations that something leads to, and the forwarding addresses that something has.
+/// The destinations of routes, and the forwarding addresses of routes.
 pub(crate) struct KnownKeys {
     dests: IndexSet<Dest, WordHash>,
     addresses: BTreeSet<u32>,
 }
 
-// proof: one call drops it, in place of a drop of each part wherever one is held.
+// proof: a value is dropped by one call, not part by part at each exit of a function.
 impl Drop for KnownKeys {
     fn drop(self) {
         let KnownKeys {
@@ -41,7 +41,7 @@ impl KnownKeys {
         }
     }
 
-    /// Notes the group.
+    /// Notes the group, if it is of a destination or a forwarding address.
     pub(crate) fn note(&mut self, group: &IndexKey) -> Result<(), Memory>
         ensures kept { (g : GroupValue) → IsNoted self.old g → IsNoted self.new g }
         ensures only { NotesAtMost group.now self.old self.new }
@@ -60,7 +60,7 @@ impl KnownKeys {
         Ok(())
     }
 
-    /// Forgets the group.
+    /// Removes the group.
     pub(crate) fn forget(&mut self, group: &IndexKey)
         ensures gone { IsNoted self.new group.now → ⊥ }
         ensures only { NotesNoMore self.old self.new }
@@ -84,25 +84,25 @@ impl KnownKeys {
         self.addresses.clear();
     }
 
-    /// Whether something leads to the destination.
+    /// Returns true if the destination is noted: a route leads to it.
     pub(crate) fn has_dest(&self, dest: Dest) -> bool
         ensures { IsTrue result ↔ IsNoted self.now (group_value.To dest) }
     {
-        // Where there is none, nothing is hashed.
+        // An empty set need not hash the destination.
         if self.dests.is_empty() {
             return false;
         }
         self.dests.contains(&dest)
     }
 
-    /// Whether there is a forwarding address.
+    /// Returns true if a forwarding address is noted.
     pub(crate) fn has_addresses(&self) -> bool
         ensures { IsTrue result ↔ ((a : ℕ) × IsNoted self.now (group_value.Forwarded a)) }
     {
         !self.addresses.is_empty()
     }
 
-    /// The forwarding addresses from the first to the last.
+    /// Returns the noted forwarding addresses from `first` to `last`.
     pub(crate) fn addresses(&self, first: u32, last: u32) -> Range<'_, u32>
         requires { first ≤ last }
         ensures { HasThoseFrom first last (λ a. IsNoted self.now (group_value.Forwarded a)) result }

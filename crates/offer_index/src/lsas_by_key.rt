@@ -1,4 +1,4 @@
-//! The keys of each group.
+//! The keys in each group.
 ghost use Rattle.std.specs.Prelude.{◌≡◌, ◌≢◌, ◌↔◌, ◌≤◌, ℕ, [], false, IsTrue, OnOk, Contains, option_copied};
 ghost use Rattle.std.specs.List.{All, AllPairs};
 ghost use Rattle.offer_index.specs.declared.index_key.IndexKey.TheVariants as group_value;
@@ -18,7 +18,7 @@ use std::collections::btree_set::Range;
 use std::hash::RandomState;
 use std::marker::Model;
 
-// The first key, and the last.
+// The least key, and the greatest.
 const FIRST: Key = Key {
     kind: 0,
     id: 0,
@@ -34,14 +34,14 @@ const LAST: Key = Key {
 /// A group and a key in it.
 pub(crate) type Member = (IndexKey, Key);
 
-/// The keys of each group, in the order of the groups.
+/// The keys in each group, in the order of the groups.
 pub(crate) struct LsasByKey {
     members: BTreeSet<Member>,
     noted: KnownKeys,
     coarse: IndexFilter,
 }
 
-// proof: one call drops it, in place of a drop of each part wherever one is held.
+// proof: a value is dropped by one call, not part by part at each exit of a function.
 impl Drop for LsasByKey {
     fn drop(self) {
         let LsasByKey {
@@ -70,7 +70,7 @@ impl Model for LsasByKey {
     ghost use Rattle.offer_index.specs.KnownKeys.{AreNoted};
     ghost use Rattle.offer_index.specs.IndexFilter.{AreAmong};
 
-    // A group is noted just where it has a key, so that no group is noted for ever.
+    // A group of a destination or forwarding address is noted if and only if it has a key.
     ghost invariant = { λ m. All HasSmallKey m.members.keys × AreNoted m.members.keys m.noted × AreAmong m.members.keys m.coarse };
 }
 
@@ -85,7 +85,7 @@ impl LsasByKey {
         }
     }
 
-    /// Puts the key into each group that the route is of; if memory runs out, into some of them.
+    /// Adds the key to each group of the route. If memory runs out, it may be in some of them.
     pub(crate) fn list(&mut self, key: Key, route: Option<&AdvertisedRoute>) -> Result<(), Memory>
         ensures kept { KeepsAll self.old self.new }
         ensures only { HasAtMost (IsMemberBy (option_copied route.entry) key) self.old self.new }
@@ -104,7 +104,7 @@ impl LsasByKey {
         Ok(())
     }
 
-    /// Takes the key out of the groups that the one route is of and the other is not.
+    /// Removes the key from the groups of the route `gone`, except the groups of the route `stays`.
     pub(crate) fn leave(&mut self, key: Key, gone: Option<&AdvertisedRoute>, stays: Option<&AdvertisedRoute>)
         ensures kept { KeepsThese
             (IsStillBy (option_copied gone.entry) (option_copied stays.entry) key)
@@ -132,25 +132,26 @@ impl LsasByKey {
         self.coarse.clear();
     }
 
-    /// Whether the group of the destination has a key.
+    /// Returns true if the group of the destination has a key.
     pub(crate) fn has_dest(&self, dest: Dest) -> bool
         ensures { IsTrue result ↔ HasKey self.now (group_value.To dest) }
     {
-        // The exact answer takes more.
+        // The filter is cheaper than the exact set.
         if !self.coarse.may_have_dest(&dest) {
             return false;
         }
         self.noted.has_dest(dest)
     }
 
-    /// Whether the group of a forwarding address has a key.
+    /// Returns true if the group of a forwarding address has a key.
     pub(crate) fn has_addresses(&self) -> bool
         ensures { IsTrue result ↔ ((a : ℕ) × HasKey self.now (group_value.Forwarded a)) }
     {
         self.noted.has_addresses()
     }
 
-    /// Whether the group of a forwarding address from the first to the last may have a key. If not, none has.
+    /// Returns true if the group of a forwarding address from `first` to `last` may have a key, or
+    /// false if none has one.
     pub(crate) fn may_have_addresses(&self, first: u32, last: u32) -> bool
         ensures { result ≡ false →
             HasNoneFrom first last (λ a. HasKey self.now (group_value.Forwarded a)) }
@@ -158,7 +159,7 @@ impl LsasByKey {
         self.coarse.may_have_addresses(first, last)
     }
 
-    /// The forwarding addresses from the first to the last whose groups have a key.
+    /// Returns the forwarding addresses from `first` to `last` whose groups have a key.
     pub(crate) fn addresses(&self, first: u32, last: u32) -> Range<'_, u32>
         requires { first ≤ last }
         ensures { HasThoseFrom first last (λ a. HasKey self.now (group_value.Forwarded a)) result }
@@ -166,7 +167,7 @@ impl LsasByKey {
         self.noted.addresses(first, last)
     }
 
-    /// The keys of the groups from the first to the last.
+    /// Returns the pairs of group and key for the groups from `first` to `last`.
     pub(crate) fn among(&self, first: &IndexKey, last: &IndexKey) -> Range<'_, Member>
         requires { IsNotAfter first.now last.now }
         ensures all { HasAllBetween first.now last.now self.now result }
@@ -178,7 +179,7 @@ impl LsasByKey {
 }
 
 impl LsasByKey {
-    // Puts the key into the group.
+    // Adds the key to the group.
     fn add(&mut self, group: IndexKey, key: Key) -> Result<(), Memory>
         ensures kept { KeepsAll self.old self.new }
         ensures only { HasAtMost (λ m. m ≡ (group, key)) self.old self.new }
@@ -195,7 +196,7 @@ impl LsasByKey {
         }
     }
 
-    // Takes the key out of the group, unless the route is of it.
+    // Removes the key from the group, unless the route is in it.
     fn leave_group(&mut self, group: IndexKey, key: Key, stays: Option<&AdvertisedRoute>)
         ensures kept { KeepsThese
             (IsNoneBut (option_copied stays.entry) key group) self.old self.new }
@@ -210,7 +211,7 @@ impl LsasByKey {
     }
 }
 
-// The keys of the groups from the first to the last.
+// Returns the pairs of group and key for the groups from `first` to `last`.
 fn between<'a>(
     members: &'a BTreeSet<Member>,
     first: &IndexKey,
@@ -225,7 +226,7 @@ fn between<'a>(
     members.range((*first, FIRST)..=(*last, LAST))
 }
 
-// Forgets the group if it has no key.
+// Removes the group from the noted ones if it has no key.
 fn forget_without_keys(members: &BTreeSet<Member>, noted: &mut KnownKeys, group: &IndexKey)
     requires small { All HasSmallKey members.now.keys }
     requires before { AreNotedBut group.now members.now.keys noted.old }
@@ -237,7 +238,7 @@ fn forget_without_keys(members: &BTreeSet<Member>, noted: &mut KnownKeys, group:
     }
 }
 
-// Whether there is a route, and it is of the group.
+// Returns true if there is a route, and it is in the group.
 fn is_of(route: Option<&AdvertisedRoute>, group: &IndexKey, key: Key) -> bool
     ensures { IsTrue result ↔ IsOf (option_copied route.entry) key group.now }
 {
@@ -247,7 +248,7 @@ fn is_of(route: Option<&AdvertisedRoute>, group: &IndexKey, key: Key) -> bool
     }
 }
 
-// The key, whose parts are numbers of their types.
+// proof: returns the key, whose fields fit their types.
 fn small(key: Key) -> Key
     ensures value { result ≡ key }
     ensures small { IsSmall result }

@@ -5,13 +5,13 @@ use crate::dotted::{MOST, write_dotted};
 use std::net::Ipv4Addr;
 use std::{fmt, str};
 
-/// An address, a Router ID or an Area ID, in host order. It prints in dotted form.
+/// An address, Router ID or Area ID, in host order. It prints in dotted form.
 #[derive(Clone, Copy, Debug, PartialEq, Eq, Hash, PartialOrd, Ord)]
 pub struct Address(pub u32);
 
 impl Address {
-    /// The address that the text writes: four decimal numbers up to 255 without leading zeros, with
-    /// dots between them. `None` for any other text.
+    /// Returns the address written by the text: four decimal numbers up to 255 without leading
+    /// zeros, separated by dots. Returns `None` for any other text.
     pub fn parse(text: &str) -> Option<Address>
         ensures spelled { IfSome result (λ a. text.now ≡ address_text a.0) }
         ensures refused { IsNone result → (address : ℕ) → address < 2 ^ 32 → text.now ≢ address_text address }

@@ -10,33 +10,37 @@ use std::alloc::Global;
 pub struct Interface {
     /// The Area ID.
     pub area: u32,
+    /// The address of the interface, in host order.
     pub address: u32,
-    /// The address of the neighbour at the other end, or 0 for none.
+    /// The address of the neighbour at the other end, in host order, or 0 if there is none.
     pub peer: u32,
+    /// True if the interface is up.
     pub up: bool,
 }
 
-/// What a stub area is sent (RFC 2328, 3.6).
+/// The routes that are advertised into a stub area (RFC 2328, 3.6).
 #[derive(Clone, Copy, Debug, PartialEq, Eq, Hash)]
 pub struct Stub {
-    /// The cost of the default route that is advertised into it.
+    /// The metric of the default route that is advertised into the area (C.2).
     pub cost: u32,
-    /// Whether summaries for networks are sent there too.
+    /// True if the summaries of networks are advertised into the area too.
     pub summaries: bool,
 }
 
-/// A range of addresses that is summarized (RFC 2328, 3.5).
+/// An address range of an area (RFC 2328, 3.5).
 #[derive(Clone, Copy, Debug, PartialEq, Eq, Hash)]
 pub struct Range {
+    /// The prefix of the range.
     pub prefix: Prefix,
+    /// True if the range is advertised, and false if it is hidden (C.2).
     pub advertise: bool,
 }
 
-/// The ranges of an area.
+/// The address ranges of an area.
 pub type Ranges = Listed<Range>;
 
 impl Listed<Range> {
-    /// An equal value.
+    /// Returns a copy of the list.
     pub fn copy(&self, alloc: Global) -> Result<Ranges, Memory>
         ensures { IfOk result (λ ranges. ranges ≡ self.now) }
     {
@@ -44,16 +48,18 @@ impl Listed<Range> {
     }
 }
 
-/// An area as it is configured (RFC 2328, 6 and C.2).
+/// The configuration of an area (RFC 2328, 6 and C.2).
 #[derive(Debug)]
 pub struct AreaConfig {
     /// The Area ID.
     pub id: u32,
+    /// The routes that are advertised into the area if it is a stub area, or else `None`.
     pub stub: Option<Stub>,
+    /// The address ranges of the area.
     pub ranges: Ranges,
 }
 
-// proof: one call drops it, in place of a drop of each part wherever one is held.
+// proof: a value is dropped by one call, not part by part at each exit of a function.
 impl Drop for AreaConfig {
     fn drop(self) {
         let AreaConfig {
@@ -65,7 +71,7 @@ impl Drop for AreaConfig {
 }
 
 impl AreaConfig {
-    /// An equal value.
+    /// Returns a copy of the area's configuration.
     pub fn copy(&self, alloc: Global) -> Result<AreaConfig, Memory>
         ensures { IfOk result (λ area. area ≡ self.now) }
     {
@@ -81,7 +87,7 @@ impl AreaConfig {
 pub type Areas = Listed<AreaConfig>;
 
 impl Listed<AreaConfig> {
-    /// An equal value.
+    /// Returns a copy of the list.
     pub fn copy(&self, alloc: Global) -> Result<Areas, Memory>
         ensures { IfOk result (λ areas. areas ≡ self.now) }
     {
@@ -98,12 +104,13 @@ impl Listed<AreaConfig> {
 pub struct Config {
     /// The Router ID.
     pub router: u32,
-    /// Whether RFC1583Compatibility is enabled (RFC 2328, 16.4.1 and C.1).
+    /// True if RFC1583Compatibility is enabled (RFC 2328, 16.4.1 and C.1).
     pub compat: bool,
+    /// The configured areas.
     pub areas: Areas,
 }
 
-// proof: one call drops it, in place of a drop of each part wherever one is held.
+// proof: a value is dropped by one call, not part by part at each exit of a function.
 impl Drop for Config {
     fn drop(self) {
         let Config {
@@ -115,7 +122,7 @@ impl Drop for Config {
 }
 
 impl Config {
-    /// An equal value.
+    /// Returns a copy of the configuration.
     pub fn copy(&self, alloc: Global) -> Result<Config, Memory>
         ensures { IfOk result (λ config. config ≡ self.now) }
     {

@@ -7,7 +7,8 @@ use itoa::write_digits;
 /// The most bytes that an address takes, as in `255.255.255.255`.
 pub(crate) const MOST: usize = 15;
 
-/// Writes the address so that its text ends at `end`, and returns where it starts.
+/// Writes the address so that its text ends before index `end`, and returns the index at which the
+/// text starts. The address is in host order.
 pub(crate) fn write_dotted(address: u32, text: &mut [u8], end: usize) -> usize
     requires { (MOST ≤ end) × (end ≤ length text.old) }
     ensures end { result ≤ end }
@@ -20,7 +21,7 @@ pub(crate) fn write_dotted(address: u32, text: &mut [u8], end: usize) -> usize
     write_octet(first, text, start)
 }
 
-// Writes the octet and a dot before what starts at `end`.
+// Writes a dot and the octet, so that they end before index `end`. Returns their start.
 fn write_octet(octet: u8, text: &mut [u8], end: usize) -> usize
     requires { (4 ≤ end) × (end ≤ length text.old) }
     ensures start { (result ≤ end) × (end ≤ result + 4) }

@@ -14,21 +14,21 @@ use std::marker::Model;
 /// A vertex of an area's graph (RFC 2328, 16.1).
 #[derive(Clone, Copy, Debug, PartialEq, Eq, PartialOrd, Ord)]
 pub enum Vertex {
-    /// By its Router ID.
+    /// A router, by its Router ID.
     Router(u32),
-    /// A transit network, by its Designated Router's address.
+    /// A transit network, by the address of its Designated Router.
     Network(u32),
 }
 
 impl Vertex {
-    /// The order of vertices: routers first, each kind by number.
+    /// Compares two vertices: routers come before networks, and each kind is in ascending order.
     pub fn compare(self, other: Vertex) -> Ordering
         ensures { result ≡ vertex_cmp self other }
     {
         self.cmp(&other)
     }
 
-    // A number of its own for each vertex.
+    // Returns a number that no other vertex has.
     fn word(self) -> u64
         ensures { result ≡ vertex_word self }
     {
@@ -39,7 +39,7 @@ impl Vertex {
     }
 }
 
-// Above the numbers of routers.
+// The start of the numbers of networks. Those of routers are less.
 const NETWORKS: u64 = 1 << 32;
 
 // A vertex is hashed as one word: a shortest-path search hashes vertices more than anything else.
@@ -58,22 +58,28 @@ impl Hash for Vertex {
     }
 }
 
-/// How a destination was learned, the most preferred first (RFC 2328, 11).
+/// The path type of a route, from the most to the least preferred (RFC 2328, 11).
 #[derive(Clone, Copy, Debug, PartialEq, Eq, Hash)]
 pub enum PathType {
+    /// Intra-area.
     Intra,
+    /// Inter-area.
     Inter,
+    /// Type 1 external.
     External1,
+    /// Type 2 external.
     External2,
 }
 
-/// Paths in their order, each once. One stands in the value; more take memory.
+/// A set of paths in the order of `Path::compare`, without duplicates.
+///
+/// A single path is stored in the value itself; more than one takes memory.
 #[derive(Debug)]
 pub struct Paths {
     items: SmallVec<Path, 1>,
 }
 
-// proof: one call drops it, in place of a drop of each part wherever one is held.
+// proof: a value is dropped by one call, not part by part at each exit of a function.
 impl Drop for Paths {
     fn drop(self) {
         let Paths { items: _items } = self;
@@ -94,7 +100,7 @@ impl Model for Paths {
 }
 
 impl Paths {
-    /// The paths of a list that is in their order and has each once.
+    /// Creates the set from a list of paths that is in order and has no duplicates.
     pub fn new(items: SmallVec<Path, 1>) -> Paths
         requires { IsStrictlySortedBy path_cmp items.items }
         ensures { result ≡ items.items }
@@ -102,6 +108,7 @@ impl Paths {
         Paths { items }
     }
 
+    /// Returns the paths as a slice, in order.
     pub fn as_slice(&self) -> &[Path]
         ensures value { result.now ≡ self.now }
         ensures in_order { IsStrictlySortedBy path_cmp self.now }
@@ -109,19 +116,21 @@ impl Paths {
         self.items.as_slice()
     }
 
-    /// Whether the two are equal.
+    /// Returns true if both sets are equal.
     pub fn is_same(&self, other: &Paths) -> bool
         ensures { IsTrue result ↔ (self.now ≡ other.now) }
     {
         self.items == other.items
     }
 
+    /// Returns the number of paths.
     pub fn len(&self) -> usize
         ensures { result ≡ length self.now }
     {
         self.items.len()
     }
 
+    /// Returns true if there is no path.
     pub fn is_empty(&self) -> bool
         ensures { IsTrue result ↔ (self.now ≡ []) }
     {
@@ -129,20 +138,22 @@ impl Paths {
     }
 }
 
-/// The route to a destination (RFC 2328, 11). Costs are metrics.
+/// The routing table entry of a destination (RFC 2328, 11). Costs have no unit.
 #[derive(Debug)]
 pub struct Entry {
+    /// The path type.
     pub kind: PathType,
-    /// The Area ID of the area that its paths share; none for an external route.
+    /// The Area ID of the area that all paths share, or `None` for an external route.
     pub area: Option<u32>,
-    /// The cost; for a type 2 external route only the distance.
+    /// The cost of the paths. For a type 2 external route it is the distance only.
     pub cost: u32,
-    /// The metric of a type 2 external route, and 0 elsewhere.
+    /// The type 2 metric, or 0 for any other path type.
     pub cost2: u32,
+    /// The equal-cost paths.
     pub paths: Paths,
 }
 
-// proof: one call drops it, in place of a drop of each part wherever one is held.
+// proof: a value is dropped by one call, not part by part at each exit of a function.
 impl Drop for Entry {
     fn drop(self) {
         let Entry {
@@ -156,7 +167,7 @@ impl Drop for Entry {
 }
 
 impl Entry {
-    /// Whether the two are equal.
+    /// Returns true if both entries are equal.
     pub fn is_same(&self, other: &Entry) -> bool
         ensures { IsTrue result ↔ (self.now ≡ other.now) }
     {
@@ -166,14 +177,14 @@ impl Entry {
             && self.paths.is_same(&other.paths)
     }
 
-    // Whether both costs are equal.
+    // Returns true if both costs are equal.
     fn has_costs_of(&self, other: &Entry) -> bool
         ensures { IsTrue result ↔ ((self.now.cost ≡ other.now.cost) × (self.now.cost2 ≡ other.now.cost2)) }
     {
         self.cost == other.cost && self.cost2 == other.cost2
     }
 
-    /// An equal value.
+    /// Returns a copy of the entry.
     pub fn copy(&self, alloc: Global) -> Result<Entry, Memory>
         ensures { IfOk result (λ entry. entry ≡ self.now) }
     {

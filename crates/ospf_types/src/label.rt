@@ -1,13 +1,14 @@
 use crate::listed::Listed;
 
-/// What a link of an area's graph tells of the next hop (RFC 2328, 16.1.1), for contracts: links keep it as a `LinkLabel`.
+/// The part of a link that decides next hops (RFC 2328, 16.1.1), as contracts see it. Links store
+/// it as a `LinkLabel`.
 #[derive(Debug, Drop)]
 pub enum Label {
-    /// Out of the root: the interface that the link leads over.
+    /// For a link out of the root: the interface that the link leads over.
     Over(u8),
-    /// Out of a network: the addresses there of the router that the link leads to, ascending, each
-    /// once.
+    /// For a link out of a network: the addresses on it of the router at the link's head, in
+    /// ascending order without duplicates.
     At(Listed<u32>),
-    /// Nothing.
+    /// For any other link.
     Plain,
 }

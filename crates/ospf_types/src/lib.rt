@@ -1,6 +1,7 @@
-//! The vocabulary of an OSPF area border router (RFC 2328): prefixes, keys, links, next hops,
-//! entries and configuration, with their printed forms. `specs/` holds the definitions of what is
-//! calculated from them.
+//! The types of an OSPF area border router (RFC 2328): prefixes, keys, links, next hops, routes and
+//! configurations, and their printed forms.
+//!
+//! `specs/` holds the definitions of the results that are calculated from them.
 #![tactic(auto)]
 
 pub mod address;

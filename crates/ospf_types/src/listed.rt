@@ -6,13 +6,13 @@ use crate::memory::Memory;
 use std::alloc::Global;
 use std::marker::Model;
 
-/// Items in the order in which they were added.
+/// A growable list.
 #[derive(Debug)]
 pub struct Listed<T> {
     items: Vec<T>,
 }
 
-// proof: one call drops it, in place of a drop of each part wherever one is held.
+// proof: a value is dropped by one call, not part by part at each exit of a function.
 impl<T: Drop> Drop for Listed<T> {
     fn drop(self) {
         let Listed { items: _items } = self;
@@ -28,7 +28,7 @@ impl<T> Model for Listed<T> {
 }
 
 impl<T: Copy> Listed<T> {
-    /// A list of the items of a slice.
+    /// Creates a list of the slice's items.
     pub fn from_slice(alloc: Global, items: &[T]) -> Result<Listed<T>, Memory>
         ensures { IfOk result (λ list. list ≡ items.now) }
     {
@@ -39,6 +39,7 @@ impl<T: Copy> Listed<T> {
 }
 
 impl<T: Drop> Listed<T> {
+    /// Creates an empty list.
     pub fn new(alloc: Global) -> Listed<T>
         ensures { result ≡ [] }
     {
@@ -47,7 +48,11 @@ impl<T: Drop> Listed<T> {
         }
     }
 
-    /// Adds an item at the end.
+    /// Appends an item.
+    ///
+    /// # Errors
+    ///
+    /// Returns `Memory` if memory runs out. The list is then unchanged.
     pub fn push(&mut self, item: T) -> Result<(), Memory>
         ensures ok { OnOk result (self.new ≡ self.old ++ item ∷ []) }
         ensures err { OnErr result (self.new ≡ self.old) }
@@ -56,7 +61,11 @@ impl<T: Drop> Listed<T> {
         Ok(())
     }
 
-    /// Puts an item at a place. Those from there on move up by one.
+    /// Inserts an item at the index, and moves all items from there up by one.
+    ///
+    /// # Errors
+    ///
+    /// Returns `Memory` if memory runs out. The list is then unchanged.
     pub fn insert(&mut self, place: usize, item: T) -> Result<(), Memory>
         requires { place ≤ length self.old }
         ensures ok { OnOk result (self.new ≡ list_insert self.old place item) }
@@ -66,7 +75,7 @@ impl<T: Drop> Listed<T> {
         Ok(())
     }
 
-    /// Takes out the item at a place. Those after it move down by one.
+    /// Removes and returns the item at the index, and moves all items after it down by one.
     pub fn remove(&mut self, place: usize) -> T
         requires { place < length self.old }
         ensures item { result ≡ get_or self.old place result }
@@ -75,7 +84,7 @@ impl<T: Drop> Listed<T> {
         self.items.remove(place)
     }
 
-    /// Writes an item in place of the one that stands there.
+    /// Replaces the item at the index.
     pub fn set(&mut self, place: usize, item: T)
         requires { place < length self.old }
         ensures { self.new ≡ list_set self.old place item }
@@ -83,18 +92,21 @@ impl<T: Drop> Listed<T> {
         self.items[place] = item;
     }
 
+    /// Returns the items as a slice.
     pub fn as_slice(&self) -> &[T]
         ensures { result.now ≡ self.now }
     {
         self.items.as_slice()
     }
 
+    /// Returns the number of items.
     pub fn len(&self) -> usize
         ensures { result ≡ length self.now }
     {
         self.items.len()
     }
 
+    /// Returns true if the list has no items.
     pub fn is_empty(&self) -> bool
         ensures { IsTrue result ↔ (self.now ≡ []) }
     {

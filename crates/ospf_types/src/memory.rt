@@ -5,11 +5,11 @@ use std::alloc::{AllocError, AllocFailed};
 use std::fmt;
 use thiserror::Error;
 
-/// Memory ran out.
+/// The error that memory ran out.
 #[derive(Clone, Copy, Debug, PartialEq, Eq, Error)]
 pub struct Memory;
 
-/// The number and the name, `30 Memory`.
+/// Prints the number and the name, `30 Memory`.
 impl fmt::Display for Memory {
     ghost output = { λ _. Some memory_text };
 

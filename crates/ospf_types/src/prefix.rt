@@ -7,8 +7,9 @@ use std::cmp::Ordering;
 use std::hash::{Hash, Hasher};
 use std::marker::Model;
 
-/// A destination network: an address, and how many of its first bits count. The bits past them are
-/// zero. Prefixes stand in the order of their addresses, and at one address the shorter comes first.
+/// A network: a network number and a prefix length. All bits past the length are zero.
+///
+/// Prefixes are ordered by network number and then by length.
 #[derive(Clone, Copy, Debug, PartialEq, Eq, PartialOrd, Ord)]
 pub struct Prefix {
     address: u32,
@@ -32,7 +33,8 @@ impl Model for Prefix {
 impl Prefix {
     ghost use Rattle.ospf_types.specs.Address.{HasAddress, Covers};
 
-    /// The prefix of that length around an address, or `None` past 32.
+    /// Returns the prefix of the given length that contains the address (in host order), or `None`
+    /// if the length is above 32.
     pub fn new(address: u32, length: u8) -> Option<Prefix>
         ensures valid { IsSome result ↔ (length ≤ 32) }
         ensures masked { IfSome result (λ p. p ≡ record { address = masked address length; length = length }) }
@@ -46,8 +48,9 @@ impl Prefix {
         })
     }
 
-    /// The prefix that an address and a mask name. Of a mask that has a one behind a zero only the
-    /// number of its ones counts.
+    /// Returns the prefix given by an address and a mask, both in host order.
+    ///
+    /// The length is the number of ones in the mask, even if they do not all come first.
     pub fn from_mask(address: u32, mask: u32) -> Prefix
         ensures { result ≡ network_of address mask }
     {
@@ -57,7 +60,7 @@ impl Prefix {
         }
     }
 
-    /// The network number, in host order.
+    /// Returns the network number, in host order.
     pub fn address(self) -> u32
         ensures value { result ≡ self.address }
         ensures masked { masked result self.length ≡ result }
@@ -65,7 +68,7 @@ impl Prefix {
         self.address
     }
 
-    /// How many bits count, at most 32.
+    /// Returns the prefix length, at most 32.
     pub fn length(self) -> u8
         ensures value { result ≡ self.length }
         ensures bound { result ≤ 32 }
@@ -73,28 +76,28 @@ impl Prefix {
         self.length
     }
 
-    /// The order of networks: by address, and at one address the shorter first.
+    /// Compares two prefixes by network number and then by length.
     pub fn compare(self, other: Prefix) -> Ordering
         ensures { result ≡ network_cmp self other }
     {
         self.cmp(&other)
     }
 
-    /// Whether the address lies in the network.
+    /// Returns true if the network contains the address (in host order).
     pub fn contains(self, address: u32) -> bool
         ensures { IsTrue result ↔ HasAddress self address }
     {
         first_bits(address, self.length) == self.address
     }
 
-    /// Whether the other network lies in this one: it is as long or longer, and its address is here.
+    /// Returns true if this network contains all of the other one.
     pub fn covers(self, other: Prefix) -> bool
         ensures { IsTrue result ↔ Covers self other }
     {
         self.length <= other.length && self.contains(other.address)
     }
 
-    // A number of its own for each network.
+    // Returns a number that no other network has.
     pub(crate) fn word(self) -> u64
         ensures { result ≡ network_word self }
     {
@@ -102,7 +105,8 @@ impl Prefix {
     }
 }
 
-// A network is hashed as one word: a look-up of an address hashes one for each length that it tries.
+// A network is hashed as one word: the longest match of an address hashes one network for each
+// length that it tries.
 impl Hash for Prefix {
     ghost use Rattle.std.specs.Hash as fed;
     ghost use Rattle.std.specs.Cmp.Rules.{hashing};
@@ -118,7 +122,7 @@ impl Hash for Prefix {
     }
 }
 
-// The address with the bits past the length set to zero.
+// Returns the address with all bits past the length set to zero.
 fn first_bits(address: u32, length: u8) -> u32
     requires { length ≤ 32 }
     ensures { result ≡ masked address length }

@@ -1,4 +1,4 @@
-//! The printed forms.
+//! The printed forms of prefixes, path types, next hops, paths and entries.
 ghost use Rattle.std.specs.Prelude.{Some};
 ghost use Rattle.ospf_types.specs.Text.{prefix_text, kind_text, hop_text, path_text, paths_text, entry_text, area_text};
 
@@ -10,12 +10,12 @@ use crate::prefix::Prefix;
 use itoa::write_digits;
 use std::{fmt, str};
 
-/// The network number and how many bits count, as `192.0.2.0/24`.
+/// Prints the network number and the length, as in `192.0.2.0/24`.
 impl fmt::Display for Prefix {
     ghost output = { λ p. Some (prefix_text p) };
 
     fn fmt<W: fmt::Write>(&self, f: &mut fmt::Formatter<W>) -> fmt::Result {
-        // (a slash and two digits behind the address)
+        // A slash and two digits follow the address.
         const END: usize = MOST + 3;
         let mut text = [0; END];
         let start = write_digits(u64::from(self.length()), &mut text, END);
@@ -26,7 +26,7 @@ impl fmt::Display for Prefix {
     }
 }
 
-/// `intra`, `inter`, `ext1` or `ext2`.
+/// Prints `intra`, `inter`, `ext1` or `ext2`.
 impl fmt::Display for PathType {
     ghost output = { λ kind. Some (kind_text kind) };
 
@@ -40,7 +40,7 @@ impl fmt::Display for PathType {
     }
 }
 
-/// The way and the interface, as `direct:1`; with the address of a router on a network, as
+/// Prints the kind and the interface, as in `direct:1`. The address of a router follows them, as in
 /// `router:1:192.0.2.2`.
 impl fmt::Display for NextHop {
     ghost output = { λ hop. Some (hop_text hop) };
@@ -54,7 +54,7 @@ impl fmt::Display for NextHop {
     }
 }
 
-/// The next hop, and if there is an advertiser, its Router ID behind an `@`.
+/// Prints the next hop, and after an `@` the Router ID of the advertiser, if there is one.
 impl fmt::Display for Path {
     ghost output = { λ path. Some (path_text path) };
 
@@ -68,7 +68,7 @@ impl fmt::Display for Path {
     }
 }
 
-/// The paths with commas between them.
+/// Prints the paths, separated by commas.
 impl fmt::Display for Paths {
     ghost output = { λ paths. Some (paths_text paths) };
 
@@ -83,8 +83,10 @@ impl fmt::Display for Paths {
     }
 }
 
-/// Kind, area, both costs and paths with spaces between them, as `inter 0.0.0.0 20 0 peer:1@10.0.0.2`.
-/// An external route has a dash for its area.
+/// Prints path type, area, both costs and paths, separated by spaces, as in `inter 0.0.0.0 20 0
+/// peer:1@10.0.0.2`.
+///
+/// The area of an external route is printed as a dash.
 impl fmt::Display for Entry {
     ghost output = { λ entry. Some (entry_text entry) };
 
@@ -100,7 +102,7 @@ impl fmt::Display for Entry {
     }
 }
 
-// What an entry shows of its area.
+// The area of an entry, as it is printed.
 #[derive(Clone, Copy)]
 struct AreaField(Option<u32>);
 

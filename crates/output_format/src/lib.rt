@@ -1,16 +1,16 @@
-//! What a command prints after a run, and the form of the lines that it prints.
+//! The result that a command prints after a run, and the form of the lines that it prints.
 #![tactic(auto)]
 
-/// How what is told is written.
+/// The form of printed lines.
 #[derive(Clone, Copy, Debug, PartialEq, Eq)]
 pub enum Format {
-    /// Words with a space between two.
+    /// Words separated by single spaces.
     Text,
-    /// JSON objects (RFC 8259), one a line, without spaces.
+    /// JSON objects (RFC 8259), one for each line, without spaces.
     Json,
 }
 
-/// What is printed after a run.
+/// The result that a command prints after a run.
 #[derive(Clone, Copy, Debug, PartialEq, Eq)]
 pub enum Show {
     /// The routing table.
@@ -19,7 +19,7 @@ pub enum Show {
     Due,
     /// All LSAs at their present age.
     Lsdb,
-    /// A recording, and nothing else: the base, if one was given or a roll made one, and the events
-    /// that were taken since.
+    /// A recording, and nothing else: the base, if one was given or made by a roll, and the events
+    /// taken since.
     Journal,
 }

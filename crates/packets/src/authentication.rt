@@ -3,30 +3,30 @@ ghost use Rattle.packets.specs.Packets.{authentication_of, authentication_data};
 
 use byteorder::{BigEndian, ByteOrder};
 
-/// How a packet is authenticated, by its AuType and the 64 bits behind it (RFC 2328, D).
+/// The authentication of a packet, by its AuType and the 64 bits after it (RFC 2328, D).
 #[derive(Clone, Copy, Debug, PartialEq, Eq, Hash)]
 pub enum Authentication {
-    /// Not at all (D.1).
+    /// No authentication (RFC 2328, D.1).
     Null,
-    /// By a password in the clear (D.2).
+    /// A password in clear text (RFC 2328, D.2).
     Password([u8; 8]),
-    /// By a message digest behind the packet, in place of a checksum (D.3).
+    /// A message digest after the packet, instead of a checksum (RFC 2328, D.3).
     Cryptographic {
-        /// Key ID.
+        /// The Key ID.
         key: u8,
         /// The length of the digest in bytes.
         digest_length: u8,
-        /// The cryptographic sequence number.
+        /// The cryptographic sequence number, in host order.
         sequence: u32,
     },
-    /// By an AuType that is not 0, 1 or 2.
+    /// Any other AuType than 0, 1 or 2.
     Other(u16),
 }
 
 /// The AuType of cryptographic authentication.
 pub(crate) const CRYPTOGRAPHIC: u16 = 2;
 
-/// How a packet is authenticated.
+/// Returns the authentication of the packet.
 pub(crate) fn authentication_in(packet: &[u8]) -> Authentication
     requires { 24 ≤ length packet.now }
     ensures { result ≡ authentication_of packet.now }

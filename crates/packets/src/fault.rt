@@ -4,22 +4,22 @@ ghost use Rattle.packets.specs.Text.{packet_fault_text, update_fault_text};
 use std::fmt;
 use thiserror::Error;
 
-/// Why bytes are no packet: the first of these, in this order, that holds.
+/// The reason why bytes are not a valid packet. `read_packet` returns the first one in this order.
 #[derive(Clone, Copy, Debug, PartialEq, Eq, Error)]
 pub enum PacketFault {
-    /// Fewer than 24 bytes, which is a packet's header (RFC 2328, A.3.1).
+    /// There are fewer than the 24 bytes of a packet header (RFC 2328, A.3.1).
     Short,
     /// The version is not 2.
     Version,
-    /// The packet's type is not 1 to 5.
+    /// The packet type is not 1 to 5.
     Kind,
-    /// The packet's length is below 24, or more than the bytes that are there.
+    /// The packet length is below 24, or greater than the number of bytes.
     Length,
-    /// The checksum does not fit the packet (D.4.1, D.4.2).
+    /// The checksum does not fit the packet (RFC 2328, D.4.1, D.4.2).
     Checksum,
 }
 
-/// The number and the name, as `71 Version`.
+/// Prints the number and the name, as in `71 Version`.
 impl fmt::Display for PacketFault {
     ghost output = { λ fault. Some (packet_fault_text fault) };
 
@@ -34,19 +34,20 @@ impl fmt::Display for PacketFault {
     }
 }
 
-/// Why the body of a Link State Update has not the LSAs that it is to have (RFC 2328, A.3.5).
+/// The reason why the body of a Link State Update does not have the LSAs that it should have (RFC
+/// 2328, A.3.5).
 #[derive(Clone, Copy, Debug, PartialEq, Eq, Error)]
 pub enum UpdateFault {
-    /// Fewer than four bytes, which is the number of LSAs.
+    /// There are fewer than the four bytes of the number of LSAs.
     Count,
-    /// Where an LSA is to stand, the length in its header is below 20, or the body ends before the LSA.
+    /// The length in the header of the next LSA is below 20, or the body ends before this LSA does.
     LsaLength {
-        /// How many bytes of the body are before it.
+        /// The number of bytes of the body before the LSA.
         place: usize,
     },
 }
 
-/// The number and the name, as `75 Count`. The place is not told.
+/// Prints the number and the name, as in `75 Count`, without the place.
 impl fmt::Display for UpdateFault {
     ghost output = { λ fault. Some (update_fault_text fault) };
 

@@ -1,7 +1,7 @@
 ghost use Rattle.std.specs.Prelude.{◌≡◌};
 ghost use Rattle.packets.specs.Packets.{kind_of_number, number_of_kind};
 
-/// What a packet is for (RFC 2328, A.3.1).
+/// The type of a packet (RFC 2328, A.3.1).
 #[derive(Clone, Copy, Debug, PartialEq, Eq, Hash)]
 pub enum PacketKind {
     Hello,
@@ -12,7 +12,7 @@ pub enum PacketKind {
 }
 
 impl PacketKind {
-    /// The kind that has the number in a packet's header; `None` unless it is 1 to 5.
+    /// Returns the packet type with the number, or `None` if the number is not 1 to 5.
     pub fn of_number(number: u8) -> Option<PacketKind>
         ensures { result ≡ kind_of_number number }
     {
@@ -26,7 +26,7 @@ impl PacketKind {
         }
     }
 
-    /// Its number in a packet's header, 1 to 5.
+    /// Returns the number of the packet type, 1 to 5.
     pub fn number(self) -> u8
         ensures { result ≡ number_of_kind self }
     {

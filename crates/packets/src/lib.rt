@@ -1,6 +1,7 @@
-//! OSPF Version 2 packets (RFC 2328, A.3): their header, and the LSAs of a Link State Update. A packet's
-//! bytes are the payload of an IPv4 datagram of protocol 89, put together already. Bodies and LSAs are
-//! lent, and nothing is allocated.
+//! OSPF version 2 packets (RFC 2328, A.3): their header, and the LSAs of a Link State Update.
+//!
+//! The bytes of a packet are the payload of a whole IPv4 datagram of protocol 89. Bodies and LSAs
+//! are borrowed, and nothing is allocated.
 #![tactic(auto)]
 
 mod authentication;

@@ -9,32 +9,39 @@ use crate::fault::PacketFault;
 use crate::kind::PacketKind;
 use byteorder::{BigEndian, ByteOrder};
 
-/// The header's length in bytes.
+/// The length of the header in bytes.
 const HEADER: usize = 24;
 
-/// OSPF Version 2.
+/// The version number of OSPF version 2.
 const VERSION: u8 = 2;
 
-/// A packet. Its numbers are in host order.
+/// A packet, with its numbers in host order.
 #[derive(Clone, Copy, Debug)]
 pub struct Packet<'a> {
+    /// The packet type.
     pub kind: PacketKind,
-    /// Router ID of the packet's source.
+    /// The Router ID of the packet's source.
     pub router: u32,
-    /// Area ID.
+    /// The Area ID.
     pub area: u32,
-    /// How it is authenticated. Whether it is authentic was not looked at.
+    /// The authentication fields. They are not verified.
     pub authentication: Authentication,
-    /// The bytes behind the header, up to the packet's length.
+    /// The bytes after the header, up to the packet length.
     pub body: &'a [u8],
 }
 
-/// Reads a packet. Bytes behind its length, such as a message digest (RFC 2328, D.4.3), are no part of it.
-/// The checksum has to be right, whatever the AuType, unless authentication is cryptographic.
+/// Reads a packet. Bytes after its length do not belong to it, such as a message digest (RFC 2328,
+/// D.4.3).
+///
+/// The checksum has to fit for every AuType except cryptographic authentication.
+///
+/// # Errors
+///
+/// Returns the first fault of the bytes, in the order of `PacketFault`.
 pub fn read_packet(bytes: &[u8]) -> Result<Packet<'_>, PacketFault>
-    // Refused bytes are refused for their first fault.
+    // Bytes with a fault are refused for their first fault.
     ensures fault { IfErr result (λ fault. packet_fault_of bytes.now ≡ Some fault) }
-    // All others are read.
+    // All other bytes are read.
     ensures accepted { IfOk result (λ packet. packet_fault_of bytes.now ≡ None) }
     ensures kind { IfOk result (λ packet. kind_of_number (kind_field bytes.now) ≡ Some packet.kind) }
     ensures router { IfOk result (λ packet. packet.router ≡ router_field bytes.now) }
@@ -67,7 +74,7 @@ pub fn read_packet(bytes: &[u8]) -> Result<Packet<'_>, PacketFault>
     })
 }
 
-/// The packet's length in bytes, its header counted.
+/// Returns the packet length in bytes, including the header.
 fn length_in(bytes: &[u8]) -> usize
     requires { 24 ≤ length bytes.now }
     ensures { result ≡ length_field bytes.now }
@@ -75,7 +82,7 @@ fn length_in(bytes: &[u8]) -> usize
     usize::from(BigEndian::read_u16(&bytes[2..]))
 }
 
-/// Whether the packet's length is less than its header's, or more than the bytes that are there.
+/// Returns true if the packet length is below the header's, or greater than the number of bytes.
 fn is_wrong_length(length: usize, present: usize) -> bool
     ensures value { result ≡ is_wrong_length_test length present }
     ensures fits { result ≡ false → (24 ≤ length) × (length ≤ present) }
@@ -83,7 +90,7 @@ fn is_wrong_length(length: usize, present: usize) -> bool
     length < HEADER || length > present
 }
 
-/// Whether the checksum is looked at, and does not fit the packet.
+/// Returns true if authentication is not cryptographic and the checksum does not fit the packet.
 fn has_wrong_sum(packet: &[u8]) -> bool
     requires { 24 ≤ length packet.now }
     ensures { result ≡ has_wrong_sum_test packet.now }
@@ -91,7 +98,8 @@ fn has_wrong_sum(packet: &[u8]) -> bool
     BigEndian::read_u16(&packet[14..]) != CRYPTOGRAPHIC && !has_right_sum(packet)
 }
 
-/// Whether the sum of the words that the checksum covers, its own among them, is all ones (D.4.1).
+/// Returns true if the sum of all words that the checksum covers, including the checksum, is all
+/// ones (RFC 2328, D.4.1).
 fn has_right_sum(packet: &[u8]) -> bool
     requires { 24 ≤ length packet.now }
     ensures { result ≡ has_right_sum_test packet.now }

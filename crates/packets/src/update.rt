@@ -8,17 +8,19 @@ use crate::fault::UpdateFault;
 use byteorder::{BigEndian, ByteOrder};
 use std::marker::Model;
 
-/// The length of an LSA's header in bytes (A.4.1).
+/// The length of an LSA header in bytes (RFC 2328, A.4.1).
 const LSA_HEADER: usize = 20;
 
-/// The LSAs of a Link State Update, in their order. Each is lent as its bytes, the header first. If no
-/// whole LSA stands where one is due, a fault with the place comes, and nothing after it.
+/// An iterator over the LSAs of a Link State Update, in order. An LSA is returned as its bytes,
+/// with the header first.
+///
+/// If the next LSA is not whole, the iterator returns a fault with its place, and ends.
 #[derive(Drop)]
 pub struct UpdateLsas<'a> {
-    /// How many LSAs are to come.
+    /// The number of LSAs to come.
     left: u32,
     body: &'a [u8],
-    /// How many bytes of the body are before the next LSA.
+    /// The number of bytes of the body before the next LSA.
     place: usize,
 }
 
@@ -59,16 +61,22 @@ impl<'a> Iterator for UpdateLsas<'a> {
     }
 }
 
-/// The LSAs in the body of a Link State Update. Bytes behind the last of them are not looked at, and of an
-/// LSA only the length in its header (A.4.1).
+/// Returns an iterator over the LSAs in the body of a Link State Update.
+///
+/// Bytes after the last LSA are ignored. Only the length in the header of each LSA is read (RFC
+/// 2328, A.4.1).
+///
+/// # Errors
+///
+/// Returns `UpdateFault::Count` if the body has fewer than four bytes.
 pub fn update_lsas(body: &[u8]) -> Result<UpdateLsas<'_>, UpdateFault>
     ensures fault { IfErr result (λ fault. (fault ≡ CountFault) × (length body.now < 4)) }
     ensures accepted { IfOk result (λ lsas. 4 ≤ length body.now) }
     ensures value { IfOk result (λ lsas. lsas ≡ pieces_of body.now) }
-    // The LSAs stand one after the other, each as long as its header says: as many as the body counts,
-    // or those before the first place where no whole one stands, and then a fault with that place.
+    // The LSAs follow one another, each as long as its header says. There are as many as the body
+    // counts, or only the LSAs before the first that is not whole, and then a fault with its place.
     ensures pieces { IfOk result (λ lsas. ArePiecesOf body.now lsas) }
-    // No other pieces are so.
+    // No other pieces have this property.
     ensures only { IfOk result (λ lsas. (others : List Piece) → ArePiecesOf body.now others → others ≡ lsas) }
 {
     if body.len() < 4 {
@@ -81,7 +89,7 @@ pub fn update_lsas(body: &[u8]) -> Result<UpdateLsas<'_>, UpdateFault>
     })
 }
 
-/// Whether an LSA stands in front, whole.
+/// Returns true if the bytes begin with a whole LSA.
 fn has_lsa(bytes: &[u8]) -> bool
     ensures value { result ≡ has_lsa_test bytes.now }
     ensures header { result ≡ true → 20 ≤ length bytes.now }
@@ -94,7 +102,7 @@ fn has_lsa(bytes: &[u8]) -> bool
     length >= LSA_HEADER && length <= bytes.len()
 }
 
-/// The length in an LSA's header, in bytes.
+/// Returns the length in the header of the LSA, in bytes.
 fn lsa_length(bytes: &[u8]) -> usize
     requires { 20 ≤ length bytes.now }
     ensures { result ≡ length_of_lsa bytes.now }

@@ -1,4 +1,4 @@
-//! The run of a recording, of whose last lines it is told what they changed.
+//! The replay of a recording, with the changes of its last lines.
 ghost use Rattle.std.specs.Prelude.{◌≡◌, ◌<◌, ◌+◌, ◌^◌, [], IfOk, length};
 ghost use Rattle.event_core.specs.Cores.{IsCore, IsCurrent};
 ghost use Rattle.replay.specs.Advance.{ShowsProgress};
@@ -14,16 +14,17 @@ use replay::{OpenedRecording, new_buffer, first_event_line, flush_buffer};
 use std::alloc::Global;
 use std::io;
 
-// Of so many of the last lines it is told what they changed.
+// The number of last lines whose changes are listed.
 const LAST_LINES: usize = 10;
 
-/// A core behind the last line of a recording, and what the last lines changed, as the command `changes` tells it.
+/// The core after the last line of a recording, and the changes of the last lines as the command
+/// `changes` prints them.
 pub(crate) struct Ended {
     pub(crate) core: Core,
     pub(crate) told: Vec<u8>,
 }
 
-// proof: one call drops it, in place of a drop of each part wherever one is held.
+// proof: a value is dropped by one call, not part by part at each exit of a function.
 impl Drop for Ended {
     fn drop(self) {
         let Ended {
@@ -33,7 +34,8 @@ impl Drop for Ended {
     }
 }
 
-/// Runs the recording. It ends where memory runs out over a line.
+/// Runs the recording, and lists the changes of its last lines. It stops with `Memory` if memory
+/// runs out over a line.
 pub(crate) fn run_to_end<F: io::Write>(
     alloc: Global,
     opened: OpenedRecording,
@@ -52,7 +54,7 @@ pub(crate) fn run_to_end<F: io::Write>(
     tell_last(alloc, core, number, last)
 }
 
-// The recording without its last lines, and these.
+// Splits the last lines off the recording.
 fn split_last(opened: OpenedRecording) -> Result<(OpenedRecording, Vec<Line>), Memory>
     ensures version { IfOk result (λ parts. parts.0.version ≡ opened.version) }
     ensures core { IfOk result (λ parts. parts.0.core ≡ opened.core) }
@@ -74,7 +76,8 @@ fn split_last(opened: OpenedRecording) -> Result<(OpenedRecording, Vec<Line>), M
     Ok((earlier, last))
 }
 
-// Runs the last lines, the first of which has this number, and tells what they changed.
+// Runs the last lines, the first of which has this number, and lists their changes. Returns
+// `Memory` if the core is behind.
 fn tell_last(alloc: Global, core: Core, number: usize, last: Vec<Line>) -> Result<Ended, Memory>
     requires { number + length last.items < 2 ^ 64 }
     ensures { IfOk result (λ ended. IsToldLast core number last.items ended.core ended.told.items) }

@@ -1,5 +1,5 @@
-//! A recording is run, and one page in HTML shows how it ends: the areas, the routing table, what is due, and what changed last.
-//! The page loads nothing from elsewhere.
+//! The replay of a recording, and an HTML page about its end: the areas, the routing table, the due
+//! summaries, and the last changes. The page loads nothing from elsewhere.
 #![tactic(auto)]
 
 mod ending;

@@ -1,4 +1,4 @@
-//! A recording is read and run, and a page shows how it ends.
+//! The replay of a recording, and the page about its end.
 ghost use Rattle.std.specs.Prelude.{◌≡◌, ◌⊎◌, ℕ, List, IfErr, IfOk, OnErr, OnOk};
 ghost use Rattle.std.specs.Io.KnownBytes.{Appends};
 ghost use Rattle.recording.specs.Faults.{IsFaultOf};
@@ -17,12 +17,25 @@ use std::alloc::Global;
 use std::hash::RandomState;
 use std::io;
 
-/// Reads its input to the end as a recording, runs it on one thread, and writes one page in HTML: the graph of each area with its
-/// shortest-path tree (RFC 2328, 16.1), the address ranges with their networks, the routing table, the summary-LSAs that are due
-/// (12.4.3), and what the last ten lines changed. For a fault of the input, and where memory runs out, also over an event, nothing
-/// is written. Where a write fails, a beginning of the page is written. A failed write is told as `Closed` where the writer's error
-/// is of the kind `BrokenPipe`, and else as `Write`. If `progress` is set, `faults` is shown how many lines are done; what cannot
-/// be written there is left out. The line that is written over is left for the caller to end.
+/// Reads the whole input as a recording, replays it on one thread, and writes one HTML page. The
+/// page shows:
+///
+/// - The graph of each area with its shortest-path tree (RFC 2328, 16.1).
+/// - The address ranges with their networks.
+/// - The routing table.
+/// - The summary-LSAs that are due (12.4.3).
+/// - The changes of the last ten lines.
+///
+/// If `progress` is set, the number of lines done is shown on `faults`. Failed writes there are
+/// ignored. The caller has to end the line that shows the progress.
+///
+/// # Errors
+///
+/// - `Read` if the input cannot be read, and `Line` if it is not a valid recording. Nothing is
+///   written then.
+/// - `Memory` if memory runs out, also during an event. Nothing is written then.
+/// - `Closed` if a write fails with an error of the kind `BrokenPipe`, and `Write` if it fails
+///   otherwise. A beginning of the page may be written then.
 pub fn page_one<R: io::Read, W: io::Write, F: io::Write>(
     alloc: Global,
     hashing: RandomState,

@@ -11,17 +11,17 @@ use ospf_types::memory::Memory;
 use page_sections::{put_area_heading, put_left_out, put_picture_beginning, put_picture_end};
 use std::alloc::Global;
 
-// A graph with more vertices is not drawn: a picture of it could not be read.
+// The greatest number of vertices in a picture. A larger picture could not be read.
 const MOST_VERTICES: usize = 200;
 
-/// What is shown of the graph of an area: how many vertices it has, and where they are not too many, its drawing.
+/// The graph of an area: its number of vertices, and its drawing, unless it has too many vertices.
 #[derive(Drop)]
 pub(crate) struct Picture {
     pub(crate) count: usize,
     pub(crate) drawing: Option<Drawing>,
 }
 
-/// The pictures of the areas, in their order, as the router with this Router ID sees them.
+/// Returns the pictures of the areas, in their order. `root` is the Router ID of the root.
 pub(crate) fn pictures_of(
     alloc: Global,
     root: u32,
@@ -37,7 +37,7 @@ pub(crate) fn pictures_of(
     Ok(pictures)
 }
 
-// The picture of an area.
+// Returns the picture of an area.
 fn picture_of(alloc: Global, root: u32, area: &AreaInputs<'_>) -> Result<Picture, Memory>
     requires { HasTree area.now }
     ensures { IfOk result (IsPictureOf root area.now) }
@@ -80,7 +80,7 @@ fn put_area(area: &AreaConfig, picture: &Picture, text: &mut String) -> Result<(
     put_picture(picture, text)
 }
 
-// Appends the picture, or why there is none.
+// Appends the picture, or the reason why there is none.
 fn put_picture(picture: &Picture, text: &mut String) -> Result<(), Memory>
     ensures { OnOk result (string_bytes text.new ≡ string_bytes text.old
         ++ picture_text picture.now) }

@@ -16,7 +16,7 @@ use page_sections::{
 use state_trees::area_inputs;
 use std::alloc::Global;
 
-/// The page that shows a core, and what changed last.
+/// Returns the page that shows a core and the last changes.
 pub(crate) fn page_of(alloc: Global, ended: &Ended) -> Result<Vec<u8>, Memory>
     ensures { IfOk result (λ page. IsPage ended.now.core ended.now.told.items page.items) }
 {
@@ -34,7 +34,7 @@ pub(crate) fn page_of(alloc: Global, ended: &Ended) -> Result<Vec<u8>, Memory>
     Ok(page)
 }
 
-// Appends all that comes before the last changes.
+// Appends everything before the last changes.
 fn put_front(alloc: Global, core: &Core, text: &mut String) -> Result<(), Memory>
     ensures { OnOk result (AddsFront core.now (string_bytes text.old) (string_bytes text.new)) }
 {
@@ -44,7 +44,7 @@ fn put_front(alloc: Global, core: &Core, text: &mut String) -> Result<(), Memory
     put_tables(core, text)
 }
 
-// Appends the areas with their pictures. A table is behind only where memory ran out.
+// Appends the areas with their pictures. The core is behind only if memory ran out.
 fn put_pictures(alloc: Global, core: &Core, text: &mut String) -> Result<(), Memory>
     ensures { OnOk result (AddsAreas (state_of core.now) (string_bytes text.old)
         (string_bytes text.new)) }
@@ -55,7 +55,7 @@ fn put_pictures(alloc: Global, core: &Core, text: &mut String) -> Result<(), Mem
     }
 }
 
-// By what is calculated of a state.
+// Appends the areas by a state and the results calculated from it.
 fn put_pictures_by(alloc: Global, found: Calculated<'_>, text: &mut String) -> Result<(), Memory>
     requires { IsCalculationOf found.state.now found.calculation.now }
     ensures { OnOk result (AddsAreas found.entry.state.now (string_bytes text.old)
@@ -67,7 +67,7 @@ fn put_pictures_by(alloc: Global, found: Calculated<'_>, text: &mut String) -> R
     put_areas(config.areas.as_slice(), &pictures, text)
 }
 
-// Appends the address ranges, the routing table and what is due.
+// Appends the address ranges, the routing table and the due summaries.
 fn put_tables(core: &Core, text: &mut String) -> Result<(), Memory>
     ensures { OnOk result (string_bytes text.new ≡ string_bytes text.old ++ tables_text core.now) }
 {

@@ -1,4 +1,4 @@
-//! What stands around the pictures of the areas.
+//! The headings and legends of the pictures of the areas.
 ghost use Rattle.std.specs.Prelude.{◌≡◌, ◌++◌, OnOk, codes, string_bytes};
 ghost use Rattle.page_sections.specs.Areas.{area_heading_text, areas_heading_text, left_out_text, stub_text};
 
@@ -6,7 +6,7 @@ use ospf_types::address::Address;
 use ospf_types::config::{AreaConfig, Stub};
 use ospf_types::memory::Memory;
 
-// What the marks of a picture mean, each beside its mark.
+// The legend of the pictures: each mark with its meaning.
 const LEGEND: &str = "<p class=\"legend\">
 <svg width=\"30\" height=\"20\"><path class=\"tree\" d=\"M2 10H28\"/></svg> shortest-path tree with its costs,
 <svg width=\"30\" height=\"20\"><path class=\"link\" d=\"M2 10H28\"/></svg> other link (point at a link for its cost);
@@ -17,8 +17,11 @@ const LEGEND: &str = "<p class=\"legend\">
 Vertices stand by their distance, which is above them.</p>
 ";
 
-/// Appends the heading of all areas, and what the marks of their pictures mean. If memory runs out, the text may have a
-/// part of this.
+/// Appends the heading of all areas, and the legend of their pictures.
+///
+/// # Errors
+///
+/// Returns `Memory` if memory runs out. The text may then have a part of this.
 pub fn put_areas_heading(text: &mut String) -> Result<(), Memory>
     ensures { OnOk result (string_bytes text.new ≡ string_bytes text.old ++ areas_heading_text) }
 {
@@ -27,7 +30,11 @@ pub fn put_areas_heading(text: &mut String) -> Result<(), Memory>
     Ok(())
 }
 
-/// Appends the heading of an area. If memory runs out, the text may have a part of this.
+/// Appends the heading of an area.
+///
+/// # Errors
+///
+/// Returns `Memory` if memory runs out. The text may then have a part of this.
 pub fn put_area_heading(area: &AreaConfig, text: &mut String) -> Result<(), Memory>
     ensures { OnOk result (string_bytes text.new ≡ string_bytes text.old
         ++ area_heading_text area.now) }
@@ -40,7 +47,7 @@ pub fn put_area_heading(area: &AreaConfig, text: &mut String) -> Result<(), Memo
     Ok(())
 }
 
-// That the area is a stub area, if it is one (RFC 2328, 3.6).
+// Appends a note if the area is a stub area (RFC 2328, 3.6).
 fn put_stub(stub: Option<Stub>, text: &mut String) -> Result<(), Memory>
     ensures { OnOk result (string_bytes text.new ≡ string_bytes text.old ++ stub_text stub) }
 {
@@ -50,8 +57,12 @@ fn put_stub(stub: Option<Stub>, text: &mut String) -> Result<(), Memory>
     Ok(())
 }
 
-/// Appends that the graph of an area has so many vertices, and is not drawn, since a picture has at most so many. If
-/// memory runs out, the text may have a part of this.
+/// Appends a note that the graph of an area has `vertices` vertices, and that a picture has at most
+/// `most`. It is written if the graph is not drawn.
+///
+/// # Errors
+///
+/// Returns `Memory` if memory runs out. The text may then have a part of this.
 pub fn put_left_out(vertices: usize, most: usize, text: &mut String) -> Result<(), Memory>
     ensures { OnOk result (string_bytes text.new ≡ string_bytes text.old
         ++ left_out_text vertices most) }
@@ -63,7 +74,7 @@ pub fn put_left_out(vertices: usize, most: usize, text: &mut String) -> Result<(
     Ok(())
 }
 
-/// Appends what comes before a picture as SVG. A wide one scrolls sideways.
+/// Appends the start of an element for a picture as SVG. A wide picture scrolls sideways.
 pub fn put_picture_beginning(text: &mut String) -> Result<(), Memory>
     ensures { OnOk result (string_bytes text.new ≡ string_bytes text.old
         ++ codes "<div class=\"picture\">\n") }
@@ -72,7 +83,7 @@ pub fn put_picture_beginning(text: &mut String) -> Result<(), Memory>
     Ok(())
 }
 
-/// Appends what comes behind a picture.
+/// Appends the end of the element for a picture.
 pub fn put_picture_end(text: &mut String) -> Result<(), Memory>
     ensures { OnOk result (string_bytes text.new ≡ string_bytes text.old ++ codes "</div>\n") }
 {

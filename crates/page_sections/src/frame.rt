@@ -1,4 +1,4 @@
-//! How the page begins and ends, and what changed last.
+//! The beginning and the end of the page, and the frame of the last changes.
 ghost use Rattle.std.specs.Prelude.{◌≡◌, ◌++◌, OnOk, string_bytes};
 ghost use Rattle.page_sections.specs.Frame.{about_text, beginning_text, changes_beginning_text, changes_end_text, end_text, head_text, styles_text, title_text};
 
@@ -7,7 +7,7 @@ use crate::style::STYLE;
 use ospf_types::address::Address;
 use ospf_types::memory::Memory;
 
-// What a browser is told first. The policy has it load nothing from elsewhere.
+// The first part of the head. Its policy keeps a browser from loading anything from elsewhere.
 const HEAD: &str = "<!DOCTYPE html>
 <html lang=\"en\">
 <head>
@@ -27,8 +27,12 @@ const SECTIONS: &str = "<nav>
 </nav>
 ";
 
-/// Appends how the page begins: its head with the style, the Router ID in the heading, how many events the router has
-/// followed, and links to the sections. If memory runs out, the text may have a part of this.
+/// Appends the beginning of the page: its head with the style, the Router ID in the heading, the
+/// serial of the last event, and links to the sections.
+///
+/// # Errors
+///
+/// Returns `Memory` if memory runs out. The text may then have a part of this.
 pub fn put_beginning(router: u32, serial: u64, text: &mut String) -> Result<(), Memory>
     ensures { OnOk result (string_bytes text.new ≡ string_bytes text.old
         ++ beginning_text router serial) }
@@ -41,7 +45,7 @@ pub fn put_beginning(router: u32, serial: u64, text: &mut String) -> Result<(), 
     Ok(())
 }
 
-// All of the head but the style.
+// Appends the head without the style.
 fn put_head(router: u32, text: &mut String) -> Result<(), Memory>
     ensures { OnOk result (string_bytes text.new ≡ string_bytes text.old ++ head_text router) }
 {
@@ -51,7 +55,7 @@ fn put_head(router: u32, text: &mut String) -> Result<(), Memory>
     Ok(())
 }
 
-// The style, and the end of the head.
+// Appends the style, and the end of the head.
 fn put_style(text: &mut String) -> Result<(), Memory>
     ensures { OnOk result (string_bytes text.new ≡ string_bytes text.old ++ styles_text) }
 {
@@ -61,7 +65,7 @@ fn put_style(text: &mut String) -> Result<(), Memory>
     Ok(())
 }
 
-// The heading of the page.
+// Appends the heading of the page.
 fn put_title(router: u32, text: &mut String) -> Result<(), Memory>
     ensures { OnOk result (string_bytes text.new ≡ string_bytes text.old ++ title_text router) }
 {
@@ -70,7 +74,7 @@ fn put_title(router: u32, text: &mut String) -> Result<(), Memory>
     Ok(())
 }
 
-// What the page shows.
+// Appends a paragraph about the contents of the page.
 fn put_about(serial: u64, text: &mut String) -> Result<(), Memory>
     ensures { OnOk result (string_bytes text.new ≡ string_bytes text.old ++ about_text serial) }
 {
@@ -83,8 +87,12 @@ changed last.</p>"
     Ok(())
 }
 
-/// Appends what comes before the lines that tell what changed last, or that nothing changed where there are none. If memory
-/// runs out, the text may have a part of this.
+/// Appends the text before the lines of the last changes. It says that nothing changed if
+/// `is_empty` is true.
+///
+/// # Errors
+///
+/// Returns `Memory` if memory runs out. The text may then have a part of this.
 pub fn put_changes_beginning(is_empty: bool, text: &mut String) -> Result<(), Memory>
     ensures { OnOk result (string_bytes text.new ≡ string_bytes text.old
         ++ changes_beginning_text is_empty) }
@@ -97,7 +105,8 @@ pub fn put_changes_beginning(is_empty: bool, text: &mut String) -> Result<(), Me
     Ok(())
 }
 
-/// Appends what comes behind these lines. They have no `<` and no `&`, as no word, number or address has one.
+/// Appends the text after these lines. The lines contain neither `<` nor `&`, because no word,
+/// number or address does.
 pub fn put_changes_end(is_empty: bool, text: &mut String) -> Result<(), Memory>
     ensures { OnOk result (string_bytes text.new ≡ string_bytes text.old
         ++ changes_end_text is_empty) }
@@ -108,7 +117,11 @@ pub fn put_changes_end(is_empty: bool, text: &mut String) -> Result<(), Memory>
     Ok(())
 }
 
-/// Appends how the page ends: its script. If memory runs out, the text may have a part of this.
+/// Appends the end of the page: its script.
+///
+/// # Errors
+///
+/// Returns `Memory` if memory runs out. The text may then have a part of this.
 pub fn put_end(text: &mut String) -> Result<(), Memory>
     ensures { OnOk result (string_bytes text.new ≡ string_bytes text.old ++ end_text) }
 {

@@ -1,12 +1,14 @@
-//! The parts of one page in HTML that shows the routing table of an area border router and the summaries that are due.
+//! The parts of an HTML page that shows the routing table of an area border router and its due
+//! summaries.
 //!
-//! The page is one file: its style and its script stand in it, and it loads nothing from elsewhere. What is written comes
-//! from numbers, addresses and fixed words only, so that no recording can put markup into it. Two parts take text that
-//! another crate has made, which is of this kind too: a picture as SVG between `put_picture_beginning` and
-//! `put_picture_end`, and the lines between `put_changes_beginning` and `put_changes_end`.
+//! The page is one file: it contains its style and its script, and it loads nothing from elsewhere.
+//! Its text is made of numbers, addresses and fixed words only, so no recording can put markup into
+//! it. Two parts take text of the same kind that another crate has made. These are a picture as
+//! SVG, between `put_picture_beginning` and `put_picture_end`, and the lines between
+//! `put_changes_beginning` and `put_changes_end`.
 //!
-//! The parts come in this order: `put_beginning`, `put_areas_heading` with each area behind it, `put_ranges`,
-//! `put_routes`, `put_summaries`, the last changes and `put_end`.
+//! The parts have this order: `put_beginning`, `put_areas_heading` and then each area,
+//! `put_ranges`, `put_routes`, `put_summaries`, the last changes and `put_end`.
 #![tactic(auto)]
 
 mod areas;

@@ -20,13 +20,17 @@ struct Counted {
     cost: u32,
 }
 
-// The heading of the section, and what is told of a range.
+// The heading and the introduction of the section.
 const HEAD: &str = "<h2 id=\"ranges\">Address ranges</h2>
 <p class=\"quiet\">Each range with the networks in it that the area's own routes lead to, and the cost of each.</p>
 ";
 
-/// Appends the address ranges of each area that has some (RFC 2328, 3.5), and the networks in each range: those that the
-/// area's own routes lead to. If memory runs out, the text may have a part of this.
+/// Appends the address ranges of each area that has any (RFC 2328, 3.5). Each range is listed with
+/// the networks in it that intra-area routes of its area lead to.
+///
+/// # Errors
+///
+/// Returns `Memory` if memory runs out. The text may then have a part of this.
 pub fn put_ranges(areas: &[AreaConfig], table: &Table, text: &mut String) -> Result<(), Memory>
     ensures { OnOk result (string_bytes text.new ≡ string_bytes text.old
         ++ ranges_text (entries table.now.items) areas.now) }
@@ -36,7 +40,7 @@ pub fn put_ranges(areas: &[AreaConfig], table: &Table, text: &mut String) -> Res
     Ok(())
 }
 
-// The areas that have ranges, or that there is none.
+// Appends the areas that have ranges, or a note that no area has any.
 fn put_areas(areas: &[AreaConfig], table: &Table, text: &mut String) -> Result<(), Memory>
     ensures { OnOk result (string_bytes text.new ≡ string_bytes text.old
         ++ areas_text (entries table.now.items) areas.now) }
@@ -48,7 +52,7 @@ fn put_areas(areas: &[AreaConfig], table: &Table, text: &mut String) -> Result<(
     put_all(areas, table, text)
 }
 
-// Each area.
+// Appends each area.
 fn put_all(areas: &[AreaConfig], table: &Table, text: &mut String) -> Result<(), Memory>
     ensures { OnOk result (string_bytes text.new ≡ string_bytes text.old
         ++ flat_map (area_text (entries table.now.items)) areas.now) }
@@ -59,14 +63,14 @@ fn put_all(areas: &[AreaConfig], table: &Table, text: &mut String) -> Result<(),
     Ok(())
 }
 
-// Whether some area has ranges.
+// Returns true if some area has ranges.
 fn is_any(areas: &[AreaConfig]) -> bool
     ensures { result ≡ list_any has_range areas.now }
 {
     areas.iter().any(|area| has_ranges(area))
 }
 
-// Whether the area has ranges.
+// Returns true if the area has ranges.
 fn has_ranges(area: &AreaConfig) -> bool
     ensures { result ≡ has_range area.now }
 {
@@ -76,7 +80,7 @@ fn has_ranges(area: &AreaConfig) -> bool
     }
 }
 
-// An area with its ranges; nothing of an area that has none.
+// Appends an area with its ranges, if it has any.
 fn put_area(area: &AreaConfig, table: &Table, text: &mut String) -> Result<(), Memory>
     ensures { OnOk result (string_bytes text.new ≡ string_bytes text.old
         ++ area_text (entries table.now.items) area.now) }
@@ -90,7 +94,7 @@ fn put_area(area: &AreaConfig, table: &Table, text: &mut String) -> Result<(), M
     Ok(())
 }
 
-// The ranges of an area.
+// Appends the ranges of an area.
 fn put_each(area: u32, ranges: &[Range], table: &Table, text: &mut String) -> Result<(), Memory>
     ensures { OnOk result (string_bytes text.new ≡ string_bytes text.old
         ++ flat_map (range_text (entries table.now.items) area) ranges.now) }
@@ -101,7 +105,7 @@ fn put_each(area: u32, ranges: &[Range], table: &Table, text: &mut String) -> Re
     Ok(())
 }
 
-// A range, and the networks in it.
+// Appends a range, and the networks in it.
 fn put_range(area: u32, range: &Range, table: &Table, text: &mut String) -> Result<(), Memory>
     ensures { OnOk result (string_bytes text.new ≡ string_bytes text.old
         ++ range_text (entries table.now.items) area range.now) }
@@ -110,7 +114,7 @@ fn put_range(area: u32, range: &Range, table: &Table, text: &mut String) -> Resu
     put_range_and(range, networks.as_slice(), text)
 }
 
-// A range, and these networks.
+// Appends a range, and these networks.
 fn put_range_and(range: &Range, networks: &[Counted], text: &mut String) -> Result<(), Memory>
     ensures { OnOk result (string_bytes text.new ≡ string_bytes text.old
         ++ (range_heading_text range.now ++ networks_text networks.now)) }
@@ -120,7 +124,7 @@ fn put_range_and(range: &Range, networks: &[Counted], text: &mut String) -> Resu
     Ok(())
 }
 
-// The prefix, and whether it is advertised.
+// Appends the prefix of the range, and if it is advertised.
 fn put_range_heading(range: &Range, text: &mut String) -> Result<(), Memory>
     ensures { OnOk result (string_bytes text.new ≡ string_bytes text.old
         ++ range_heading_text range.now) }
@@ -131,7 +135,7 @@ fn put_range_heading(range: &Range, text: &mut String) -> Result<(), Memory>
     Ok(())
 }
 
-// Whether a range is advertised to other areas.
+// Returns the words for a range that is advertised to other areas, or that is not.
 fn advertised(advertise: bool) -> &'static str
     ensures { result.now ≡ advertised_text advertise }
 {
@@ -142,7 +146,7 @@ fn advertised(advertise: bool) -> &'static str
     }
 }
 
-// How many networks there are, and each of them.
+// Appends the number of networks, and each of them.
 fn put_networks(networks: &[Counted], text: &mut String) -> Result<(), Memory>
     ensures { OnOk result (string_bytes text.new ≡ string_bytes text.old
         ++ networks_text networks.now) }
@@ -152,7 +156,7 @@ fn put_networks(networks: &[Counted], text: &mut String) -> Result<(), Memory>
     Ok(())
 }
 
-// How many networks there are.
+// Appends the number of networks.
 fn put_count(count: usize, text: &mut String) -> Result<(), Memory>
     ensures { OnOk result (string_bytes text.new ≡ string_bytes text.old ++ count_text count) }
 {
@@ -164,7 +168,7 @@ fn put_count(count: usize, text: &mut String) -> Result<(), Memory>
     Ok(())
 }
 
-// The networks as a list; nothing where there is none.
+// Appends the networks as a list, if there are any.
 fn put_list(networks: &[Counted], text: &mut String) -> Result<(), Memory>
     ensures { OnOk result (string_bytes text.new ≡ string_bytes text.old
         ++ list_text networks.now) }
@@ -175,7 +179,7 @@ fn put_list(networks: &[Counted], text: &mut String) -> Result<(), Memory>
     put_some(networks, text)
 }
 
-// A list of the networks.
+// Appends a list of the networks.
 fn put_some(networks: &[Counted], text: &mut String) -> Result<(), Memory>
     ensures { OnOk result (string_bytes text.new ≡ string_bytes text.old
         ++ some_text networks.now) }
@@ -186,7 +190,7 @@ fn put_some(networks: &[Counted], text: &mut String) -> Result<(), Memory>
     Ok(())
 }
 
-// Each of the networks.
+// Appends each of the networks.
 fn put_rows(networks: &[Counted], text: &mut String) -> Result<(), Memory>
     ensures { OnOk result (string_bytes text.new ≡ string_bytes text.old
         ++ flat_map network_row networks.now) }
@@ -197,7 +201,7 @@ fn put_rows(networks: &[Counted], text: &mut String) -> Result<(), Memory>
     Ok(())
 }
 
-// A network, and its cost.
+// Appends a network and its cost.
 fn put_row(row: &Counted, text: &mut String) -> Result<(), Memory>
     ensures { OnOk result (string_bytes text.new ≡ string_bytes text.old
         ++ network_row row.now) }
@@ -207,7 +211,8 @@ fn put_row(row: &Counted, text: &mut String) -> Result<(), Memory>
     Ok(())
 }
 
-// The networks of the table that count to the range of the area.
+// Returns the networks of the table that the range covers and that the area has an intra-area route
+// to.
 fn networks_in(
     alloc: Global,
     area: u32,
@@ -224,7 +229,7 @@ fn networks_in(
     Ok(networks)
 }
 
-// Adds the network, if there is one.
+// Appends the network, if there is one.
 fn push_if(network: Option<Counted>, networks: &mut Vec<Counted>) -> Result<(), Memory>
     ensures { OnOk result ((rest : List Counted)
         → networks.new.items ++ rest ≡ networks.old.items ++ cons_option network rest) }
@@ -235,7 +240,8 @@ fn push_if(network: Option<Counted>, networks: &mut Vec<Counted>) -> Result<(), 
     Ok(())
 }
 
-// The network with its cost, if it counts to the range of the area: it lies in it, and the area's own route leads there.
+// Returns the network with its cost, if the range covers it and the area has an intra-area route to
+// it.
 fn look_at(area: u32, range: Prefix, network: Prefix, item: &Item) -> Option<Counted>
     ensures { result ≡ counted_in area range (network, item.now) }
 {
@@ -248,14 +254,14 @@ fn look_at(area: u32, range: Prefix, network: Prefix, item: &Item) -> Option<Cou
     }
 }
 
-// Whether the network lies in the range.
+// Returns true if the range covers the network.
 fn covers(range: Prefix, network: Prefix) -> bool
     ensures { result ≡ is_inside range network }
 {
     range.covers(network)
 }
 
-// The cost of an intra-area route of the area.
+// Returns the cost of the item, if it is an intra-area route of the area.
 fn intra_cost(area: u32, item: &Item) -> Option<u32>
     ensures { result ≡ intra_cost_of area item.now }
 {
@@ -265,7 +271,7 @@ fn intra_cost(area: u32, item: &Item) -> Option<u32>
     }
 }
 
-// Whether routes of this kind are intra-area.
+// Returns true if routes of this path type are intra-area.
 fn is_intra(kind: PathType) -> bool
     ensures { result ≡ is_intra_area kind }
 {

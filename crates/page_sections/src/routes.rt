@@ -11,7 +11,7 @@ use ospf_types::memory::Memory;
 use ospf_types::prefix::Prefix;
 use route_table::{Item, Table};
 
-/// What the table has for a network.
+/// The kind of a network's item.
 #[derive(Clone, Copy)]
 enum Kind {
     Intra,
@@ -35,9 +35,13 @@ autocomplete=\"off\" spellcheck=\"false\"></label> <output id=\"found\"></output
 <tbody>
 ";
 
-/// Appends the routing table (RFC 2328, 11): how many networks it has of each type, a box to search it, and a row for each
-/// network. Packets to a network of the type discard are discarded: it is an active range of the router's own (11.1).
-/// If memory runs out, the text may have a part of this.
+/// Appends the routing table (RFC 2328, 11): the number of networks of each kind, a search box, and
+/// a row for each network. Packets to a network of the kind discard are discarded: it is an active
+/// range of the router itself (11.1).
+///
+/// # Errors
+///
+/// Returns `Memory` if memory runs out. The text may then have a part of this.
 pub fn put_routes(table: &Table, text: &mut String) -> Result<(), Memory>
     ensures { OnOk result (string_bytes text.new ≡ string_bytes text.old
         ++ routes_text (entries table.now.items)) }
@@ -50,7 +54,7 @@ pub fn put_routes(table: &Table, text: &mut String) -> Result<(), Memory>
     Ok(())
 }
 
-// How many networks there are of each type.
+// Appends the number of networks of each kind.
 fn put_counts(table: &Table, text: &mut String) -> Result<(), Memory>
     ensures { OnOk result (string_bytes text.new ≡ string_bytes text.old
         ++ counts_text (entries table.now.items)) }
@@ -63,7 +67,7 @@ fn put_counts(table: &Table, text: &mut String) -> Result<(), Memory>
     Ok(())
 }
 
-// How many networks there are of a type.
+// Appends the number of networks of a kind.
 fn put_count(kind: Kind, table: &Table, text: &mut String) -> Result<(), Memory>
     ensures { OnOk result (string_bytes text.new ≡ string_bytes text.old
         ++ count_text (entries table.now.items) kind) }
@@ -75,7 +79,7 @@ fn put_count(kind: Kind, table: &Table, text: &mut String) -> Result<(), Memory>
     Ok(())
 }
 
-// How many networks have an item of the kind.
+// Returns the number of networks that have an item of the kind.
 fn count_of(kind: Kind, table: &Table) -> usize
     ensures { result ≡ length (filter (is_of kind) (entries table.now.items)) }
 {
@@ -92,7 +96,7 @@ fn one_if(yes: bool) -> usize
     if yes { 1 } else { 0 }
 }
 
-// Whether the two are equal.
+// Returns true if the two kinds are equal.
 fn is_same(one: Kind, other: Kind) -> bool
     ensures { result ≡ same_kind one other }
 {
@@ -105,7 +109,7 @@ fn is_same(one: Kind, other: Kind) -> bool
     }
 }
 
-// The kind of an item.
+// Returns the kind of an item.
 fn kind_of(item: &Item) -> Kind
     ensures { result ≡ kind_of_item item.now }
 {
@@ -115,7 +119,7 @@ fn kind_of(item: &Item) -> Kind
     }
 }
 
-// The kind of a route.
+// Returns the kind of a route.
 fn route_kind(kind: PathType) -> Kind
     ensures { result ≡ kind_of_route kind }
 {
@@ -127,7 +131,7 @@ fn route_kind(kind: PathType) -> Kind
     }
 }
 
-// The kind in words.
+// Returns the words for a kind.
 fn word_of(kind: Kind) -> &'static str
     ensures { result.now ≡ kind_text kind }
 {
@@ -140,7 +144,7 @@ fn word_of(kind: Kind) -> &'static str
     }
 }
 
-// A row for each network.
+// Appends a row for each network.
 fn put_rows(table: &Table, text: &mut String) -> Result<(), Memory>
     ensures { OnOk result (string_bytes text.new ≡ string_bytes text.old
         ++ flat_map row_text (entries table.now.items)) }
@@ -151,7 +155,7 @@ fn put_rows(table: &Table, text: &mut String) -> Result<(), Memory>
     Ok(())
 }
 
-// The row of a network.
+// Appends the row of a network.
 fn put_row(network: Prefix, item: &Item, text: &mut String) -> Result<(), Memory>
     ensures { OnOk result (string_bytes text.new ≡ string_bytes text.old
         ++ row_text (network, item.now)) }
@@ -162,7 +166,7 @@ fn put_row(network: Prefix, item: &Item, text: &mut String) -> Result<(), Memory
     }
 }
 
-// The row of a network that has a route.
+// Appends the row of a network that has a route.
 fn put_route(network: Prefix, entry: &Entry, text: &mut String) -> Result<(), Memory>
     ensures { OnOk result (string_bytes text.new ≡ string_bytes text.old
         ++ route_text network entry.now) }
@@ -175,7 +179,7 @@ fn put_route(network: Prefix, entry: &Entry, text: &mut String) -> Result<(), Me
     Ok(())
 }
 
-// The type of a route.
+// Appends the path type of a route.
 fn put_type(kind: PathType, text: &mut String) -> Result<(), Memory>
     ensures { OnOk result (string_bytes text.new ≡ string_bytes text.old
         ++ kind_text (kind_of_route kind)) }
@@ -184,7 +188,7 @@ fn put_type(kind: PathType, text: &mut String) -> Result<(), Memory>
     Ok(())
 }
 
-// The Area ID; a dash for an external route.
+// Appends the Area ID, or a dash for an external route.
 fn put_area(area: Option<u32>, text: &mut String) -> Result<(), Memory>
     ensures { OnOk result (string_bytes text.new ≡ string_bytes text.old ++ area_cell area) }
 {
@@ -198,7 +202,7 @@ fn put_area(area: Option<u32>, text: &mut String) -> Result<(), Memory>
     Ok(())
 }
 
-// The cost, and the metric of a type 2 external route.
+// Appends the cost, and the metric of a type 2 external route.
 fn put_costs(entry: &Entry, text: &mut String) -> Result<(), Memory>
     ensures { OnOk result (string_bytes text.new ≡ string_bytes text.old
         ++ costs_text entry.now.kind entry.now.cost entry.now.cost2) }
@@ -211,7 +215,7 @@ fn put_costs(entry: &Entry, text: &mut String) -> Result<(), Memory>
     Ok(())
 }
 
-// The paths, one line each.
+// Appends the paths, one line each.
 fn put_paths(paths: &[Path], text: &mut String) -> Result<(), Memory>
     ensures { OnOk result (string_bytes text.new ≡ string_bytes text.old ++ paths_text paths.now) }
 {

@@ -1,7 +1,8 @@
-//! What the page does where something is typed into its search box.
+//! The script of the search box.
 
-/// Shows the rows of the routing table that have the typed words. Where an IPv4 address is typed, it shows those whose
-/// network contains the address, the longest first, which is marked as the best. What is typed is compared only.
+/// A script that shows the rows of the routing table that have the typed words. If an IPv4 address
+/// is typed, it shows the rows of the networks that contain it, the longest first, which is marked
+/// as the best. The typed text is only compared.
 pub(crate) const SCRIPT: &str = "'use strict';
 const box = document.getElementById('search'), found = document.getElementById('found');
 const body = document.querySelector('#table tbody');

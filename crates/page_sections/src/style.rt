@@ -1,6 +1,6 @@
-//! How the page looks, in light and in dark.
+//! The style of the page, in light and in dark.
 
-/// The rules of the page, and of the classes that the pictures in it name.
+/// The style rules of the page, and of the classes that its pictures use.
 pub(crate) const STYLE: &str =
     ":root{color-scheme:light dark;--page:#fff;--text:#222;--quiet:#5c646b;--rule:#e1e4e7;--head:#f3f6f8;--best:#fff3bf;--tree:#2a6f97;--link:#bbb;--router:#fff;--net:#eef3f7;--edge:#7a8c99;--rim:#1b4965;--scale:#335;--axis:#e3e3e3}
 @media (prefers-color-scheme:dark){:root{--page:#14181c;--text:#e3e7ea;--quiet:#9ba6af;--rule:#2d353c;--head:#1d242a;--best:#4d4210;--tree:#5fb0de;--link:#737f88;--router:#14181c;--net:#27333d;--edge:#90a3b0;--rim:#b5dcf3;--scale:#b4bfe3;--axis:#2a3239}}

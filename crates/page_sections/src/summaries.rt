@@ -16,8 +16,11 @@ const HEAD: &str = "<table class=\"due\">
 <tbody>
 ";
 
-/// Appends the summary-LSAs that are due in each area (RFC 2328, 12.4.3). If memory runs out, the text may have a part of
-/// this.
+/// Appends the summary-LSAs that are due in each area (RFC 2328, 12.4.3).
+///
+/// # Errors
+///
+/// Returns `Memory` if memory runs out. The text may then have a part of this.
 pub fn put_summaries(areas: &[AreaSummaries], text: &mut String) -> Result<(), Memory>
     ensures { OnOk result (string_bytes text.new ≡ string_bytes text.old
         ++ summaries_text (listed areas.now)) }
@@ -27,7 +30,7 @@ pub fn put_summaries(areas: &[AreaSummaries], text: &mut String) -> Result<(), M
     Ok(())
 }
 
-// Each area, or that there is none.
+// Appends each area, or a note that no area is configured.
 fn put_areas(areas: &[AreaSummaries], text: &mut String) -> Result<(), Memory>
     ensures { OnOk result (string_bytes text.new ≡ string_bytes text.old
         ++ areas_text (listed areas.now)) }
@@ -39,7 +42,7 @@ fn put_areas(areas: &[AreaSummaries], text: &mut String) -> Result<(), Memory>
     put_each(areas, text)
 }
 
-// Each area.
+// Appends each area.
 fn put_each(areas: &[AreaSummaries], text: &mut String) -> Result<(), Memory>
     ensures { OnOk result (string_bytes text.new ≡ string_bytes text.old
         ++ flat_map listed_text areas.now) }
@@ -50,14 +53,14 @@ fn put_each(areas: &[AreaSummaries], text: &mut String) -> Result<(), Memory>
     Ok(())
 }
 
-// What is due in an area.
+// Appends the due summaries of an area.
 fn put_area(area: &AreaSummaries, text: &mut String) -> Result<(), Memory>
     ensures { OnOk result (string_bytes text.new ≡ string_bytes text.old ++ listed_text area.now) }
 {
     put_due(area.area(), area.as_slice(), text)
 }
 
-// What is due in the area with this Area ID.
+// Appends the due summaries of the area with this Area ID.
 fn put_due(area: u32, list: &[DueSummary], text: &mut String) -> Result<(), Memory>
     ensures { OnOk result (string_bytes text.new ≡ string_bytes text.old
         ++ due_text area list.now) }
@@ -68,7 +71,7 @@ fn put_due(area: u32, list: &[DueSummary], text: &mut String) -> Result<(), Memo
     Ok(())
 }
 
-// A table of the list, or that it is empty.
+// Appends a table of the list, or a note that it is empty.
 fn put_list(list: &[DueSummary], text: &mut String) -> Result<(), Memory>
     ensures { OnOk result (string_bytes text.new ≡ string_bytes text.old ++ list_text list.now) }
 {
@@ -79,7 +82,7 @@ fn put_list(list: &[DueSummary], text: &mut String) -> Result<(), Memory>
     put_table(list, text)
 }
 
-// A table of the list.
+// Appends a table of the list.
 fn put_table(list: &[DueSummary], text: &mut String) -> Result<(), Memory>
     ensures { OnOk result (string_bytes text.new ≡ string_bytes text.old ++ table_text list.now) }
 {
@@ -89,7 +92,7 @@ fn put_table(list: &[DueSummary], text: &mut String) -> Result<(), Memory>
     Ok(())
 }
 
-// A row for each summary.
+// Appends a row for each summary.
 fn put_rows(list: &[DueSummary], text: &mut String) -> Result<(), Memory>
     ensures { OnOk result (string_bytes text.new ≡ string_bytes text.old
         ++ flat_map row_text list.now) }
@@ -100,7 +103,7 @@ fn put_rows(list: &[DueSummary], text: &mut String) -> Result<(), Memory>
     Ok(())
 }
 
-// The LS type, the destination and the metric.
+// Appends a row with the LS type, the destination and the metric.
 fn put_row(due: &DueSummary, text: &mut String) -> Result<(), Memory>
     ensures { OnOk result (string_bytes text.new ≡ string_bytes text.old ++ row_text due.now) }
 {
@@ -111,7 +114,7 @@ fn put_row(due: &DueSummary, text: &mut String) -> Result<(), Memory>
     Ok(())
 }
 
-// A network, or the Router ID of an AS boundary router.
+// Appends a network, or the Router ID of an AS boundary router.
 fn put_dest(dest: &Dest, text: &mut String) -> Result<(), Memory>
     ensures { OnOk result (string_bytes text.new ≡ string_bytes text.old ++ dest_text dest.now) }
 {

@@ -1,5 +1,5 @@
-//! The choice of a route: offers at keys come one at a time, and the least key stays, with all that
-//! was offered at it (RFC 2328, 16.1 to 16.4).
+//! The choice between offers (RFC 2328, 16.1 to 16.4). Items are offered one by one, each at a key:
+//! the least key is chosen, with all items offered at it.
 ghost use Rattle.std.specs.Prelude.{◌≡◌, ◌<◌, ◌∷◌, [], None, OnOk, OnErr, IfOk};
 ghost use Rattle.std.specs.List.Sorted.{IsStrictlySortedBy};
 ghost use Rattle.ospf_types.specs.Hops.{path_cmp};
@@ -15,7 +15,7 @@ use std::cmp::{Ordering, Reverse};
 use std::default::MadeWith;
 use std::marker::Model;
 
-/// An order in which only equal values tie.
+/// An order in which only equal values compare as equal.
 pub trait ExactOrd: Ord {
     ghost use Rattle.std.specs.FinMap.{IsAntisymmetric};
 
@@ -45,8 +45,8 @@ impl ExactOrd for u32 {
     ghost exact = { exact_unsigned };
 }
 
-/// The key of an intra-area route: the lesser cost first, and at one cost the greater area
-/// (RFC 2328, 16.4).
+/// The key of an intra-area route: the lower cost comes first, and at equal costs the greater Area
+/// ID (RFC 2328, 16.4).
 #[derive(Clone, Copy, PartialEq, Eq, PartialOrd, Ord)]
 pub struct AreaCost {
     cost: u32,
@@ -74,6 +74,7 @@ impl ExactOrd for AreaCost {
 }
 
 impl AreaCost {
+    /// Creates the key for a cost, which is a sum of metrics, and an Area ID.
     pub fn new(cost: u32, area: u32) -> AreaCost
         requires { cost < most_cost }
         ensures { result ≡ (cost, area) }
@@ -84,7 +85,7 @@ impl AreaCost {
         }
     }
 
-    /// The cost, a metric.
+    /// Returns the cost.
     pub fn cost(self) -> u32
         ensures value { result ≡ self.0 }
         ensures bounded { result < most_cost }
@@ -92,7 +93,7 @@ impl AreaCost {
         self.cost
     }
 
-    /// The Area ID.
+    /// Returns the Area ID.
     pub fn area(self) -> u32
         ensures { result ≡ self.1 }
     {
@@ -100,14 +101,14 @@ impl AreaCost {
     }
 }
 
-/// The least key at which something was offered, with all that was offered at it: in order, each
-/// once. One item stands in the value; more take memory.
+/// The least key of all offers, with the items offered at it in ascending order. One item is stored
+/// in the value; more take memory.
 pub struct Choice<K, X> {
     key: K,
     items: SmallVec<X, 1>,
 }
 
-// proof: one call drops it, in place of a drop of each part wherever one is held.
+// proof: a value is dropped by one call, not part by part at each exit of a function.
 impl<K: Drop, X: Drop> Drop for Choice<K, X> {
     fn drop(self) {
         let Choice {
@@ -126,21 +127,21 @@ impl<K, X> Model for Choice<K, X> {
 }
 
 impl<K, X> Choice<K, X> {
-    /// The least key.
+    /// Returns the least key.
     pub fn key(&self) -> &K
         ensures { result.now ≡ self.now.key }
     {
         &self.key
     }
 
-    /// What was offered at the key.
+    /// Returns the items offered at the key.
     pub fn items(&self) -> &[X]
         ensures { result.now ≡ self.now.items }
     {
         self.items.as_slice()
     }
 
-    /// The key, and what was offered at it.
+    /// Returns the key and the items offered at it.
     pub fn into_parts(self) -> (K, SmallVec<X, 1>)
         ensures key { result.0 ≡ self.key }
         ensures items { result.1.items ≡ self.items }
@@ -151,7 +152,7 @@ impl<K, X> Choice<K, X> {
 }
 
 impl<K: ExactOrd + Drop, X: ExactOrd + Drop + MadeWith<Global>> Choice<K, X> {
-    // The choice of a first offer.
+    // Returns the choice after the first offer.
     fn of(alloc: Global, key: K, item: X) -> Result<Choice<K, X>, Memory>
         ensures { IfOk result (λ choice. choice ≡ record { key = key; items = item ∷ [] }) }
     {
@@ -160,8 +161,8 @@ impl<K: ExactOrd + Drop, X: ExactOrd + Drop + MadeWith<Global>> Choice<K, X> {
         Ok(Choice { key, items })
     }
 
-    // Takes one more offer: a lesser key is chosen, one more item at the key joins the others, and
-    // a greater key changes nothing.
+    // Adds an offer. A lower key replaces the choice, an equal key adds the item, and a greater key
+    // changes nothing.
     fn offer(&mut self, alloc: Global, key: K, item: X) -> Result<(), Memory>
         ensures lesser { OnOk result (K.cmp key self.old.key ≡ Ordering.Less → self.new ≡ record { key = key; items = item ∷ [] }) }
         ensures tied { OnOk result (K.cmp key self.old.key ≡ Ordering.Equal → (self.new.key ≡ self.old.key) × HasAlso self.old.items item self.new.items) }
@@ -183,7 +184,7 @@ impl<K: ExactOrd + Drop, X: ExactOrd + Drop + MadeWith<Global>> Choice<K, X> {
     }
 }
 
-// Puts the item in its place, unless it is there.
+// Inserts the item at its place in the order, unless the list has it.
 fn add_in_order<X: ExactOrd + Drop + MadeWith<Global>>(
     items: &mut SmallVec<X, 1>,
     item: X,
@@ -198,7 +199,7 @@ fn add_in_order<X: ExactOrd + Drop + MadeWith<Global>>(
     }
 }
 
-/// The best of the offers so far; none before the first.
+/// The best of the offers so far.
 #[derive(Drop)]
 pub struct Best<K, X> {
     alloc: Global,
@@ -215,7 +216,7 @@ impl<K, X> Model for Best<K, X> {
 }
 
 impl<K: ExactOrd + Drop, X: ExactOrd + Drop + MadeWith<Global>> Best<K, X> {
-    /// The best of no offers.
+    /// Creates the value for no offers.
     pub fn new(alloc: Global) -> Best<K, X>
         ensures { result ≡ None }
     {
@@ -225,7 +226,7 @@ impl<K: ExactOrd + Drop, X: ExactOrd + Drop + MadeWith<Global>> Best<K, X> {
         }
     }
 
-    /// Takes one more offer.
+    /// Adds an offer.
     pub fn offer(&mut self, key: K, item: X) -> Result<(), Memory>
         ensures ok { OnOk result (Takes K.cmp X.cmp (OnlyOffer key item) self.old self.new) }
         ensures err { OnErr result (self.new ≡ self.old) }
@@ -242,7 +243,7 @@ impl<K: ExactOrd + Drop, X: ExactOrd + Drop + MadeWith<Global>> Best<K, X> {
         }
     }
 
-    /// The choice, where something was offered.
+    /// Returns the choice, or `None` if there were no offers.
     pub fn into_choice(self) -> Option<Choice<K, X>>
         ensures { result ≡ self }
     {
@@ -250,7 +251,12 @@ impl<K: ExactOrd + Drop, X: ExactOrd + Drop + MadeWith<Global>> Best<K, X> {
     }
 }
 
-/// Offers a path over each of the next hops, all at one key: by the advertising router, if there is one.
+/// Offers a path over each of the next hops, all at the same key. `advertiser` is the border router
+/// that advertised the path, if any.
+///
+/// # Errors
+///
+/// Returns `Memory` if memory runs out. Some paths are then offered and others are not.
 pub fn offer_hops<K: ExactOrd + Copy + Drop>(
     best: &mut Best<K, Path>,
     key: K,
@@ -266,7 +272,7 @@ pub fn offer_hops<K: ExactOrd + Copy + Drop>(
     Ok(())
 }
 
-/// Offers a path over the next hop.
+/// Offers a path over the next hop, as `offer_hops` does.
 pub fn offer_hop<K: ExactOrd + Copy + Drop>(
     best: &mut Best<K, Path>,
     key: K,

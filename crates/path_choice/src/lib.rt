@@ -1,5 +1,5 @@
-//! The choice between paths: offers come one at a time, and the best of them stays. Beside it, what is kept of a border
-//! router or AS boundary router that is reached.
+//! The choice between paths (RFC 2328, 16.1 to 16.4): paths are offered one by one, and the best
+//! are kept. Area border routers and AS boundary routers that are reached are here too.
 #![tactic(auto)]
 
 mod choice;

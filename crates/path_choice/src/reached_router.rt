@@ -1,4 +1,4 @@
-//! Area border routers and AS boundary routers that are reached in an area (RFC 2328, 16.1).
+//! The area border routers and AS boundary routers that are reached in an area (RFC 2328, 16.1).
 ghost use Rattle.std.specs.Prelude.{◌≡◌, ◌↔◌, ◌<◌, ◌^◌, IfOk, IfSome, IsTrue, bit_and};
 ghost use Rattle.std.specs.List.Sorted.{IsStrictlySortedBy};
 ghost use Rattle.ospf_types.specs.Hops.{hop_cmp};
@@ -11,20 +11,20 @@ use result_map::Same;
 use std::alloc::Global;
 use std::marker::Model;
 
-// Bit B: an area border router (RFC 2328, A.4.2).
+// Bit B of a router-LSA: an area border router (RFC 2328, A.4.2).
 const BORDER: u8 = 1;
 
-// Bit E: an AS boundary router.
+// Bit E of a router-LSA: an AS boundary router (RFC 2328, A.4.2).
 const BOUNDARY: u8 = 2;
 
-/// A border router or AS boundary router that is reached: another router than the one that calculates.
+/// An area border router or AS boundary router that is reached, with its distance and next hops.
 pub struct ReachedRouter {
     flags: u8,
     distance: u32,
     hops: Vec<NextHop>,
 }
 
-// proof: one call drops it, in place of a drop of each part wherever one is held.
+// proof: a value is dropped by one call, not part by part at each exit of a function.
 impl Drop for ReachedRouter {
     fn drop(self) {
         let ReachedRouter {
@@ -47,21 +47,21 @@ impl Model for ReachedRouter {
 }
 
 impl ReachedRouter {
-    /// Whether it is an area border router (bit B of its router-LSA).
+    /// Returns true if it is an area border router (bit B of its router-LSA).
     pub fn is_abr(&self) -> bool
         ensures { IsTrue result ↔ (0 < bit_and self.now.flags B) }
     {
         self.flags & BORDER > 0
     }
 
-    /// Whether it is an AS boundary router (bit E of its router-LSA).
+    /// Returns true if it is an AS boundary router (bit E of its router-LSA).
     pub fn is_asbr(&self) -> bool
         ensures { IsTrue result ↔ (0 < bit_and self.now.flags E) }
     {
         self.flags & BOUNDARY > 0
     }
 
-    /// Its distance, a sum of metrics.
+    /// Returns its distance, a sum of metrics.
     pub fn distance(&self) -> u32
         ensures value { result ≡ self.now.distance }
         ensures bounded { self.now.distance < 2 ^ 30 }
@@ -69,14 +69,14 @@ impl ReachedRouter {
         self.distance
     }
 
-    /// Its next hops, ascending, each once.
+    /// Returns its next hops.
     pub fn hops(&self) -> &[NextHop]
         ensures { result.now ≡ self.now.hops }
     {
         self.hops.as_slice()
     }
 
-    // Whether bits and distance are equal.
+    // Returns true if the bits and the distance are equal.
     fn has_numbers_of(&self, other: &ReachedRouter) -> bool
         ensures { IsTrue result ↔ ((self.now.flags ≡ other.now.flags) × (self.now.distance ≡ other.now.distance)) }
     {
@@ -90,18 +90,22 @@ impl Same for ReachedRouter {
     }
 }
 
-/// Where a router is.
+/// A router as the tree of an area has it.
 #[derive(Clone, Copy)]
 pub struct RouterReach<'a> {
     /// The Router ID.
     pub router: u32,
-    /// Its distance, a sum of metrics; none where it is not reached.
+    /// The distance, a sum of metrics, or `None` if the router is not reached.
     pub distance: Option<u32>,
-    /// Its next hops, ascending, each once.
+    /// The next hops.
     pub hops: &'a [NextHop],
 }
 
-/// What is kept of a router, by the bits of its router-LSA, its distance and its next hops.
+/// Returns the router as a reached border router. `flags` are the bits of its router-LSA, if it has
+/// one.
+///
+/// Returns `None` for the root, for a router that is not reached, and for a router without bits B
+/// and E.
 pub fn keep(
     alloc: Global,
     root: u32,
@@ -126,7 +130,7 @@ pub fn keep(
     }))
 }
 
-/// Whether bit B or bit E is set.
+/// Returns true if bit B or bit E is set.
 pub fn is_abr_or_asbr(flags: u8) -> bool
     ensures { result ≡ is_abr_or_asbr flags }
 {

@@ -1,4 +1,4 @@
-//! Forwarders look up the published table, with no lock, no wait and no memory.
+//! Forwarders: readers of the published table that take no lock, never wait and allocate nothing.
 ghost use Rattle.std.specs.Prelude.{◌≡◌, ◌⊎◌, ◌+◌, length, Some, MatchResult};
 ghost use mathlib.Core.List.{IsPrefix};
 ghost use Rattle.left_right.specs.Sides.{view};
@@ -15,15 +15,18 @@ use crate::lookup_error::LookupError;
 use route_table::Match;
 use std::marker::Model;
 
-/// A reader of the published table. To a contract it is its engine's name, and the longest list of events
-/// that it saw or learned, which begins with each of them.
+/// A reader of the published routing table, used by one thread at a time.
+///
+/// A forwarder never goes back: each lookup uses a table at least as new as the newest one that it
+/// has seen, or has learned of by a token. Contracts see its engine's name, and the longest history
+/// of events that it knows.
 pub struct Forwarder {
     reader: TableReader,
     known: HistoryPrefix,
     base: OpeningBase,
 }
 
-// proof: one call drops it, in place of a drop of each part wherever one is held.
+// proof: a value is dropped by one call, not part by part at each exit of a function.
 impl Drop for Forwarder {
     fn drop(self) {
         let Forwarder {
@@ -47,8 +50,11 @@ impl Model for Forwarder {
     ghost invariant = { λ f. (known_to f.reader.place ≡ Some (record { book = f.known.book; base = f.base })) × IsLegal f.base f.known.list };
 }
 
-/// A forwarder that looks at the published table. While it lives, a publication may wait for it; one that
-/// is forgotten blocks the writer for good. It is not `Drop`: end it by `leave`.
+/// A forwarder's access to the published table, from `lookup` until `leave`. The table does not
+/// change in between.
+///
+/// The next publication waits until it ends. It is not `Drop`, so it has to be ended by `leave`.
+/// One that is never ended blocks the writer, and all threads that submit events, for ever.
 pub struct Seen {
     reading: TableReading,
     front: HistoryPrefix,
@@ -74,6 +80,7 @@ impl Model for Seen {
 }
 
 impl Forwarder {
+    /// Creates a forwarder that knows the given history.
     pub fn of(reader: TableReader, known: HistoryPrefix, base: OpeningBase) -> Forwarder
         requires named { view reader.place ≡ Some (record { book = known.book; base = base }) }
         requires legal { IsLegal base known.list }
@@ -89,7 +96,8 @@ impl Forwarder {
         }
     }
 
-    /// From now on it sees no less than the token's list. The token is one of its own engine.
+    /// Makes every later lookup use a table that contains the token's events. The token must come
+    /// from the same engine.
     pub fn learn(self, told: Told) -> Forwarder
         requires { told.name ≡ self.name }
         ensures name { result.name ≡ self.name }
@@ -111,7 +119,14 @@ impl Forwarder {
         }
     }
 
-    /// Looks an address (host order) up in the table that is published now.
+    /// Looks an address (in host order) up in the table that is published now. `Seen::found` is the
+    /// match.
+    ///
+    /// # Errors
+    ///
+    /// Returns the forwarder, unchanged, in a `LookupError`. It is `NoEntry` if the table could not
+    /// be entered. It is `Shorter` if the published table is older than the forwarder's history,
+    /// which does not happen (no clause says so).
     pub fn lookup(self, address: u32) -> Result<Seen, LookupError>
         ensures { MatchResult result (IsLookup self address) (IsLookupError self) }
     {
@@ -124,7 +139,7 @@ impl Forwarder {
             Ok(reading) => {
                 let front = reading.get().front.again();
                 if front.len() < known.len() {
-                    // What was told was published before, so this does not happen.
+                    // A token exists only for a published history, so this does not happen.
                     let told = Told::of(
                         front,
                         reading.get().base.again(),
@@ -155,7 +170,7 @@ impl Forwarder {
 }
 
 impl Seen {
-    /// The longest match of the address that was looked up (RFC 2328, 11.1).
+    /// Returns the longest match of the address that was looked up (RFC 2328, 11.1).
     pub fn found(&self) -> Match<'_>
         ensures found { IsMatch self.now.table.items self.now.address result }
         ensures right { IsTableFor self.now.name.base self.now.list self.now.table }
@@ -163,7 +178,7 @@ impl Seen {
         self.reading.get().table.lookup(self.address)
     }
 
-    /// The longest match of another address, in the same table.
+    /// Returns the longest match of another address (in host order), in the same table.
     pub fn find(&self, address: u32) -> Match<'_>
         ensures found { IsMatch self.now.table.items address result }
         ensures right { IsTableFor self.now.name.base self.now.list self.now.table }
@@ -171,7 +186,7 @@ impl Seen {
         self.reading.get().table.lookup(address)
     }
 
-    /// The serial of the table: the number of the last event that it follows.
+    /// Returns the serial of the table: that of the last event that it reflects.
     pub fn serial(&self) -> u64
         ensures value { result ≡ self.now.name.base.serial + length self.now.list }
         ensures table { result ≡ self.now.table.serial }
@@ -179,13 +194,13 @@ impl Seen {
         self.reading.get().table.serial()
     }
 
-    /// How many changes were made to the published table since the engine was opened. Events that change little publish few:
-    /// one for each network whose item differs, and one for the serial. For tests.
+    /// Returns the number of changes made to the published table since the engine was opened: for
+    /// each event, one for each network whose item changed and one for the serial. For tests.
     pub fn changes(&self) -> u64 {
         self.reading.get().changes
     }
 
-    /// Ends the look. What was seen is known from now on.
+    /// Ends the access, and returns the forwarder. Its later lookups use this table or a newer one.
     pub fn leave(self) -> Forwarder
         ensures { result ≡ record { name = self.name; known = self.list } }
     {

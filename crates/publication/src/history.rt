@@ -1,9 +1,11 @@
-//! The history of what was published, which only grows, and to which its one owner alone adds. It exists in the proofs alone: what is
-//! stored is its length.
+//! The history of an engine's events. It only grows, and only its one owner adds to it. It exists
+//! only in the proofs: the bytes stored for it are its length.
 //!
-//! The history is a part of a book's log. A page of the log is an event, written by a pen, and it names the pen that may write the next.
-//! The book keeps that the word of each pen that wrote is at home. A pen whose word is away has written nothing, so what its
-//! holder knows of its own pages is all that there is.
+//! The history is a part of a book's log. A page of the log is an event, written by a pen, and it
+//! names the pen that may write the next page.
+//!
+//! The rule of the book is that the word of each pen that wrote is at home. A pen whose word is
+//! away has written nothing, so its holder knows all of its own pages.
 ghost use Rattle.std.specs.Prelude.{◌≡◌, ◌<◌, ◌≤◌, ◌^◌, ◌++◌, ◌∷◌, ◌⊎◌, [], length};
 ghost use mathlib.Core.List.{IsPrefix};
 ghost use Rattle.logbook.specs.Pages.{may_write};
@@ -13,7 +15,8 @@ use event_state::Event;
 use logbook::{Gain, Offer, Opening, Pen, Plain, Play, Rule, Seen, Start, Word};
 use std::marker::Model;
 
-/// An event, with the key of the pen that wrote it and of the one that may write the next. No value of it is made.
+/// An event, with the key of the pen that wrote it, and of the pen that may write the next page. No
+/// value of this type is created.
 pub struct Page {
     pub event: Event,
     pub pen: u64,
@@ -41,7 +44,7 @@ impl Rule<Page, u64> for HistoryRule {
     ghost moves = { λ ask before after answer. Unit {0} };
 }
 
-/// A log of one entry, to which nothing is added: the key of an author's first pen.
+/// The rule of a log with one entry, the key of an author's first pen. Nothing is added to it.
 pub struct FirstPenRule;
 
 impl Rule<u64, u64> for FirstPenRule {
@@ -67,7 +70,7 @@ impl Opening<Pen, u64> for FirstPenRule {
     ghost log = { λ n pen. pen.nib.key ∷ [] };
 }
 
-/// Callers trade nothing.
+/// The exchange of a caller that trades nothing.
 pub struct NoTrade;
 
 impl Gain<Page, u64> for NoTrade {
@@ -85,7 +88,7 @@ impl Play<Page, u64> for AddsWord {
     ghost then = { Makes };
 }
 
-/// The step that looks at the log, and leaves it as it is.
+/// The step that reads the log, and does not change it.
 pub struct ReadsLog;
 
 impl Play<Page, u64> for ReadsLog {
@@ -94,7 +97,7 @@ impl Play<Page, u64> for ReadsLog {
     ghost then = { Looks };
 }
 
-/// These two steps write no page.
+/// The request of the steps that write no page: `AddsWord` and `ReadsLog`.
 pub struct WritesNoPage;
 
 impl Plain<u64, Page, u64> for WritesNoPage {
@@ -106,7 +109,7 @@ impl Plain<u64, Page, u64> for WritesNoPage {
     ghost state = { λ n. None };
 }
 
-/// What an author writes: an event, with its pen and the one that may write the next.
+/// The request of an author: an event, with its pen and the pen that may write the next page.
 #[derive(Drop)]
 pub struct NewPage<'a> {
     event: &'a Event,
@@ -137,14 +140,14 @@ type Head = Word<Page, u64, HistoryRule>;
 
 type FirstPen = Seen<u64, u64, FirstPenRule>;
 
-/// A beginning of a history, with its length.
+/// A prefix of a history, with its length.
 pub struct HistoryPrefix {
     count: u64,
     log: Log,
     first: FirstPen,
 }
 
-// proof: one call drops it, in place of a drop of each part wherever one is held.
+// proof: a value is dropped by one call, not part by part at each exit of a function.
 impl Drop for HistoryPrefix {
     fn drop(self) {
         let HistoryPrefix {
@@ -168,13 +171,14 @@ impl Model for HistoryPrefix {
 }
 
 impl HistoryPrefix {
+    /// Returns the number of events.
     pub fn len(&self) -> u64
         ensures { result ≡ length self.now.list }
     {
         self.count
     }
 
-    /// A copy.
+    /// Returns a copy.
     pub fn again(&self) -> HistoryPrefix
         ensures { result ≡ self.now }
     {
@@ -185,7 +189,7 @@ impl HistoryPrefix {
         }
     }
 
-    /// The longer of two, which the other begins.
+    /// Returns the longer of two prefixes of one history. The other one is a prefix of it.
     pub fn longer(&self, other: &HistoryPrefix) -> HistoryPrefix
         requires { other.now.book ≡ self.now.book }
         ensures one { (result ≡ self.now) ⊎ (result ≡ other.now) }
@@ -203,7 +207,7 @@ impl HistoryPrefix {
     }
 }
 
-/// The one who adds to a history, with all of it. The pen may write its next page.
+/// The owner of a history, with all of it. Its pen may write the next page.
 pub struct History {
     head: Head,
     pen: Pen,
@@ -212,7 +216,7 @@ pub struct History {
     first: FirstPen,
 }
 
-// proof: one call drops it, in place of a drop of each part wherever one is held.
+// proof: a value is dropped by one call, not part by part at each exit of a function.
 impl Drop for History {
     fn drop(self) {
         let History {
@@ -238,7 +242,7 @@ impl Model for History {
     ghost invariant = { λ a. (a.head ≡ head_of a.log.book) × (a.count ≡ length (line_of a.log.book a.first.log a.log.log).list) × IsHistory a.pen.book a.pen.nib a.log.book a.first.log a.log.log };
 }
 
-// A pen that wrote nothing, of a new word.
+// Returns a pen that has written nothing, with a new word.
 fn new_pen(head: &Head, log: &Log) -> Pen
     requires { head.now ≡ head_of log.now.book }
     ensures { (result.book ≡ log.now.book) × (result.nib.right ≡ may_write) }
@@ -254,7 +258,7 @@ fn new_pen(head: &Head, log: &Log) -> Pen
 }
 
 impl History {
-    /// Opens a new history.
+    /// Opens a new, empty history.
     pub fn open() -> History
         ensures { result.list ≡ [] }
     {
@@ -271,12 +275,14 @@ impl History {
         }
     }
 
+    /// Returns the number of events.
     pub fn len(&self) -> u64
         ensures { result ≡ length self.now.list }
     {
         self.count
     }
 
+    /// Returns the whole history as a prefix.
     pub fn front(&self) -> HistoryPrefix
         ensures { result ≡ self.now }
     {
@@ -287,13 +293,13 @@ impl History {
         }
     }
 
-    /// A beginning of the history is a beginning of what its one owner has.
+    /// Proves that a prefix of the history is a prefix of the events that its owner has.
     pub(crate) fn look(&mut self, front: &HistoryPrefix)
         requires { front.now.book ≡ self.old.book }
         ensures same { self.new ≡ self.old }
         ensures begun { IsPrefix front.now.list self.old.list }
     {
-        // proof: the pen has written nothing of this longer log.
+        // proof: the pen has written nothing in this longer log.
         self.log.learn(&front.log);
         let mut offer: Offer<Page, u64, HistoryRule, NoTrade> = self
             .log
@@ -302,7 +308,7 @@ impl History {
             .compare_exchange::<ReadsLog, NoTrade>(0, 0, &mut self.log, &mut offer, &mut self.pen);
     }
 
-    /// Adds an event.
+    /// Appends an event.
     pub fn add(&mut self, event: &Event)
         requires { length self.old.list < 2 ^ 62 }
         ensures { (self.new.book ≡ self.old.book)

@@ -1,5 +1,29 @@
-//! What an engine publishes: the routing table with the list of events that it is right for, and how
-//! forwarders look at it.
+//! Publication: an engine publishes its routing table with the history of events that the table
+//! reflects, and forwarders look addresses up in it.
+//!
+//! The published table exists twice, and the two copies share no memory:
+//!
+//! ```text
+//!  writer ── changes ──> the other copy
+//!                            │ publish: one step
+//!                            ▼
+//!  forwarders ─────────> the published copy: enter, look up, leave
+//! ```
+//!
+//! 1. The writer waits for readers that are still in the copy that is not published.
+//! 2. It repeats the changes of the last publication there, and makes the new ones.
+//! 3. It publishes that copy in one step. Forwarders that enter afterwards read it.
+//!
+//! A forwarder takes no lock, waits for nobody and allocates nothing.
+//!
+//! `publish_table_changes` makes one change for each network that changed: set, drop or discard.
+//! Its cost follows the changes. `show` clears the table and publishes all of it, so its result
+//! does not depend on updates that were pending.
+//!
+//! A token (`Told`) stands for a published history, of which only the length and the serial are
+//! stored. A forwarder keeps the longest history that it has seen or learned of. It never accepts a
+//! table with a shorter one. All of these histories are prefixes of one, which exists only in the
+//! proofs.
 #![tactic(auto)]
 
 mod forwarder;

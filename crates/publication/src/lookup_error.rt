@@ -1,20 +1,22 @@
-//! Why a look saw nothing.
+//! The reason why a lookup failed.
 ghost use Rattle.std.specs.Prelude.{◌≡◌};
 ghost use Rattle.publication.specs.LookupError.{forwarder_in};
 
 use crate::forwarder::Forwarder;
 use crate::token::Told;
 
-/// Why a look saw nothing. The forwarder comes back as it was.
+/// The reason why a lookup failed. It holds the forwarder, which is unchanged.
 #[derive(Drop)]
 pub enum LookupError {
-    /// There was no entry to the table.
+    /// The published table could not be entered.
     NoEntry(Forwarder),
-    /// The token is for the list of the table that was shown. The forwarder knows a longer one.
+    /// The published history is shorter than the history that the forwarder knows. The token is for
+    /// the published one.
     Shorter(Forwarder, Told),
 }
 
 impl LookupError {
+    /// Returns the forwarder.
     pub fn into_forwarder(self) -> Forwarder
         ensures { result ≡ forwarder_in self }
     {

@@ -1,11 +1,11 @@
-//! The base that an engine began with, for contracts alone.
+//! The base that an engine was opened with, for contracts only.
 ghost use Rattle.std.specs.Prelude.{◌≡◌};
 
 use event_state::Base;
 use logbook::{Opening, Rule, Seen, Start};
 use std::marker::Model;
 
-/// A history of one entry, to which nothing is added.
+/// The rule of a log with one entry, to which nothing is added.
 pub struct BaseRule;
 
 impl Rule<Base, u64> for BaseRule {
@@ -31,7 +31,7 @@ impl Opening<Base, Base> for BaseRule {
     ghost log = { λ n base. base ∷ [] };
 }
 
-/// It has no bytes, and can be copied.
+/// The base that an engine was opened with. It has no bytes, and can be copied.
 #[derive(Drop)]
 pub struct OpeningBase {
     seen: Seen<Base, u64, BaseRule>,
@@ -47,6 +47,7 @@ impl Model for OpeningBase {
 }
 
 impl OpeningBase {
+    /// Creates the value for this base.
     pub fn of(base: &Base) -> OpeningBase
         ensures { result ≡ base.now }
     {
@@ -54,7 +55,7 @@ impl OpeningBase {
         OpeningBase { seen }
     }
 
-    /// A copy.
+    /// Returns a copy.
     pub fn again(&self) -> OpeningBase
         ensures { result ≡ self.now }
     {

@@ -1,4 +1,4 @@
-//! What readers are shown: the table, and the list of events that it is right for.
+//! The published table, and the history that it reflects.
 ghost use Rattle.std.specs.Prelude.{◌≡◌, IfOk};
 ghost use Rattle.publication.specs.Updates.{shown_state_of};
 
@@ -11,13 +11,13 @@ use route_table::{Change, Table};
 use std::alloc::{AllocError, Global};
 use std::marker::Model;
 
-/// The name of an engine, for contracts alone.
+/// The name of an engine, for contracts only.
 pub struct EngineName {
     front: HistoryPrefix,
     base: OpeningBase,
 }
 
-// proof: one call drops it, in place of a drop of each part wherever one is held.
+// proof: a value is dropped by one call, not part by part at each exit of a function.
 impl Drop for EngineName {
     fn drop(self) {
         let EngineName {
@@ -36,6 +36,7 @@ impl Model for EngineName {
 }
 
 impl EngineName {
+    /// Returns the name of the engine with this history and base.
     pub fn of(front: &HistoryPrefix, base: &OpeningBase) -> EngineName
         ensures { result ≡ record { book = front.now.book; base = base.now } }
     {
@@ -46,16 +47,17 @@ impl EngineName {
     }
 }
 
-/// The list and the base have no bytes but the list's length.
+/// The table that readers see, with the history that it reflects and the base of the engine. Only
+/// the length of the history is stored.
 pub struct PublishedTable {
     pub table: Table,
     pub front: HistoryPrefix,
     pub base: OpeningBase,
-    /// How many changes were made to the table since the engine was opened.
+    /// The number of changes made to the table since the engine was opened.
     pub changes: u64,
 }
 
-// proof: one call drops it, in place of a drop of each part wherever one is held.
+// proof: a value is dropped by one call, not part by part at each exit of a function.
 impl Drop for PublishedTable {
     fn drop(self) {
         let PublishedTable {
@@ -68,7 +70,12 @@ impl Drop for PublishedTable {
 }
 
 impl PublishedTable {
-    /// A copy of the table, with the list that it is right for and the base that the engine began with.
+    /// Creates a copy of the table, with the history that it reflects and the base that the engine
+    /// was opened with.
+    ///
+    /// # Errors
+    ///
+    /// Returns `Memory` if memory runs out.
     pub fn of(
         alloc: Global,
         table: &Table,
@@ -103,13 +110,14 @@ fn copy_of(alloc: Global, table: &Table) -> Result<Table, Memory>
     Ok(copy)
 }
 
+/// A change of the published table, or of its history.
 #[derive(Drop)]
 pub enum Update {
     Change(Change),
     List(HistoryPrefix),
 }
 
-/// What the two copies have in common. No value of it is made.
+/// The state that the two copies have in common. No value of this type is created.
 pub struct PublishedState {
     pub table: Table,
     pub front: HistoryPrefix,

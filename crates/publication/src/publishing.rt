@@ -1,4 +1,5 @@
-//! What the writer does: it appends a whole table or what changed of it, and publishes that in one step.
+//! The writer's side of a publication: append the whole table or its changes, and publish them in
+//! one step.
 ghost use Rattle.std.specs.Prelude.{◌≡◌, ◌++◌, [], ◌∷◌, map, drop, fold, Some, IsTrue, MatchBool};
 ghost use Rattle.std.specs.FinMap.{get};
 ghost use mathlib.Core.List.{IsPrefix};
@@ -16,7 +17,7 @@ use route_table::{Change, Item, Table};
 use std::alloc::Global;
 use std::sync::Wait;
 
-// Appends the serial of a list, and the list.
+// Appends the serial of a history, and the history.
 fn append_end(writer: &mut TableWriter, serial: u64, front: &HistoryPrefix) -> bool
     ensures desk { writer.new.desk ≡ writer.old.desk }
     ensures pending { IsTrue result → AreAppended (ends serial front.now)
@@ -32,7 +33,7 @@ fn append_end(writer: &mut TableWriter, serial: u64, front: &HistoryPrefix) -> b
     writer.append(Update::List(front.again())).is_ok()
 }
 
-// Appends that the network has this item.
+// Appends the change that gives the network this item.
 fn append_item(writer: &mut TableWriter, alloc: Global, prefix: Prefix, item: &Item) -> bool
     ensures desk { writer.new.desk ≡ writer.old.desk }
     ensures pending { IsTrue result → AreAppended (gifts ((prefix, Some item.now) ∷ []))
@@ -45,7 +46,7 @@ fn append_item(writer: &mut TableWriter, alloc: Global, prefix: Prefix, item: &I
     }
 }
 
-// Appends each network's item.
+// Appends the item of each network.
 fn append_items(writer: &mut TableWriter, alloc: Global, table: &Table) -> bool
     ensures desk { writer.new.desk ≡ writer.old.desk }
     ensures pending { IsTrue result → AreAppended (gifts (all_of table.now.items))
@@ -60,7 +61,8 @@ fn append_items(writer: &mut TableWriter, alloc: Global, table: &Table) -> bool
     true
 }
 
-// Appends that the table is emptied and has these items, and the list that they are right for.
+// Appends the changes that clear the table and set all of its items, and the history that it
+// reflects.
 fn append_whole(
     writer: &mut TableWriter,
     alloc: Global,
@@ -78,7 +80,7 @@ fn append_whole(
     append_items(writer, alloc, table) && append_end(writer, table.serial(), front)
 }
 
-// Appends what the network has in the table, or that it has nothing.
+// Appends the item that the network has in the table, or its removal.
 fn append_network(writer: &mut TableWriter, prefix: Prefix, table: &Table) -> bool
     ensures desk { writer.new.desk ≡ writer.old.desk }
     ensures pending { IsTrue result → AreAppended
@@ -92,7 +94,7 @@ fn append_network(writer: &mut TableWriter, prefix: Prefix, table: &Table) -> bo
     }
 }
 
-// Appends what these networks have in the table.
+// Appends the items that these networks have in the table.
 fn append_networks(writer: &mut TableWriter, networks: &[Prefix], table: &Table) -> bool
     ensures desk { writer.new.desk ≡ writer.old.desk }
     ensures pending { IsTrue result → AreAppended (gifts (those_of table.now.items networks.now))
@@ -107,7 +109,7 @@ fn append_networks(writer: &mut TableWriter, networks: &[Prefix], table: &Table)
     true
 }
 
-// Appends one change for each of these networks, and the list that the table is right for.
+// Appends one change for each of these networks, and the history that the table reflects.
 fn append_changes(
     writer: &mut TableWriter,
     networks: &[Prefix],
@@ -122,7 +124,8 @@ fn append_changes(
     append_networks(writer, networks, table) && append_end(writer, table.serial(), front)
 }
 
-// Publishes what is pending. The answer is false where it was refused, and then readers see what they saw.
+// Publishes the pending updates. If it returns false, they were not published, and readers see the
+// same table as before.
 fn publish<R: Wait>(rt: &R, writer: TableWriter, front: &HistoryPrefix) -> (TableWriter, bool)
     requires history { front.now.book ≡ writer.desk.shown.value.front.book }
     requires appended { IsRightState front.now writer.desk.shown.value.base
@@ -140,8 +143,11 @@ fn publish<R: Wait>(rt: &R, writer: TableWriter, front: &HistoryPrefix) -> (Tabl
     (writer, done.is_ok())
 }
 
-/// Publishes a whole table, whatever is pending. It is right for all that the author of the history has. The answer is
-/// false where it was refused, and then readers see what they saw.
+/// Publishes the whole table, whatever updates are pending. The table must reflect the whole
+/// history.
+///
+/// Returns the writer, and true if the table was published. If it was not, readers see the same
+/// table as before.
 pub fn show<R: Wait>(
     rt: &R,
     alloc: Global,
@@ -169,7 +175,11 @@ pub fn show<R: Wait>(
     publish(rt, writer, &front)
 }
 
-/// Publishes what changed of the table: these networks, and no others. Nothing may be pending.
+/// Publishes the changes of the table: those of these networks, and no others. No updates may be
+/// pending, and the table must reflect the whole history.
+///
+/// Returns the writer, and true if the changes were published. If they were not, readers see the
+/// same table as before.
 pub fn publish_table_changes<R: Wait>(
     rt: &R,
     writer: TableWriter,

@@ -1,13 +1,15 @@
-//! The rule of what is published: it is right for its list, and each thread that was told a name was told that of its history.
+//! The rule of the published table: it is right for its history, and a thread that knows a name
+//! knows the name of this engine.
 use crate::published_table::{EngineName, PublishedTable, Update};
 use atomic_table::{Join, Split};
 use crossbeam_utils::rule::{Outcome, Protocol};
 use left_right::reader::{Reader, Reading};
 use left_right::writer::Writer;
 
-/// What a thread knows: the name, once it was told.
+/// The knowledge of a thread: the engine's name, once it has learned it.
 pub type View = Option<EngineName>;
 
+/// The protocol that the published table keeps.
 pub struct Published;
 
 impl Protocol<PublishedTable, View> for Published {
@@ -19,7 +21,7 @@ impl Protocol<PublishedTable, View> for Published {
     ghost first = { None };
 }
 
-/// The two steps, to publish and to enter.
+/// The step of a publication, and of a reader that enters.
 pub struct PublishStep;
 
 impl Outcome<PublishedTable, View> for PublishStep {
@@ -28,7 +30,7 @@ impl Outcome<PublishedTable, View> for PublishStep {
     ghost then = { Saw };
 }
 
-/// A reader is told what the writer knows.
+/// A reader learns the name that the writer knows.
 pub struct TellsName;
 
 impl Split<View> for TellsName {
@@ -45,8 +47,11 @@ impl Join<View> for TellsName {
     ghost spent = { None };
 }
 
+/// A reader of the published table.
 pub type TableReader = Reader<PublishedTable, View, Published>;
 
+/// The access of a reader that has entered the published table.
 pub type TableReading = Reading<PublishedTable, View, Published>;
 
+/// The writer of the published table.
 pub type TableWriter = Writer<PublishedTable, Update, View, Published>;

@@ -1,4 +1,4 @@
-//! What is told of an engine's history.
+//! Tokens of an engine's published history.
 ghost use Rattle.std.specs.Prelude.{◌≡◌, ◌+◌, length};
 ghost use Rattle.publication.specs.Published.{IsLegal};
 ghost use Rattle.publication.specs.Told.{TokenValue};
@@ -8,15 +8,16 @@ use crate::opening_base::OpeningBase;
 use std::fmt;
 use std::marker::Model;
 
-/// A token: this list of events was published by the engine of this name. Any thread may pass it on. It
-/// has no bytes but the list's length and its serial.
+/// A token: proof that the engine of this name published this history of events.
+///
+/// Any thread may pass it on. Only the length of the history and its serial are stored.
 pub struct Told {
     front: HistoryPrefix,
     base: OpeningBase,
     serial: u64,
 }
 
-// proof: one call drops it, in place of a drop of each part wherever one is held.
+// proof: a value is dropped by one call, not part by part at each exit of a function.
 impl Drop for Told {
     fn drop(self) {
         let Told {
@@ -39,7 +40,7 @@ impl Model for Told {
     ghost invariant = { λ t. IsLegal t.base t.front.list × (t.serial ≡ t.base.serial + length t.front.list) };
 }
 
-/// Its serial, as `Told(3)`.
+/// The token with its serial, such as `Told(3)`.
 impl fmt::Debug for Told {
     fn fmt<W: fmt::Write>(&self, f: &mut fmt::Formatter<W>) -> fmt::Result {
         let serial = self.serial();
@@ -48,6 +49,7 @@ impl fmt::Debug for Told {
 }
 
 impl Told {
+    /// Creates a token for the history.
     pub fn of(front: HistoryPrefix, base: OpeningBase, serial: u64) -> Told
         requires legal { IsLegal base front.list }
         requires serial { serial ≡ base.serial + length front.list }
@@ -63,7 +65,8 @@ impl Told {
         }
     }
 
-    /// The number of the last event of its list: the serial of the base, and one more for each event.
+    /// Returns the serial of the last event of the history: the base's serial plus the number of
+    /// events.
     pub fn serial(&self) -> u64
         ensures serial { result ≡ self.now.name.base.serial + length self.now.list }
         ensures legal { IsLegal self.now.name.base self.now.list }

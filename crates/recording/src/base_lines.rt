@@ -1,4 +1,4 @@
-//! The base that `has` lines say, one after the other.
+//! The interfaces and LSAs of the base, read from `has` lines one by one.
 ghost use Rattle.std.specs.Prelude.{◌≡◌, true, Ok, OnOk, IfOk, IfErr, is_none};
 ghost use Rattle.std.specs.List.{list_any};
 ghost use Rattle.hex.specs.Hex.{decode_of};
@@ -22,18 +22,19 @@ use ospf_types::lsa::AS_EXTERNAL_LSA;
 use std::alloc::Global;
 use std::cmp::Ordering;
 
-/// A base in work.
+/// A base that is being read.
 #[derive(Drop)]
 pub(crate) struct BaseLines {
+    /// The base so far.
     pub(crate) base: Base,
-    /// How many LSAs have the scope of the last one.
+    /// The number of LSAs in the scope of the last LSA.
     pub(crate) row: usize,
-    /// For the bytes of an LSA while it is read.
+    /// A buffer for the bytes of an LSA.
     pub(crate) room: Vec<u8>,
 }
 
 impl BaseLines {
-    /// Adds what a line says; `false` if it is no line of a base.
+    /// Adds the line to the base. Returns false if it is not a `has` line.
     pub(crate) fn add(&mut self, alloc: Global, form: &LineForm<'_>) -> Result<bool, Fault>
         requires digits { HasDigits form.now }
         requires counted { IsCounted self.old }
@@ -99,7 +100,8 @@ impl BaseLines {
         Ok(true)
     }
 
-    // How many LSAs of the scope there are; none if it is less than that of the last one.
+    // Returns the number of LSAs of the scope, or `None` if the scope comes before the scope of the
+    // last LSA.
     fn row_under(&self, scope: Scope) -> Option<usize>
         requires counted { IsCounted self.now }
         requires ordered { AreByPlaces self.now.base.lsas }
@@ -116,7 +118,8 @@ impl BaseLines {
     }
 }
 
-// Whether an interface may stand behind what there is: no LSA does, and no interface has this id or a greater one.
+// Returns true if an interface with this id may be next: no LSA was read yet, and the id is greater
+// than the last one.
 fn is_next_interface(base: &Base, id: u8) -> bool
     ensures { result ≡ is_next_interface base.now.lsas base.now.interfaces id }
 {
@@ -132,7 +135,7 @@ fn is_first(lsas: &[(Scope, Checked)]) -> bool
     }
 }
 
-// Whether an id is greater than that of the last interface.
+// Returns true if the id is greater than the id of the last interface.
 fn is_past_id(interfaces: &[(u8, Interface)], id: u8) -> bool
     ensures { result ≡ is_past_id (last_of interfaces.now) id }
 {
@@ -142,7 +145,7 @@ fn is_past_id(interfaces: &[(u8, Interface)], id: u8) -> bool
     }
 }
 
-// Whether an LSA may stand behind the last one.
+// Returns true if the LSA may come after the last one.
 fn is_past_place(lsas: &[(Scope, Checked)], scope: Scope, key: Key) -> bool
     ensures { result ≡ is_past_place (last_of lsas.now) (scope, key) }
 {
@@ -152,14 +155,14 @@ fn is_past_place(lsas: &[(Scope, Checked)], scope: Scope, key: Key) -> bool
     }
 }
 
-/// The order of LSAs: by scope, and then by key.
+/// Compares LSAs by scope, and then by key.
 pub(crate) fn compare_places(scope: Scope, key: Key, other: Scope, other_key: Key) -> Ordering
     ensures { result ≡ place_cmp (scope, key) (other, other_key) }
 {
     scope.compare(other).then(key.compare(other_key))
 }
 
-// Why no event could have made an interface beside these.
+// Returns the reason why no event could set this interface after the others.
 fn unfit_interface(
     areas: &[AreaConfig],
     interfaces: &[(u8, Interface)],
@@ -188,7 +191,7 @@ fn place_of(areas: &[AreaConfig], id: u32) -> Option<usize>
     areas.iter().position(|area| area.id == id)
 }
 
-// Whether one of the interfaces is up with the address of this one, which is up.
+// Returns true if the interface and one of the others are up and have the same address.
 fn shares_address(interfaces: &[(u8, Interface)], interface: Interface) -> bool
     ensures { result ≡ list_any (λ y. has_address interface y.1) interfaces.now }
 {
@@ -206,7 +209,7 @@ fn has_address(interface: Interface, other: Interface) -> bool
     other.up && interface.up && other.address == interface.address
 }
 
-// Why no event could have made an LSA of the LS type in a scope that has so many already.
+// Returns the reason why no event could install an LSA of this LS type in a scope with `row` LSAs.
 fn unfit_under(areas: &[AreaConfig], scope: Scope, kind: u8, row: usize) -> Option<EntryFault>
     ensures { result ≡ unfit_under areas.now scope kind row }
 {

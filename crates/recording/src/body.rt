@@ -1,4 +1,4 @@
-//! A line of what happened.
+//! The lines after the base.
 ghost use Rattle.std.specs.Prelude.{◌≡◌, ◌≤◌, length, IsTrue, OnOk, IfOk, IfErr};
 ghost use Rattle.hex.specs.Hex.{decode_of};
 ghost use Rattle.lsa_codec.specs.Spelling.{spelling};
@@ -18,7 +18,7 @@ use lsa_codec::{Checked, WireFault};
 use ospf_types::config::{Interface, Range};
 use std::alloc::Global;
 
-/// Adds what the line says. The room is for the bytes of its LSA.
+/// Reads a line, and appends it to the lines. `room` is a buffer for the bytes of its LSA.
 pub(crate) fn add_line(
     alloc: Global,
     version: Version,
@@ -38,8 +38,13 @@ pub(crate) fn add_line(
     }
 }
 
-/// What the line, without its line feed, says where it stands behind the base. The room is for the
-/// bytes of its LSA, and may be used again.
+/// Reads a line after the base, without its line feed. `room` is a buffer for the bytes of its LSA,
+/// and can be used again.
+///
+/// # Errors
+///
+/// Returns 52 Line if the line has no form of the version, and 53 Order if it belongs to the
+/// preamble. Returns 54 Wire if the bytes of its LSA are not valid, or 30 Memory.
 pub fn read_line(
     alloc: Global,
     version: Version,
@@ -71,7 +76,7 @@ pub fn read_line(
     }
 }
 
-// The line of an interface that comes or changes.
+// Returns the line of an event that sets an interface.
 fn interface_event(id: u8, interface: Interface) -> Line
     ensures { result ≡ line.Event (event.Interface id
         interface.area interface.address interface.peer interface.up) }
@@ -85,7 +90,7 @@ fn interface_event(id: u8, interface: Interface) -> Line
     })
 }
 
-// The line by which an area has a range.
+// Returns the line of an event that sets a range of an area.
 fn range_set(area: u32, range: Range) -> Line
     ensures { result ≡ line.Event (event.RangeSet area range.prefix range.advertise) }
 {
@@ -96,7 +101,7 @@ fn range_set(area: u32, range: Range) -> Line
     })
 }
 
-/// The LSA whose bytes the digits write. The room is for the bytes.
+/// Reads the LSA whose bytes are these hexadecimal digits. `room` is a buffer for the bytes.
 pub(crate) fn read_lsa(alloc: Global, digits: &[u8], room: &mut Vec<u8>) -> Result<Checked, Fault>
     requires { decode_of digits.now ≡ Ok (bytes_of digits.now) }
     ensures spelled { IfOk result (λ lsa. spelling lsa ≡ bytes_of digits.now) }
@@ -116,7 +121,8 @@ pub(crate) fn read_lsa(alloc: Global, digits: &[u8], room: &mut Vec<u8>) -> Resu
     }
 }
 
-// Makes room for so many bytes. It stays for the LSAs that follow.
+// Extends the buffer to `count` bytes if it is shorter, and returns false if memory runs out. It is
+// kept for the LSAs that follow.
 fn has_room(room: &mut Vec<u8>, count: usize) -> bool
     ensures { IsTrue result → count ≤ length room.new.items }
 {

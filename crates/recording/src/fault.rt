@@ -8,29 +8,30 @@ use ospf_types::memory::Memory;
 use std::fmt;
 use thiserror::Error;
 
-/// What is wrong with a line: the first of these, in this order, that holds.
+/// The fault of a line: the first of these, in this order, that holds.
 #[derive(Clone, Copy, Debug, PartialEq, Eq, Error)]
 pub enum Fault {
-    /// The line has no line feed, or it is one of the first and is missing: line 1 or 2, from version 2 on line 3, and in
-    /// version 3 line 4.
+    /// The line has no line feed; or the text ends before line 1 or 2, before line 3 from version 2
+    /// on, or before line 4 in version 3.
     Truncated,
-    /// The first line is none of `abr 1`, `abr 2` and `abr 3`.
+    /// The first line is neither `abr 1`, `abr 2` nor `abr 3`.
     Version,
-    /// The line has none of the forms of its version.
+    /// The line has no form of its version.
     Line,
-    /// The line may not stand there.
+    /// The line may not come after the lines before it.
     Order,
-    /// The bytes to install, or those of the base, are no LSA.
+    /// The bytes of an LSA, to be installed or of the base, are not valid.
     Wire(WireFault),
-    /// The header, of which the line is the last, says a configuration with a fault.
+    /// The configuration of the header has a fault. The line is the last line of the header.
     Config(ConfigFault),
-    /// No event could have made what this line and those before it say of the base.
+    /// No events could have led to the base that this line and the lines before it describe.
     Base(EntryFault),
     /// Memory ran out.
     Memory,
 }
 
-/// The number and the name, and behind them those of the fault that it has.
+/// The fault as a number and a name, followed by the number and name of the fault in it, if there
+/// is one.
 impl fmt::Display for Fault {
     ghost output = { λ fault. Some (fault_text fault) };
 
@@ -48,15 +49,16 @@ impl fmt::Display for Fault {
     }
 }
 
-/// Why bytes are no recording.
+/// The reason why bytes are not a valid recording.
 #[derive(Clone, Copy, Debug, PartialEq, Eq, Error)]
 pub struct LineFault {
-    /// The line, counted from 1.
+    /// The number of the line, counted from 1.
     pub line: usize,
+    /// The fault of the line.
     pub fault: Fault,
 }
 
-/// Prints, for example, `line 5: 54 Wire 2 Checksum`.
+/// The line and its fault, such as `line 5: 54 Wire 2 Checksum`.
 impl fmt::Display for LineFault {
     ghost output = { λ fault. Some (line_fault_text fault) };
 

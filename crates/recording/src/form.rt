@@ -1,4 +1,4 @@
-//! A line, read.
+//! The forms that a line can have.
 ghost use Rattle.std.specs.Prelude.{◌≡◌, ◌↔◌, ◌∷◌, Ok, codes, IsNone, IsTrue, IfSome};
 ghost use Rattle.hex.specs.Hex.{decode_of};
 ghost use Rattle.recording.specs.Forms.{Form, IsOfVersion, Says};
@@ -10,21 +10,21 @@ use ospf_types::config::{Interface, Range, Stub};
 use ospf_types::key::{Key, Scope};
 use ospf_types::prefix::Prefix;
 
-/// What a line says.
+/// A line that has been read.
 #[derive(Clone, Copy)]
 pub(crate) enum LineForm<'a> {
     Version(Version),
     Router(u32),
-    /// Whether RFC1583Compatibility is enabled.
+    /// True if RFC1583Compatibility is enabled.
     Compat(bool),
     Serial(u64),
     Area { id: u32, stub: Option<Stub> },
     Range { area: u32, range: Range },
     HasInterface { id: u8, interface: Interface },
-    /// The bytes are still hexadecimal digits.
+    /// An LSA of the base, whose bytes are still hexadecimal digits.
     HasLsa { scope: Scope, digits: &'a [u8] },
     Interface { id: u8, interface: Interface },
-    /// The bytes are still hexadecimal digits.
+    /// An LSA to install, whose bytes are still hexadecimal digits.
     Install { scope: Scope, digits: &'a [u8] },
     Flush { scope: Scope, key: Key },
     Purge { scope: Scope, key: Key },
@@ -35,7 +35,8 @@ pub(crate) enum LineForm<'a> {
     Roll,
 }
 
-/// What the line, without its line feed, says in a recording of the version; none if it has no form there.
+/// Reads a line, without its line feed, of a recording of this version. Returns `None` if the line
+/// has no form of the version.
 pub(crate) fn read_form(version: Version, line: &[u8]) -> Option<LineForm<'_>>
     ensures says { IfSome result (λ form. Says version line.now (said_by form)) }
     ensures digits { IfSome result HasDigits }
@@ -51,7 +52,7 @@ pub(crate) fn read_form(version: Version, line: &[u8]) -> Option<LineForm<'_>>
     }
 }
 
-// What the line says in a recording of any version.
+// Reads a line of a recording of any version.
 fn read_any_form(line: &[u8]) -> Option<LineForm<'_>>
     ensures { AreRead (cut line.now) result }
 {
@@ -60,8 +61,10 @@ fn read_any_form(line: &[u8]) -> Option<LineForm<'_>>
     read_behind(verb, &mut words)
 }
 
-// Whether there is the form in the version: its own first line, from version 2 on a `compat` line, and in version 3 the
-// serial, the lines of the base, ranges that change, and rolls.
+// Returns true if the version has the form.
+//
+// Each version has its own first line. From version 2 on there is a `compat` line. Only version 3
+// has a serial, the lines of the base, range events and rolls.
 fn is_of_version(version: Version, form: &LineForm<'_>) -> bool
     ensures { IsTrue result ↔ IsOfVersion version (said_by form.now) }
 {
@@ -78,7 +81,7 @@ fn is_of_version(version: Version, form: &LineForm<'_>) -> bool
     }
 }
 
-// What the verb and the words behind it say. Most lines are installs.
+// Reads the words after the verb. The most frequent verb, `install`, is compared first.
 fn read_behind<'a>(verb: &[u8], words: &mut Words<'a>) -> Option<LineForm<'a>>
     ensures { AreRead (verb.now ∷ words.old) result }
 {
@@ -190,7 +193,7 @@ fn install<'a>(words: &mut Words<'a>) -> Option<LineForm<'a>>
     })
 }
 
-// An interface or an LSA that is there before anything happens.
+// Reads an interface or an LSA of the base.
 fn has<'a>(words: &mut Words<'a>) -> Option<LineForm<'a>>
     ensures { AreRead (codes "has" ∷ words.old) result }
 {
@@ -277,7 +280,7 @@ fn roll<'a>(words: &mut Words<'a>) -> Option<LineForm<'a>>
     Some(LineForm::Roll)
 }
 
-// A range of an area, and no word behind it.
+// Reads a range with its area, and checks that no word is left.
 fn range_fields(words: &mut Words<'_>) -> Option<(u32, Range)>
     ensures { IsRangeRead words.old result }
 {
@@ -288,7 +291,7 @@ fn range_fields(words: &mut Words<'_>) -> Option<(u32, Range)>
     Some((area, Range { prefix, advertise }))
 }
 
-// An interface with its id, and no word behind it.
+// Reads an interface with its id, and checks that no word is left.
 fn interface_fields(words: &mut Words<'_>) -> Option<(u8, Interface)>
     ensures { IsInterfaceRead words.old result }
 {
@@ -297,7 +300,7 @@ fn interface_fields(words: &mut Words<'_>) -> Option<(u8, Interface)>
     Some(pair)
 }
 
-// The digits of an LSA for a database, and no word behind them.
+// Reads a scope and the digits of an LSA, and checks that no word is left.
 fn lsa_fields<'a>(words: &mut Words<'a>) -> Option<(Scope, &'a [u8])>
     ensures says { IsLsaRead words.old result }
     ensures digits { IfSome result (λ p. decode_of p.1.now ≡ Ok (bytes_of p.1.now)) }
@@ -307,7 +310,7 @@ fn lsa_fields<'a>(words: &mut Words<'a>) -> Option<(Scope, &'a [u8])>
     Some((scope, digits))
 }
 
-// Which LSA of which database.
+// Reads a scope and a key, and checks that no word is left.
 fn key_fields(words: &mut Words<'_>) -> Option<(Scope, Key)>
     ensures { IsKeyRead words.old result }
 {

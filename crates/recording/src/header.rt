@@ -1,4 +1,4 @@
-//! The configuration that the lines of a header say, one after the other, and the serial.
+//! The configuration and the serial, read from the lines of a header one by one.
 ghost use Rattle.std.specs.Prelude.{◌≡◌, ◌++◌, ◌∷◌, true, [], Some, OnOk, IfOk, IfErr};
 ghost use Rattle.recording.specs.Forms.{AreaLine, RangeLine};
 ghost use Rattle.recording.specs.Places.{is_of_header, last_of, is_past_area, is_past_range, is_next_range};
@@ -15,7 +15,7 @@ use std::alloc::Global;
 use std::cmp::Ordering;
 use std::marker::Model;
 
-/// What the first lines set.
+/// The values that the first lines set.
 #[derive(Clone, Copy)]
 pub(crate) struct Setting {
     pub(crate) router: u32,
@@ -23,15 +23,15 @@ pub(crate) struct Setting {
     pub(crate) serial: u64,
 }
 
-/// A base in work: its serial, and its configuration as far as it goes.
+/// A base that is being read: its serial, and its configuration so far.
 pub(crate) struct Header {
     setting: Setting,
-    // The areas before the last one. No line adds a range to them any more.
+    // The areas before the last one. Lines can add ranges only to the last area.
     areas: Areas,
     last: Option<AreaConfig>,
 }
 
-// proof: one call drops it, in place of a drop of each part wherever one is held.
+// proof: a value is dropped by one call, not part by part at each exit of a function.
 impl Drop for Header {
     fn drop(self) {
         let Header {
@@ -66,7 +66,7 @@ impl Header {
         }
     }
 
-    /// Adds what a line says; `false` if it is no line of a header.
+    /// Adds the line to the configuration. Returns false if it is not an area or range line.
     pub(crate) fn add(&mut self, alloc: Global, form: &LineForm<'_>) -> Result<bool, Fault>
         ensures header { IfOk result (λ added. added ≡ is_of_header (said_by form.now)) }
         ensures next { IfOk result (λ added. added ≡ true → IsNextIn self.old (said_by form.now)) }
@@ -113,7 +113,7 @@ impl Header {
         }
     }
 
-    /// The whole configuration and the serial: a base without interfaces and LSAs as yet.
+    /// Returns the base with the whole configuration and the serial, but no interfaces or LSAs yet.
     pub(crate) fn into_base(self, alloc: Global) -> Result<Base, Memory>
         ensures { IfOk result (λ base. base ≡ self) }
     {
@@ -140,7 +140,7 @@ impl Header {
     }
 }
 
-/// Adds an item at the end.
+/// Appends an item.
 pub(crate) fn add_to<T: Drop>(items: &mut Listed<T>, item: T) -> Result<(), Fault>
     ensures added { OnOk result (items.new ≡ items.old ++ item ∷ []) }
     ensures fault { IfErr result (λ f. f ≡ Fault.Memory) }
@@ -151,7 +151,7 @@ pub(crate) fn add_to<T: Drop>(items: &mut Listed<T>, item: T) -> Result<(), Faul
     }
 }
 
-// A range behind the others of the last area.
+// Appends a range to the ranges of the last area.
 fn add_range_to(last: &mut AreaConfig, area: u32, range: &Range) -> Result<bool, Fault>
     ensures header { IfOk result (λ added. added ≡ true) }
     ensures next { OnOk result (is_next_range (Some last.old) area range.now ≡ true) }
@@ -165,7 +165,7 @@ fn add_range_to(last: &mut AreaConfig, area: u32, range: &Range) -> Result<bool,
     Ok(true)
 }
 
-// Whether an Area ID is greater than that of the last area.
+// Returns true if the Area ID is greater than the Area ID of the last area.
 fn is_past_area(last: &Option<AreaConfig>, id: u32) -> bool
     ensures { result ≡ is_past_area last.now id }
 {
@@ -175,7 +175,7 @@ fn is_past_area(last: &Option<AreaConfig>, id: u32) -> bool
     }
 }
 
-// Whether a range is one more of the last area.
+// Returns true if the range may be the next range of the last area.
 fn is_next_range(last: &AreaConfig, area: u32, range: Range) -> bool
     ensures { result ≡ is_next_range (Some last.now) area range }
 {

@@ -1,11 +1,11 @@
 use event_state::Event;
 
-/// A line of what happened, behind the base.
+/// A line after the base: an event, a lookup or a roll.
 #[derive(Debug, Drop)]
 pub enum Line {
     Event(Event),
-    /// The address, in host order, is looked up.
+    /// A lookup of the address, in host order.
     Lookup(u32),
-    /// The present state becomes the base, and the journal is empty from then on.
+    /// A roll: the present state becomes the base, and the journal is emptied.
     Roll,
 }

@@ -1,4 +1,4 @@
-//! A recording from its text.
+//! A recording read from its text.
 ghost use Rattle.std.specs.Prelude.{◌≡◌, ◌≢◌, ◌≤◌, ◌+◌, [], ◌∷◌, IsNone, IfSome, OnOk, IfOk, IfErr};
 ghost use Rattle.recording.specs.Recordings.{RecordingValue, IsReadAs, IsText};
 ghost use Rattle.recording.specs.Faults.{IsFaultOf, IsNoVersion};
@@ -20,12 +20,16 @@ use event_state::Base;
 use ospf_types::memory::Memory;
 use std::alloc::Global;
 
-/// The recording of which the bytes are the text; or the first line that has a fault, with the first
-/// of its faults.
+/// Reads the text of a recording.
+///
+/// # Errors
+///
+/// Returns the number of the first line with a fault, and the first fault of that line. If memory
+/// runs out, that is 30 Memory, at the line that was being read.
 pub fn parse(alloc: Global, bytes: &[u8]) -> Result<Recording, LineFault>
     ensures text { IfOk result (IsText bytes.now) }
     ensures fault { IfErr result (IsFaultOf bytes.now) }
-    // Bytes that are the text of a recording are read as it, unless memory runs out.
+    // A text of a recording is read as that recording, unless memory runs out.
     ensures only { (r : RecordingValue) → IsText bytes.now r → IsReadAs r result }
 {
     parse_text(alloc, bytes)
@@ -49,7 +53,7 @@ fn parse_text(alloc: Global, text: &[u8]) -> Result<Recording, LineFault>
     read_lines(alloc, version, base, lines)
 }
 
-// The version, which the first line says, and what is left behind it.
+// Reads the version in the first line, and returns the lines after it too.
 fn read_version(text: &[u8]) -> Result<(Version, Lines<'_>), LineFault>
     ensures read { IfOk result (λ found. HasReadAt found.0 found.1 (VersionLine found.0 ∷ [])) }
     ensures text { IfOk result (λ found. found.1.text.now ≡ text.now) }
@@ -65,7 +69,7 @@ fn read_version(text: &[u8]) -> Result<(Version, Lines<'_>), LineFault>
     }
 }
 
-// The version of which this is the first line.
+// Returns the version whose first line this is.
 fn version_in(line: &[u8]) -> Option<Version>
     ensures some { IfSome result (λ version. line.now ≡ line_text (VersionLine version)) }
     ensures none { IsNone result → IsNoVersion line.now }
@@ -81,7 +85,7 @@ fn version_in(line: &[u8]) -> Option<Version>
     }
 }
 
-// The Router ID, which the second line says, and what is left behind it.
+// Reads the Router ID in the second line, and returns the lines after it too.
 fn read_router(version: Version, lines: Lines<'_>) -> Result<(u32, Lines<'_>), LineFault>
     requires { HasReadAt version lines (VersionLine version ∷ []) }
     ensures read { IfOk result (λ found. HasRouterAt version found.1 found.0) }
@@ -100,7 +104,7 @@ fn read_router(version: Version, lines: Lines<'_>) -> Result<(u32, Lines<'_>), L
     }
 }
 
-// What the first lines set, and what is left behind them.
+// Reads the values that the first lines set, and returns the lines after them too.
 fn read_setting(
     version: Version,
     router: u32,
@@ -126,7 +130,7 @@ fn read_setting(
     }
 }
 
-// From version 2 on the third line says whether RFC1583Compatibility is enabled.
+// Reads the third line: from version 2 on it says if RFC1583Compatibility is enabled.
 fn read_compat(
     version: Version,
     setting: Setting,
@@ -151,7 +155,7 @@ fn read_compat(
     }
 }
 
-// In version 3 the fourth line says the serial.
+// Reads the fourth line: in version 3 it says the serial.
 fn read_serial(setting: Setting, lines: Lines<'_>) -> Result<(Setting, Lines<'_>), LineFault>
     requires { HasCompatAt version_value.Three lines setting }
     ensures read { IfOk result (λ found. HasSettingAt version_value.Three found.1 found.0) }
@@ -170,7 +174,8 @@ fn read_serial(setting: Setting, lines: Lines<'_>) -> Result<(Setting, Lines<'_>
     }
 }
 
-// The base, with the areas and ranges that the lines of the header say, and what is left behind it.
+// Reads the areas and ranges of the header. Returns the base so far, and the lines after the
+// header.
 fn read_areas(
     alloc: Global,
     version: Version,
@@ -197,7 +202,7 @@ fn read_areas(
     }
 }
 
-// One more line of the header, and what is left behind it; none if the header ends.
+// Reads one more line of the header, and returns the lines after it, or `None` if the header ends.
 fn read_header_line<'a>(
     alloc: Global,
     version: Version,
@@ -226,7 +231,7 @@ fn read_header_line<'a>(
     }
 }
 
-// The base, with the interfaces and LSAs that `has` lines say, and what is left behind them.
+// Reads the `has` lines. Returns the base with their interfaces and LSAs, and the lines after them.
 fn read_base(
     alloc: Global,
     version: Version,
@@ -252,7 +257,7 @@ fn read_base(
     Ok((held.base, left))
 }
 
-// One more line of the base, and what is left behind it; none if the base ends.
+// Reads one more line of the base, and returns the lines after it, or `None` if the base ends.
 fn read_base_line<'a>(
     alloc: Global,
     version: Version,
@@ -282,7 +287,7 @@ fn read_base_line<'a>(
     }
 }
 
-// The recording of the base and of the lines that are left.
+// Reads the lines after the base, and returns the recording.
 fn read_lines(
     alloc: Global,
     version: Version,

@@ -1,4 +1,4 @@
-//! The lines at the front of a recording: the first lines, and those of the header and of the base.
+//! The preamble of a recording: the first lines, the header's areas and ranges, and the base.
 ghost use Rattle.std.specs.Prelude.{◌≡◌};
 ghost use Rattle.recording.specs.Forms.{Form, Says};
 ghost use Rattle.recording.specs.Places.{is_preamble_line, is_front_word};
@@ -7,8 +7,8 @@ ghost use Rattle.recording.specs.declared.version.Version.{Version};
 
 use crate::words::{Words, is};
 
-/// Whether the line may be one of the front: it begins with the word of one of the first lines, of an
-/// area or range of the header, or of the base.
+/// Returns true if the line may belong to the preamble: its first word is one with which lines of
+/// the preamble begin.
 pub fn is_preamble_line(line: &[u8]) -> bool
     ensures exact { result ≡ is_front_word (first_word (cut line.now)) }
     ensures said { (v : Version) (form : Form) → Says v line.now form → result ≡ is_preamble_line form }

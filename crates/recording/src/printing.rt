@@ -19,11 +19,15 @@ use ospf_types::prefix::Prefix;
 use std::alloc::Global;
 use std::fmt;
 
-/// Appends the one text of the recording.
+/// Appends the text of the recording. A recording has one text.
+///
+/// # Errors
+///
+/// Returns `Memory` if memory runs out. `out` is then unchanged.
 pub fn print(alloc: Global, recording: &Recording, out: &mut Vec<u8>) -> Result<(), Memory>
     ensures ok { OnOk result (out.new.items ≡ out.old.items ++ text_of recording.now) }
     ensures err { OnErr result (out.new.items ≡ out.old.items) }
-    // What is appended is the text of the recording, so that it is read as it.
+    // `parse` reads this text as the same recording.
     ensures text { OnOk result (IsText (text_of recording.now) recording.now) }
 {
     let start = out.len();
@@ -34,7 +38,7 @@ pub fn print(alloc: Global, recording: &Recording, out: &mut Vec<u8>) -> Result<
     appended
 }
 
-// Appends all lines. If memory runs out, those before that line stay.
+// Appends all lines. If memory runs out, the lines before that one stay.
 fn append_lines(alloc: Global, recording: &Recording, out: &mut Vec<u8>) -> Result<(), Memory>
     ensures ok { OnOk result (out.new.items ≡ out.old.items ++ text_of recording.now) }
     ensures kept { take (vec_len out.old) out.new.items ≡ out.old.items }
@@ -51,7 +55,12 @@ fn append_lines(alloc: Global, recording: &Recording, out: &mut Vec<u8>) -> Resu
     Ok(())
 }
 
-/// Appends the lines of a base: the header, and a `has` line for each interface and each LSA.
+/// Appends the preamble of a recording: the header, and a `has` line for each interface and LSA of
+/// the base.
+///
+/// # Errors
+///
+/// Returns `Memory` if memory runs out. Some lines may have been appended then.
 pub fn append_preamble(
     alloc: Global,
     version: Version,
@@ -68,7 +77,7 @@ pub fn append_preamble(
     Ok(())
 }
 
-// The first lines, and the areas with their ranges.
+// Appends the header: the first lines, and the areas with their ranges.
 fn append_header(version: Version, base: &Base, out: &mut String) -> Result<(), Memory>
     ensures text { OnOk result (GainsLines out.old out.new (header_forms version base.now)) }
     ensures forms { OnOk result (All IsForm (header_forms version base.now)) }
@@ -133,7 +142,7 @@ fn append_has_lsa(
     Ok(())
 }
 
-// The lines that come first, each in its place.
+// Appends the first lines of the version.
 fn append_first(version: Version, base: &Base, out: &mut String) -> Result<(), Memory>
     ensures text { OnOk result (GainsLines out.old out.new (first_forms version base.now)) }
     ensures forms { OnOk result (All IsForm (first_forms version base.now)) }
@@ -187,7 +196,7 @@ fn enabled_word(compat: bool) -> &'static str
     if compat { "enabled" } else { "disabled" }
 }
 
-// The line of an area, and those of its ranges.
+// Appends the line of an area, and the lines of its ranges.
 fn append_area(area: &AreaConfig, out: &mut String) -> Result<(), Memory>
     ensures text { OnOk result (GainsLines out.old out.new (area_forms area.now)) }
     ensures forms { OnOk result (All IsForm (area_forms area.now)) }
@@ -223,6 +232,10 @@ fn advertise_word(advertise: bool) -> &'static str
 }
 
 /// Appends the line of an event.
+///
+/// # Errors
+///
+/// Returns `Memory` if memory runs out. A part of the line may have been appended then.
 pub fn append_event(alloc: Global, event: &Event, out: &mut String) -> Result<(), Memory>
     ensures text { OnOk result (GainsLine out.old out.new (event_form event.now)) }
     ensures form { OnOk result (HasKind (line.Event event.now) → IsForm (event_form event.now)) }
@@ -257,7 +270,7 @@ pub fn append_event(alloc: Global, event: &Event, out: &mut String) -> Result<()
     }
 }
 
-// The line of what happened, or of a look-up.
+// Appends a line after the base.
 pub(crate) fn append_line(alloc: Global, line: &Line, out: &mut String) -> Result<(), Memory>
     ensures text { OnOk result (GainsLine out.old out.new (form_of line.now)) }
     ensures form { OnOk result (HasKind line.now → IsForm (form_of line.now)) }
@@ -350,7 +363,7 @@ fn append_lookup(address: u32, out: &mut String) -> Result<(), Memory>
     Ok(())
 }
 
-// Whether an area is a stub area, and what it is sent then.
+// An area's type: `normal`, or `stub` with its default cost and the summaries advertised into it.
 #[derive(Clone, Copy)]
 struct StubField(Option<Stub>);
 
@@ -368,7 +381,7 @@ impl fmt::Display for StubField {
     }
 }
 
-// The Area ID of a database, or `as`.
+// A scope: the Area ID, or `as`.
 #[derive(Clone, Copy)]
 struct ScopeField(Scope);
 
@@ -383,7 +396,7 @@ impl fmt::Display for ScopeField {
     }
 }
 
-// LS type, Link State ID and Advertising Router.
+// A key: LS type, Link State ID and Advertising Router.
 #[derive(Clone, Copy)]
 struct KeyField(Key);
 

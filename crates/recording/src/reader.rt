@@ -1,15 +1,16 @@
-//! The lines of a text, one after the other.
+//! The lines of a text, one by one.
 ghost use Rattle.std.specs.Prelude.{◌≡◌, ◌≢◌, ◌≤◌, ◌+◌, [], ◌∷◌, length, IfSome, IsNone, OnOk, OnErr, IfErr};
 
 use crate::fault::{Fault, LineFault};
 use memchr::memchr;
 
-/// A text, and how many of its lines were taken.
+/// A text, and the number of its lines that were read.
 #[derive(Clone, Copy)]
 pub(crate) struct Lines<'a> {
     pub(crate) text: &'a [u8],
-    /// Where the next line begins.
+    /// The index at which the next line begins.
     pub(crate) start: usize,
+    /// The number of lines that were read.
     pub(crate) taken: usize,
     ghost inside: { start ≤ length text.now },
     ghost counted: { taken ≤ start },
@@ -31,7 +32,8 @@ impl<'a> Lines<'a> {
         }
     }
 
-    /// The next line, without its line feed, and what is left behind it; none if no line feed is left.
+    /// Returns the next line, without its line feed, and the lines after it, or `None` if no line
+    /// feed is left.
     pub(crate) fn next(self) -> Option<(&'a [u8], Lines<'a>)>
         ensures line { IfSome result (λ found. IsNextLine self.entry found.0.now found.1) }
         ensures text { IfSome result (λ found. found.1.text.now ≡ self.entry.text.now) }
@@ -49,7 +51,7 @@ impl<'a> Lines<'a> {
         Some((&left[..end], after))
     }
 
-    /// Whether all is taken. If not, a line without its line feed is left.
+    /// Checks that no bytes are left. Otherwise the last line has no line feed.
     pub(crate) fn end(self) -> Result<(), LineFault>
         ensures ok { OnOk result (left_in self.entry ≡ []) }
         ensures cut { OnErr result (left_in self.entry ≢ []) }
@@ -62,7 +64,7 @@ impl<'a> Lines<'a> {
         }
     }
 
-    /// A fault of the next line.
+    /// Returns a fault of the next line.
     pub(crate) fn fault(self, fault: Fault) -> LineFault
         ensures { result ≡ fault_at self.entry fault }
     {

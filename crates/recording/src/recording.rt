@@ -18,10 +18,14 @@ use ospf_types::key::Scope;
 use ospf_types::lsa::{AS_EXTERNAL_LSA, ROUTER_LSA};
 use std::marker::Model;
 
-/// The base of a router, and what happened then. The base has no fault; its areas ascend by Area ID, the ranges of an area by
-/// address and length, interfaces by id, and LSAs by scope and key; and the LS type in a key is one of the five. In version 1
-/// RFC1583Compatibility is disabled. Only in version 3 are there a serial other than 0, interfaces and LSAs in the base, events
-/// that change ranges, and rolls.
+/// The base of a router, and the events, lookups and rolls after it.
+///
+/// The base has no fault, and it is in order: areas by Area ID, the ranges of an area by address
+/// and length, interfaces by id, and LSAs by scope and key. The LS type in each key is one of 1 to
+/// 5.
+///
+/// In version 1, RFC1583Compatibility is disabled. Only version 3 has a serial other than 0,
+/// interfaces and LSAs in the base, range events and rolls.
 #[derive(Debug)]
 pub struct Recording {
     version: Version,
@@ -29,7 +33,7 @@ pub struct Recording {
     lines: Vec<Line>,
 }
 
-// proof: one call drops it, in place of a drop of each part wherever one is held.
+// proof: a value is dropped by one call, not part by part at each exit of a function.
 impl Drop for Recording {
     fn drop(self) {
         let Recording {
@@ -51,10 +55,11 @@ impl Model for Recording {
 }
 
 impl Recording {
-    /// The recording, in this version of the format, of a base and of what happened then. `None` if the base has a fault or
-    /// is not in order, an LS type in a key is none of the five, the version is 1 and RFC1583Compatibility is enabled, or it is
-    /// 1 or 2 and there is what only version 3 spells: a serial other than 0, an interface or an LSA in the base, an event that
-    /// changes a range, or a roll.
+    /// Creates a recording of this version from a base and the lines after it.
+    ///
+    /// Returns `None` if a rule of `Recording` does not hold: the base has a fault or is not in
+    /// order, or the LS type in a key is not one of 1 to 5. The same holds if the version is 1 and
+    /// RFC1583Compatibility is enabled, or if something needs version 3 and the version is 1 or 2.
     pub fn of(version: Version, base: Base, lines: Vec<Line>) -> Option<Recording>
         ensures some { IfSome result (λ r. r ≡ recording_of version base lines.items) }
         ensures kept { IfSome result IsRecording }
@@ -75,7 +80,7 @@ impl Recording {
         })
     }
 
-    // The recording of parts that the caller has tested.
+    // Creates a recording from parts that the caller has checked.
     pub(crate) fn of_tested(version: Version, base: Base, lines: Vec<Line>) -> Recording
         requires { IsRecording (recording_of version base lines.items) }
         ensures { result ≡ recording_of version base lines.items }
@@ -87,7 +92,7 @@ impl Recording {
         }
     }
 
-    /// The version of the format.
+    /// Returns the version of the format.
     pub fn version(&self) -> Version
         ensures value { result ≡ self.now.version }
         ensures kept { IsRecording self.now }
@@ -95,7 +100,7 @@ impl Recording {
         self.version
     }
 
-    /// What there was before anything happened.
+    /// Returns the base: the state before the first line.
     pub fn base(&self) -> &Base
         ensures value { result.now ≡ self.now.base }
         ensures kept { IsRecording self.now }
@@ -103,7 +108,7 @@ impl Recording {
         &self.base
     }
 
-    /// The configuration of the base.
+    /// Returns the configuration of the base.
     pub fn config(&self) -> &Config
         ensures value { result.now ≡ self.now.base.config }
         ensures kept { IsRecording self.now }
@@ -111,7 +116,7 @@ impl Recording {
         &self.base.config
     }
 
-    /// What happened, in order.
+    /// Returns the lines after the base, in order.
     pub fn lines(&self) -> &[Line]
         ensures value { result.now ≡ self.now.lines }
         ensures kept { IsRecording self.now }
@@ -119,7 +124,7 @@ impl Recording {
         self.lines.as_slice()
     }
 
-    /// The version of the format, the base, and what happened.
+    /// Returns the version, the base, and the lines after it.
     pub fn into_parts(self) -> (Version, Base, Vec<Line>)
         ensures version { result.0 ≡ self.version }
         ensures base { result.1 ≡ self.base }
@@ -135,7 +140,7 @@ impl Recording {
     }
 }
 
-// Whether the version has lines for all of the base.
+// Returns true if the version has lines for all of the base.
 fn can_spell(version: Version, base: &Base) -> bool
     ensures { IsTrue result ↔ CanSpell version base.now }
 {
@@ -146,14 +151,15 @@ fn can_spell(version: Version, base: &Base) -> bool
     }
 }
 
-// Whether the base is a configuration only.
+// Returns true if the base is a configuration only.
 fn has_config_only(base: &Base) -> bool
     ensures { IsTrue result ↔ HasConfigOnly base.now }
 {
     base.serial == 0 && base.interfaces.is_empty() && base.lsas.is_empty()
 }
 
-// Whether areas ascend by Area ID, the ranges of each by address and length, interfaces by id, and LSAs by scope and key.
+// Returns true if the base is in order: areas by Area ID, the ranges of each area by address and
+// length, interfaces by id, and LSAs by scope and key.
 fn has_order(base: &Base) -> bool
     ensures { IsTrue result ↔ IsBaseOrdered base.now }
 {
@@ -162,7 +168,7 @@ fn has_order(base: &Base) -> bool
         && lsas_ascend(base.lsas.as_slice())
 }
 
-// Whether a base in order has no fault.
+// Returns true if the base, which is in order, has no fault.
 fn is_sound(base: &Base) -> bool
     requires { IsBaseOrdered base.now }
     ensures { IsTrue result ↔ (base_fault_of standard_limits base.now ≡ None) }
@@ -214,7 +220,7 @@ fn ranges_ascend(ranges: &[Range]) -> bool
     ranges.is_sorted_by(|a, b| a.prefix.compare(b.prefix).is_lt())
 }
 
-// Whether the LS type in each key is one of the five.
+// Returns true if the LS type in each key is one of 1 to 5.
 fn has_kinds(lines: &[Line]) -> bool
     ensures { IsTrue result ↔ All HasKind lines.now }
 {
@@ -231,7 +237,7 @@ fn has_kind(line: &Line) -> bool
     }
 }
 
-// Whether the version has each of the lines.
+// Returns true if the version has each of the lines.
 fn are_lines_in(version: Version, lines: &[Line]) -> bool
     ensures { IsTrue result ↔ All (IsLineIn version) lines.now }
 {

@@ -1,4 +1,4 @@
-//! The words of a line, and what they spell.
+//! The words of a line, and the values that they spell.
 ghost use Rattle.std.specs.Prelude.{◌≡◌, ◌≢◌, ◌≤◌, ◌↔◌, [], MatchOption, IsTrue, All, decimal};
 ghost use Rattle.ospf_types.specs.Text.{address_text, prefix_text};
 ghost use Rattle.recording.specs.Forms.{IsAddress, IsKey, IsPrefix, IsScope, IsSerial, IsStub, key_words, scope_text, stub_words, version_word};
@@ -12,8 +12,8 @@ use ospf_types::prefix::Prefix;
 use std::marker::Model;
 use std::net::Ipv4Addr;
 
-/// The words of a line that are left. There is one space between each two, so that two spaces have an
-/// empty word between them.
+/// The words of a line that are left. They are separated by one space each, so there is an empty
+/// word between two spaces.
 #[derive(Drop)]
 pub(crate) struct Words<'a> {
     left: Option<&'a [u8]>,
@@ -29,12 +29,14 @@ impl<'a> Model for Words<'a> {
 }
 
 impl<'a> Words<'a> {
+    /// Creates the words of a line.
     pub fn of(line: &'a [u8]) -> Words<'a>
         ensures { result ≡ cut line.now }
     {
         Words { left: Some(line) }
     }
 
+    /// Removes and returns the next word.
     pub fn next(&mut self) -> Option<&'a [u8]>
         ensures { IsFirstWord self.old self.new result }
     {
@@ -51,35 +53,35 @@ impl<'a> Words<'a> {
         }
     }
 
-    /// That no word is left.
+    /// Checks that no word is left.
     pub fn end(&self) -> Option<()>
         ensures { MatchOption result (self.now ≢ []) (λ _. self.now ≡ []) }
     {
         if self.left.is_some() { None } else { Some(()) }
     }
 
-    /// A decimal number without leading zeros, at most `most`.
+    /// Reads a decimal number without leading zeros, at most `most`.
     pub fn number(&mut self, most: u32) -> Option<u32>
         ensures { TakesWord decimal (λ n. n ≤ most) self.old self.new result }
     {
         read_number(self.next()?, most)
     }
 
-    /// A serial: a decimal number without leading zeros.
+    /// Reads a serial: a decimal number without leading zeros.
     pub fn serial(&mut self) -> Option<u64>
         ensures { TakesWord decimal IsSerial self.old self.new result }
     {
         read_serial(self.next()?)
     }
 
-    /// The number of a version.
+    /// Reads the number of a version.
     pub fn version(&mut self) -> Option<Version>
         ensures { TakesWord version_word (λ _. Unit {0}) self.old self.new result }
     {
         read_version(self.next()?)
     }
 
-    /// An interface with its id.
+    /// Reads an interface with its id.
     pub fn interface(&mut self) -> Option<(u8, Interface)>
         ensures { Takes pair_words IsPair self.old self.new result }
     {
@@ -97,44 +99,45 @@ impl<'a> Words<'a> {
         Some((id as u8, interface))
     }
 
-    /// The last word, two hexadecimal digits for each byte.
+    /// Returns the last word, which has two hexadecimal digits for each byte. `None` is also
+    /// returned if more than one word is left.
     pub fn last_digits(&self) -> Option<&'a [u8]>
         ensures { AreLastDigits self.now result }
     {
-        // If a space is left, it is no digit.
+        // A space is not a digit, so a second word is refused.
         let left = self.left?;
         if are_digits(left) { Some(left) } else { None }
     }
 
-    /// An address, a Router ID or an Area ID.
+    /// Reads an address, a Router ID or an Area ID, in host order.
     pub fn address(&mut self) -> Option<u32>
         ensures { TakesWord address_text IsAddress self.old self.new result }
     {
         read_address(self.next()?)
     }
 
-    /// An Area ID, or `as`.
+    /// Reads an Area ID, or `as`.
     pub fn scope(&mut self) -> Option<Scope>
         ensures { TakesWord scope_text IsScope self.old self.new result }
     {
         read_scope(self.next()?)
     }
 
-    /// A network, whose bits past the length are zero.
+    /// Reads a network whose bits after the length are zero.
     pub fn prefix(&mut self) -> Option<Prefix>
         ensures { TakesWord prefix_text IsPrefix self.old self.new result }
     {
         read_prefix(self.next()?)
     }
 
-    /// Whether it is `first`, and not `second`.
+    /// Returns true if the word is `first`, false if it is `second`, and `None` if it is neither.
     pub fn choice(&mut self, first: &[u8], second: &[u8]) -> Option<bool>
         ensures { TakesWord (either_word first.now second.now) (λ _. Unit {0}) self.old self.new result }
     {
         read_choice(self.next()?, first, second)
     }
 
-    /// LS type, Link State ID and Advertising Router (RFC 2328, 12.1).
+    /// Reads LS type, Link State ID and Advertising Router (RFC 2328, 12.1).
     pub fn key(&mut self) -> Option<Key>
         ensures { Takes key_words IsKey self.old self.new result }
     {
@@ -151,7 +154,8 @@ impl<'a> Words<'a> {
         })
     }
 
-    /// Whether an area is a stub area, and what it is sent then.
+    /// Reads `normal`, or `stub` with its default cost and the summaries that are advertised into
+    /// it.
     pub fn stub(&mut self) -> Option<Option<Stub>>
         ensures { Takes stub_words IsStub self.old self.new result }
     {
@@ -231,7 +235,7 @@ fn read_number(word: &[u8], most: u32) -> Option<u32>
     }
 }
 
-// A number without leading zeros, if 64 bits have room for it.
+// Reads a number without leading zeros that fits into 64 bits.
 fn read_serial(word: &[u8]) -> Option<u64>
     ensures { IsRead decimal IsSerial word.now result }
 {
@@ -252,7 +256,7 @@ fn is_unpadded(word: &[u8]) -> bool
     }
 }
 
-// What digits write, if 64 bits have room for it.
+// Returns the number that the digits spell, if it fits into 64 bits.
 fn decimal_value(word: &[u8]) -> Option<u64>
     ensures { IsDecimalValue word.now result }
 {
@@ -267,14 +271,14 @@ fn decimal_value(word: &[u8]) -> Option<u64>
     Some(value)
 }
 
-// Whether these are the hexadecimal digits of bytes.
+// Returns true if the word has two hexadecimal digits for each byte.
 fn are_digits(word: &[u8]) -> bool
     ensures { IsTrue result ↔ AreDigits word.now }
 {
     word.len() % 2 == 0 && all_digits(word)
 }
 
-// It goes on behind a byte that is no digit, so that many are tested at once.
+// Tests every byte, even after one that is not a digit, so that many are tested at once.
 fn all_digits(word: &[u8]) -> bool
     ensures { IsTrue result ↔ All IsLowerDigit word.now }
 {
@@ -291,7 +295,7 @@ fn is_lower_digit(digit: u8) -> bool
     digit.is_ascii_digit() | matches!(digit, b'a'..=b'f')
 }
 
-/// Whether the word is the text.
+/// Returns true if the word equals the text.
 pub(crate) fn is(word: &[u8], text: &[u8]) -> bool
     ensures { IsTrue result ↔ (word.now ≡ text.now) }
 {

@@ -1,4 +1,4 @@
-//! An engine in which one request for memory may be refused.
+//! An engine for which one request for memory may be refused.
 ghost use Rattle.std.specs.Prelude.{◌≡◌};
 
 use engine::{Engine, Event, Forwarder, Refusal, Reply, Status, Told};
@@ -7,7 +7,7 @@ use std::hash::RandomState;
 use std::random::RandomSource;
 use std::sync::Wait;
 
-// The root and a border router at 10, which has a summary at 10.
+// A recording of a root with a border router at 10, which advertises a summary at 10.
 const RECORDING: &str = "abr 1\n\
 router 10.0.0.1\n\
 area 0.0.0.0 normal\n\
@@ -16,14 +16,15 @@ install 0.0.0.0 000102010a0000010a00000180000001e6e20024000000010a000002c6336401
 install 0.0.0.0 000102010a0000020a00000280000001dde80024010000010a000001c63364020100000a\n\
 install 0.0.0.0 000102030a0100000a00000280000001da61001cffff00000000000a\n";
 
-// What is known of the engine: how many events it took, and of how many the table is that is published.
+// The known state of the engine: the number of events taken, and the serial of the published table.
 #[derive(Clone, Copy)]
 struct Known {
     taken: u64,
     published: u64,
 }
 
-/// Returns true if each event is taken or refused as memory allows, and look-ups and a catch-up tell of it.
+/// Returns true if each event is taken or refused as memory allows, and lookups and a catch-up
+/// agree. Returns true as well if memory runs out before the engine is open.
 pub fn is_right<R: Wait + AllocGlobal + RandomSource>(rt: &R) -> bool {
     let Ok(hashing) = RandomState::new(rt) else {
         return true;
@@ -46,7 +47,8 @@ pub fn is_right<R: Wait + AllocGlobal + RandomSource>(rt: &R) -> bool {
     right
 }
 
-// Each look-up sees the table that was published last, and one after a catch-up that of all that was taken.
+// Returns true if each lookup sees the table published last, and a lookup after a catch-up sees the
+// table of all taken events.
 fn follows<R: Wait>(rt: &R, engine: &Engine, forwarder: Forwarder, lines: Vec<Line>) -> bool {
     let mut known = Known {
         taken: 0,
@@ -67,7 +69,8 @@ fn follows<R: Wait>(rt: &R, engine: &Engine, forwarder: Forwarder, lines: Vec<Li
     all && seen == Some(known.taken)
 }
 
-// An event is taken and published, or taken alone where it is answered Behind, or refused for want of memory.
+// An event is taken and published, or taken with the reply `Behind`, or refused because memory ran
+// out.
 fn submit<R: Wait>(rt: &R, engine: &Engine, known: Known, event: Event) -> (Known, bool) {
     match engine.submit(rt, event) {
         Ok(answer) => took(known, answer.reply, serial_of(answer.told)),
@@ -82,7 +85,7 @@ fn serial_of(told: Option<Told>) -> Option<u64> {
     }
 }
 
-// The token of an event has its serial, which is the next.
+// The token of an event has the event's serial, which is the next one.
 fn took(known: Known, reply: Reply, told: Option<u64>) -> (Known, bool) {
     let taken = known.taken.saturating_add(1);
     let published = told.unwrap_or(known.published);
@@ -92,7 +95,7 @@ fn took(known: Known, reply: Reply, told: Option<u64>) -> (Known, bool) {
     (Known { taken, published }, is_right)
 }
 
-// What a look-up answers has a serial: that of the table that is published.
+// Looks an address up, and returns the serial of the table that is seen.
 fn look(forwarder: Forwarder) -> (Forwarder, Option<u64>)
     ensures { result.0.name ≡ forwarder.name }
 {
@@ -105,7 +108,7 @@ fn look(forwarder: Forwarder) -> (Forwarder, Option<u64>)
     }
 }
 
-// No more than one request is refused, so that a second catch-up has all memory.
+// At most one request is refused, so a second catch-up has all memory.
 fn catches_up<R: Wait>(rt: &R, engine: &Engine, known: Known) -> bool {
     let told = match engine.catch_up(rt) {
         Some(told) => Some(told),

@@ -1,6 +1,7 @@
-//! Prints whether a replay of a recording, and an engine that takes events, end rightly, whichever of their requests for memory
-//! is refused. It is run once for each of these requests, which is refused then: each run has to print the same, or to end with
-//! an error of its own.
+//! Tests of a replay and of an engine for which one request for memory is refused.
+//!
+//! The program runs once for each of the requests, which is refused in that run. Each run has to
+//! print that both end rightly, or to end with an error of its own.
 #![tactic(auto)]
 
 mod engines;

@@ -1,8 +1,8 @@
-//! A device that takes no memory.
+//! A device that allocates no memory.
 
 use std::io;
 
-/// A page of 1,024 bytes that is written from its beginning on.
+/// A page of 1,024 bytes that is written from its start.
 #[derive(Drop)]
 pub struct Page {
     bytes: [u8; 1024],
@@ -17,7 +17,7 @@ impl Page {
         }
     }
 
-    /// The bytes that were written.
+    /// Returns the bytes that were written.
     pub fn written(&self) -> &[u8] {
         self.bytes.get(..self.count).unwrap_or(&[])
     }

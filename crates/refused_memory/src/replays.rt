@@ -1,4 +1,4 @@
-//! A replay in which one request for memory may be refused.
+//! A replay for which one request for memory may be refused.
 
 use crate::page::Page;
 use output_format::Format;
@@ -7,7 +7,8 @@ use replay::{PrintOptions, ReplayFault, Show, replay_one};
 use std::hash::RandomState;
 use std::random::RandomSource;
 
-// The border router 10.0.0.2 at 10 has a summary at 10, and becomes an AS boundary router with an external route of type 2.
+// A recording in which the border router 10.0.0.2 at 10 advertises a summary at 10. It then becomes
+// an AS boundary router with an external route of type 2.
 const RECORDING: &str = "abr 1\n\
 router 10.0.0.1\n\
 area 0.0.0.0 normal\n\
@@ -22,7 +23,7 @@ install 0.0.0.0 000102010a0000020a00000280000002e1e10024030000010a000001c6336402
 install as 00010205cb0071000a000002800000010c690024ffffff00800000140000000000000000\n\
 lookup 203.0.113.9\n";
 
-// What is printed where nothing is refused.
+// The output if nothing is refused.
 const WHOLE: &str = "8 lookup 10.1.2.3 4 route 10.1.0.0/16 inter 0.0.0.0 20 0 peer:1@10.0.0.2\n\
 9 lookup 10.2.0.1 4 none\n\
 10 refused 23 Same\n\
@@ -31,9 +32,10 @@ serial 6 built 6\n\
 route 10.1.0.0/16 inter 0.0.0.0 20 0 peer:1@10.0.0.2\n\
 route 203.0.113.0/24 ext2 - 10 20 peer:1@10.0.0.2\n";
 
-// The outputs where the event of a line was refused, in the order of the lines; worked out by hand.
+// The outputs if the event of a line is refused, in the order of the lines. They were found by
+// hand.
 const REFUSED: [&str; 7] = [
-    // No interface is up: no router is reached.
+    // No interface is up, so no router is reached.
     "4 refused 30 Memory\n\
 8 lookup 10.1.2.3 3 none\n\
 9 lookup 10.2.0.1 3 none\n\
@@ -47,7 +49,7 @@ serial 5 built 5\n",
 10 refused 23 Same\n\
 13 lookup 203.0.113.9 5 none\n\
 serial 5 built 5\n",
-    // The border router has none until line 11.
+    // The border router has no router-LSA until line 11.
     "6 refused 30 Memory\n\
 8 lookup 10.1.2.3 3 none\n\
 9 lookup 10.2.0.1 3 none\n\
@@ -56,7 +58,7 @@ serial 5 built 5\n",
 serial 5 built 5\n\
 route 10.1.0.0/16 inter 0.0.0.0 20 0 peer:1@10.0.0.2\n\
 route 203.0.113.0/24 ext2 - 10 20 peer:1@10.0.0.2\n",
-    // The summary comes with line 10.
+    // The summary-LSA is installed by line 10.
     "7 refused 30 Memory\n\
 8 lookup 10.1.2.3 3 none\n\
 9 lookup 10.2.0.1 3 none\n\
@@ -66,7 +68,7 @@ route 10.1.0.0/16 inter 0.0.0.0 20 0 peer:1@10.0.0.2\n\
 route 203.0.113.0/24 ext2 - 10 20 peer:1@10.0.0.2\n",
     // Line 10 is refused in any case.
     WHOLE,
-    // The border router is no AS boundary router.
+    // The border router is not an AS boundary router.
     "8 lookup 10.1.2.3 4 route 10.1.0.0/16 inter 0.0.0.0 20 0 peer:1@10.0.0.2\n\
 9 lookup 10.2.0.1 4 none\n\
 10 refused 23 Same\n\
@@ -84,7 +86,8 @@ serial 5 built 5\n\
 route 10.1.0.0/16 inter 0.0.0.0 20 0 peer:1@10.0.0.2\n",
 ];
 
-// The outputs where the event of a line left the table behind, in the order of the lines. The next event builds it anew.
+// The outputs if the event of a line leaves the table behind, in the order of the lines. The next
+// event rebuilds the table.
 const BEHIND: [&str; 6] = [
     "4 behind\n\
 8 lookup 10.1.2.3 4 route 10.1.0.0/16 inter 0.0.0.0 20 0 peer:1@10.0.0.2\n\
@@ -110,7 +113,7 @@ route 203.0.113.0/24 ext2 - 10 20 peer:1@10.0.0.2\n",
 serial 6 built 6\n\
 route 10.1.0.0/16 inter 0.0.0.0 20 0 peer:1@10.0.0.2\n\
 route 203.0.113.0/24 ext2 - 10 20 peer:1@10.0.0.2\n",
-    // Both look-ups, and the install that is refused, find the table of three events.
+    // Both lookups find the table of three events. The refused install does not rebuild it.
     "7 behind\n\
 8 lookup 10.1.2.3 3 none\n\
 9 lookup 10.2.0.1 3 none\n\
@@ -127,7 +130,7 @@ route 203.0.113.0/24 ext2 - 10 20 peer:1@10.0.0.2\n",
 serial 6 built 6\n\
 route 10.1.0.0/16 inter 0.0.0.0 20 0 peer:1@10.0.0.2\n\
 route 203.0.113.0/24 ext2 - 10 20 peer:1@10.0.0.2\n",
-    // What is shown in the end is the table of five events.
+    // The table at the end is the table of five events.
     "8 lookup 10.1.2.3 4 route 10.1.0.0/16 inter 0.0.0.0 20 0 peer:1@10.0.0.2\n\
 9 lookup 10.2.0.1 4 none\n\
 10 refused 23 Same\n\
@@ -143,7 +146,8 @@ const PRINTING: PrintOptions = PrintOptions {
     progress: false,
 };
 
-/// Returns true if the replay prints what it has to, or a beginning of that where memory ran out, which ends with a line.
+/// Returns true if the replay prints one of the outputs, or whole lines at the start of one if
+/// memory runs out.
 pub fn is_right<R: AllocGlobal + RandomSource>(rt: &R) -> bool {
     let Ok(hashing) = RandomState::new(rt) else {
         return true;
@@ -167,7 +171,7 @@ pub fn is_right<R: AllocGlobal + RandomSource>(rt: &R) -> bool {
     }
 }
 
-// Returns true if it is one of the outputs.
+// Returns true if the text is one of the outputs.
 fn is_whole(written: &[u8]) -> bool {
     let mut is_found = written == WHOLE.as_bytes();
     for output in REFUSED {
@@ -179,7 +183,7 @@ fn is_whole(written: &[u8]) -> bool {
     is_found
 }
 
-// Returns true if it is a beginning of one of the outputs, in which no line is cut.
+// Returns true if the text is the start of one of the outputs, and its last line is whole.
 fn is_beginning(written: &[u8]) -> bool {
     let mut is_found = WHOLE.as_bytes().starts_with(written);
     for output in REFUSED {

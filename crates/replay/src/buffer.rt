@@ -1,4 +1,4 @@
-//! The buffer: what is printed is collected, and written where it has become long.
+//! The buffer: printed lines are collected in it, and written when it is full.
 ghost use Rattle.std.specs.Prelude.{IfOk, IfErr, OnOk, [], ◌≡◌, string_bytes};
 ghost use Rattle.replay.specs.Pages.{Adds, AddsPart};
 ghost use Rattle.replay.specs.Stops.{fault_of, stop_of};
@@ -9,14 +9,14 @@ use ospf_types::memory::Memory;
 use std::alloc::Global;
 use std::io;
 
-/// Why nothing more is printed.
+/// The reason why printing stopped.
 #[derive(Clone, Copy)]
 pub enum PrintError {
-    /// The output could not be written.
+    /// A write that failed.
     Write,
-    /// The output is a pipe, and its reading end was closed.
+    /// A write to a pipe whose reading end was closed.
     Closed,
-    /// Memory ran out.
+    /// A lack of memory.
     Memory,
 }
 
@@ -45,7 +45,7 @@ impl From<Memory> for PrintError {
     }
 }
 
-/// The fault of a replay that stops so.
+/// Returns the fault of a replay whose printing stopped for this reason.
 pub fn fault_of(stop: PrintError) -> ReplayFault
     ensures { result ≡ fault_of stop }
 {
@@ -56,17 +56,23 @@ pub fn fault_of(stop: PrintError) -> ReplayFault
     }
 }
 
-// How many bytes are collected before they are written.
+// The number of bytes from which on a buffer is full. Its capacity is twice as large, to have room
+// for a last line.
 const LENGTH: usize = 8192;
 
-/// A buffer with nothing on it, and with room for a line that stands behind the last of its bytes.
+/// Creates an empty buffer, with room for twice as many bytes as make it full.
 pub fn new_buffer(alloc: Global) -> Result<String, Memory>
     ensures { IfOk result (λ buffer. string_bytes buffer ≡ []) }
 {
     Ok(String::with_capacity(alloc, 2 * LENGTH)?)
 }
 
-/// Writes the buffer where it has become long.
+/// Writes the buffer and empties it, if it has 8,192 bytes or more.
+///
+/// # Errors
+///
+/// Returns the `WriteError` of the write. A beginning of the buffer may be written then, but not
+/// all of it, and the buffer is unchanged.
 pub fn flush_if_full<W: io::Write>(out: &mut W, buffer: &mut String) -> Result<(), WriteError>
     ensures ok { OnOk result (Adds (W.contents out.old) (W.contents out.new) (string_bytes buffer.old)
         (string_bytes buffer.new) []) }
@@ -79,7 +85,12 @@ pub fn flush_if_full<W: io::Write>(out: &mut W, buffer: &mut String) -> Result<(
     flush_buffer(out, buffer)
 }
 
-/// Writes what is on the buffer, and empties it.
+/// Writes the buffer and empties it.
+///
+/// # Errors
+///
+/// Returns the `WriteError` of the write. A beginning of the buffer may be written then, but not
+/// all of it, and the buffer is unchanged.
 pub fn flush_buffer<W: io::Write>(out: &mut W, buffer: &mut String) -> Result<(), WriteError>
     ensures ok { OnOk result (Adds (W.contents out.old) (W.contents out.new) (string_bytes buffer.old)
         (string_bytes buffer.new) []) }

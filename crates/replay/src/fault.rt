@@ -6,18 +6,18 @@ use recording::LineFault;
 use std::fmt;
 use thiserror::Error;
 
-/// Why a replay ended early.
+/// The reason why a replay ended early.
 #[derive(Clone, Copy, Debug, PartialEq, Eq, Error)]
 pub enum ReplayFault {
-    /// The recording could not be read.
+    /// An input that could not be read.
     Read,
-    /// The output could not be written.
+    /// An output that could not be written.
     Write,
-    /// The output is a pipe, and its reading end was closed.
+    /// An output pipe whose reading end was closed.
     Closed,
-    /// Memory ran out.
+    /// A lack of memory.
     Memory,
-    /// What was read is no recording.
+    /// A fault of a line: the input is not a valid recording, or memory ran out at that line.
     Line(LineFault),
 }
 

@@ -1,4 +1,4 @@
-//! The journal that a run left, shown as a recording.
+//! The journal after a run, printed as a recording.
 ghost use Rattle.std.specs.Prelude.{◌++◌, OnOk, IfErr, List, string_bytes};
 ghost use Rattle.std.specs.List.{flat_map};
 ghost use Rattle.recording.specs.Forms.{Form};
@@ -16,7 +16,7 @@ use output_format::Format;
 use recording::{Version, append_preamble};
 use std::io;
 
-/// The core that a run left, and the version of the recording as which its journal is shown.
+/// The journal of a core after a run, to be printed as a recording of the version.
 #[derive(Clone, Copy)]
 pub struct Journal<'a> {
     pub version: Version,
@@ -24,7 +24,12 @@ pub struct Journal<'a> {
 }
 
 impl Journal<'_> {
-    /// The lines of the base, and those of the events that were taken since.
+    /// Prints the lines of the base, and the events that were taken after it.
+    ///
+    /// # Errors
+    ///
+    /// Returns the reason why printing stopped. A beginning of the lines may be written then. After
+    /// `Memory` it has no cut line, if the buffer had none.
     pub fn show<W: io::Write>(
         self,
         format: Format,
@@ -44,7 +49,7 @@ impl Journal<'_> {
         Ok(())
     }
 
-    // The lines of the base.
+    // Prints the lines of the base.
     fn show_front<W: io::Write>(
         self,
         format: Format,
@@ -72,7 +77,7 @@ impl Journal<'_> {
     }
 }
 
-// The lines of a recording, each as an object.
+// Prints the lines of a recording as objects.
 fn show_recorded<W: io::Write>(text: &str, out: &mut W, buffer: &mut String) -> Result<(), PrintError>
     ensures ok { (forms : List Form) → IsTextOf text.now forms
         → OnOk result (Adds (W.contents out.old) (W.contents out.new) (string_bytes buffer.old)
@@ -90,7 +95,7 @@ fn show_recorded<W: io::Write>(text: &str, out: &mut W, buffer: &mut String) -> 
     Ok(())
 }
 
-// The events, as lines of a recording.
+// Prints the events as lines of a recording.
 fn show_events<W: io::Write>(
     format: Format,
     events: &[Event],

@@ -1,4 +1,29 @@
-//! Replays: a recording is read and run, and what came of it is printed.
+//! Replays: a recording is read and run, and the outcome of each line is printed.
+//!
+//! `replay_one` carries out a whole replay on one thread:
+//!
+//! ```text
+//!  input ──── read_recording ───> Recording
+//!                                     │ OpenedRecording::open
+//!                                     ▼
+//!                              core, and lines to run
+//!                                     │ each line is run, and printed into
+//!                                     ▼
+//!  output <── flush_if_full ───── the buffer <──── the state shown after the run
+//! ```
+//!
+//! - `read_recording` reads all bytes and parses them. The first line with a fault ends the replay,
+//!   and nothing is printed.
+//! - `OpenedRecording::open` opens a core from the base of the recording.
+//! - The lines after the base are run in order: events are applied, addresses are looked up, and a
+//!   `roll` line rolls the core. Events and rolls print a line only if they are refused, or if an
+//!   event leaves the core behind.
+//! - Printed lines are collected in a buffer of some KiB, which is written whenever it is full.
+//! - After the run the state is shown that `PrintOptions` names. A journal is shown alone: its run
+//!   prints nothing.
+//!
+//! The functions that print lines and show states are public for other replays: over several
+//! workers (`worker_replay`), and with the changes of each event (`changes`).
 #![tactic(auto)]
 
 mod fault;

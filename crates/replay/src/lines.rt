@@ -1,5 +1,7 @@
-//! The lines that a replay prints, each appended to a text. If memory runs out, the text may
-//! have a part of the line.
+//! The lines that a replay prints, each appended to a text.
+//!
+//! If memory runs out, the text may have a part of the line. `number` is the number of a line in
+//! its recording, from 1.
 ghost use Rattle.std.specs.Prelude.{◌≡◌, ◌++◌, OnOk, codes, string_bytes};
 ghost use Rattle.output_format.specs.declared.Format.TheVariants as format_value;
 ghost use Rattle.recording.specs.Forms.{scope_text};
@@ -19,7 +21,11 @@ use output_format::Format;
 use recording::append_event;
 use route_table::{Item, Match, Table};
 
-/// The match of the address in the table.
+/// Appends the line of a lookup: the longest match of the address (in host order) in the table.
+///
+/// # Errors
+///
+/// Returns `Memory` if memory runs out. The text may then have a part of the line.
 pub fn put_lookup(
     format: Format,
     number: usize,
@@ -35,7 +41,7 @@ pub fn put_lookup(
         address,
         serial: table.serial(),
     };
-    // proof: a match that is kept in a variable is not told to the borrow checker as one that may hold a route.
+    // proof: the borrow checker would not see that a match kept in a variable may borrow a route.
     match table.lookup(address) {
         Match::Route(network, entry) => {
             let found = Match::Route(network, entry);
@@ -46,7 +52,11 @@ pub fn put_lookup(
     }
 }
 
-/// What a look-up found.
+/// Appends the line of a lookup with its match.
+///
+/// # Errors
+///
+/// Returns `Memory` if memory runs out. The text may then have a part of the line.
 pub fn put_found(
     format: Format,
     lookup: Lookup,
@@ -72,7 +82,12 @@ fn put_found_words(lookup: Lookup, found: &Match, text: &mut String) -> Result<(
     Ok(())
 }
 
-/// The answer to an event: nothing where the event was taken and the table is that of the state now.
+/// Appends the line of an event that was refused, or that left the core behind. Other events have
+/// no line.
+///
+/// # Errors
+///
+/// Returns `Memory` if memory runs out. The text may then have a part of the line.
 pub fn put_answer(
     format: Format,
     number: usize,
@@ -91,7 +106,11 @@ pub fn put_answer(
     }
 }
 
-/// The answer to a roll: nothing where it was carried out.
+/// Appends the line of a roll that was refused. Other rolls have no line.
+///
+/// # Errors
+///
+/// Returns `Memory` if memory runs out. The text may then have a part of the line.
 pub fn put_roll(
     format: Format,
     number: usize,
@@ -107,7 +126,11 @@ pub fn put_roll(
     }
 }
 
-/// The event was taken, and the table does not follow it yet.
+/// Appends the line of an event that was taken, but that the table does not reflect yet.
+///
+/// # Errors
+///
+/// Returns `Memory` if memory runs out. The text may then have a part of the line.
 pub fn put_behind(format: Format, number: usize, text: &mut String) -> Result<(), Memory>
     ensures { OnOk result (string_bytes text.new ≡ string_bytes text.old
         ++ behind_line format number) }
@@ -118,7 +141,11 @@ pub fn put_behind(format: Format, number: usize, text: &mut String) -> Result<()
     }
 }
 
-/// The event, or the roll, was refused.
+/// Appends the line of a refused event or roll.
+///
+/// # Errors
+///
+/// Returns `Memory` if memory runs out. The text may then have a part of the line.
 pub fn put_refused(
     format: Format,
     number: usize,
@@ -134,7 +161,12 @@ pub fn put_refused(
     }
 }
 
-/// The serial, and that of the event which the table is after.
+/// Appends the line with the serial of the core, and the serial of the last event that its table
+/// reflects.
+///
+/// # Errors
+///
+/// Returns `Memory` if memory runs out. The text may then have a part of the line.
 pub fn put_serial(format: Format, core: &Core, text: &mut String) -> Result<(), Memory>
     ensures { OnOk result (string_bytes text.new ≡ string_bytes text.old
         ++ serial_line format core.now) }
@@ -142,7 +174,7 @@ pub fn put_serial(format: Format, core: &Core, text: &mut String) -> Result<(), 
     put_counts(format, core.serial(), core.built(), text)
 }
 
-// So many events were taken, and so many of them the table follows.
+// Appends the line with the two serials.
 fn put_counts(format: Format, serial: u64, built: u64, text: &mut String) -> Result<(), Memory>
     ensures { OnOk result (string_bytes text.new ≡ string_bytes text.old
         ++ counts_line format serial built) }
@@ -153,7 +185,7 @@ fn put_counts(format: Format, serial: u64, built: u64, text: &mut String) -> Res
     }
 }
 
-/// A network with its route, or with a discard.
+/// Appends the line of a network with its route, or with a discard.
 pub(crate) fn put_item(
     format: Format,
     prefix: Prefix,
@@ -180,7 +212,7 @@ fn put_item_words(prefix: Prefix, item: &Item, text: &mut String) -> Result<(), 
     Ok(())
 }
 
-/// A summary that is due in the area.
+/// Appends the line of a summary-LSA that is due in the area (in host order).
 pub(crate) fn put_due(
     format: Format,
     area: u32,
@@ -207,7 +239,11 @@ fn put_due_words(area: u32, due: DueSummary, text: &mut String) -> Result<(), Me
     Ok(())
 }
 
-/// A network, or the Router ID of an AS boundary router.
+/// Appends a network, or the Router ID of an AS boundary router.
+///
+/// # Errors
+///
+/// Returns `Memory` if memory runs out. The text may then have a part of the destination.
 pub fn put_dest(dest: Dest, text: &mut String) -> Result<(), Memory>
     ensures { OnOk result (string_bytes text.new ≡ string_bytes text.old ++ dest_text dest) }
 {
@@ -221,7 +257,7 @@ pub fn put_dest(dest: Dest, text: &mut String) -> Result<(), Memory>
     Ok(())
 }
 
-/// The key of an LSA, and what tells its instances apart.
+/// Appends the line of an LSA: its key, sequence number, checksum and age.
 pub(crate) fn put_lsa(
     format: Format,
     scope: Scope,
@@ -275,7 +311,7 @@ fn put_header(header: &Header, text: &mut String) -> Result<(), Memory>
     Ok(())
 }
 
-/// The event as a line of a recording.
+/// Appends the event as a line of a recording.
 pub(crate) fn put_event(format: Format, event: &Event, text: &mut String) -> Result<(), Memory>
     ensures { OnOk result (string_bytes text.new ≡ string_bytes text.old
         ++ event_line format event.now) }

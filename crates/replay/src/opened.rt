@@ -1,4 +1,4 @@
-//! A recording that is ready to be run.
+//! Recordings that are ready to run.
 ghost use Rattle.std.specs.Prelude.{◌≡◌, ◌+◌, ◌^◌, ◌<◌, IfOk, None, length};
 ghost use Rattle.event_state.specs.BaseFaults.{base_fault_of};
 ghost use Rattle.event_state.specs.Steps.{standard_limits};
@@ -11,7 +11,8 @@ use recording::{Line, Recording, Version};
 use std::alloc::Global;
 use std::hash::RandomState;
 
-/// A recording whose core was opened, and whose lines are still to be run. They are few enough to be numbered.
+/// A recording with an open core, and the lines that it has to run. All line numbers are below
+/// 2^64.
 #[derive(Drop)]
 pub struct OpenedRecording {
     pub version: Version,
@@ -22,6 +23,10 @@ pub struct OpenedRecording {
 
 impl OpenedRecording {
     /// Opens a core from the base of the recording.
+    ///
+    /// # Errors
+    ///
+    /// Returns `Memory` if memory runs out. The recording is dropped then.
     pub fn open(
         alloc: Global,
         hashing: RandomState,
@@ -43,7 +48,7 @@ impl OpenedRecording {
     }
 }
 
-// The core that a run begins with. The base of a recording has no fault.
+// Opens the core of a run. The base of a recording has no fault.
 fn open_core(alloc: Global, base: Base, hashing: RandomState) -> Result<Core, Memory>
     requires { base_fault_of standard_limits base ≡ None }
     ensures { IfOk result (IsOpened base) }

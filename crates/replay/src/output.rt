@@ -1,4 +1,4 @@
-//! The output of a replay, printed: the run, and what is shown after it.
+//! The output of a replay: the run, and the state that is shown after it.
 ghost use Rattle.std.specs.Prelude.{◌≡◌, OnOk, IfErr};
 ghost use Rattle.replay.specs.Advance.{ShowsProgress};
 ghost use Rattle.replay.specs.Runs.{IsOpened};
@@ -17,7 +17,8 @@ use std::alloc::Global;
 use std::io;
 
 impl OpenedRecording {
-    /// Runs the lines, and prints what `printing` names.
+    /// Runs the lines, and prints the run and the state that `printing` names. A journal is printed
+    /// without the run.
     pub(crate) fn print<W: io::Write, F: io::Write>(
         self,
         alloc: Global,
@@ -67,7 +68,7 @@ impl OpenedRecording {
         Ok(())
     }
 
-    // Prints the run and what is due in each area.
+    // Prints the run and the summary-LSAs that are due in each area.
     fn print_due<W: io::Write, F: io::Write>(
         self,
         alloc: Global,
@@ -120,7 +121,7 @@ impl OpenedRecording {
         Ok(())
     }
 
-    // Prints only the base and the events that were taken since, as a recording of the version.
+    // Prints only the base and the events taken after it, as a recording of the same version.
     fn print_journal<W: io::Write, F: io::Write>(
         self,
         alloc: Global,

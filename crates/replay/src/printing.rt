@@ -1,14 +1,14 @@
-//! What a replay prints, and how.
+//! The options of what a replay prints.
 
 use output_format::{Format, Show};
 
-/// What a replay prints.
+/// The options of what a replay prints.
 #[derive(Clone, Copy, Debug, PartialEq, Eq)]
 pub struct PrintOptions {
-    /// What is shown behind the run.
+    /// The state that is shown after the run.
     pub show: Show,
-    /// The form of all lines that are printed.
+    /// The form of all printed lines.
     pub format: Format,
-    /// Whether it is shown on standard error how much is done.
+    /// True if the number of lines done is shown on standard error.
     pub progress: bool,
 }

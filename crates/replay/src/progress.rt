@@ -1,4 +1,4 @@
-//! How much of a recording is done, shown while it is run.
+//! The progress of a run, shown while it goes on.
 ghost use Rattle.std.specs.Prelude.{◌≡◌, IfOk, string_bytes};
 ghost use Rattle.replay.specs.Advance.{Shows, EndsShowing, is_all, is_due, progress_text};
 
@@ -8,20 +8,23 @@ use ospf_types::memory::Memory;
 use std::alloc::Global;
 use std::io;
 
-/// How many lines of a recording are done, shown on one line of standard error that is written over.
+/// The progress of a run: the number of lines done, on a line of standard error that is
+/// overwritten.
 #[derive(Clone, Copy, Debug, PartialEq, Eq)]
 pub struct Progress {
-    /// Whether it is shown.
+    /// True if the progress is shown.
     pub is_shown: bool,
-    /// How many lines there are, where that is known.
+    /// The number of all lines, if known.
     pub all: Option<usize>,
 }
 
-// It is shown behind each so many lines.
+// The number of lines after which the progress is shown each time.
 const STEP: usize = 1000;
 
 impl Progress {
-    /// Shows that so many lines are done, where that is a multiple of 1,000, or all. What cannot be written is left out.
+    /// Shows the number of lines done, if it is a multiple of 1,000 or the number of all lines.
+    ///
+    /// A text for which memory runs out, or that cannot be written, is left out.
     pub fn show<F: io::Write>(self, alloc: Global, done: usize, faults: &mut F)
         ensures { Shows self done (F.contents faults.old) (F.contents faults.new) }
     {
@@ -33,7 +36,7 @@ impl Progress {
         }
     }
 
-    /// Ends the line that is written over.
+    /// Ends the line that is overwritten, if the progress is shown.
     pub fn end<F: io::Write>(self, faults: &mut F)
         ensures { EndsShowing self (F.contents faults.old) (F.contents faults.new) }
     {
@@ -42,14 +45,14 @@ impl Progress {
         }
     }
 
-    // Whether it is shown that so many lines are done.
+    // Returns true if the progress is shown after this number of lines.
     fn is_due(self, done: usize) -> bool
         ensures { result ≡ is_due self done }
     {
         self.is_shown && (done % STEP == 0 || self.is_all(done))
     }
 
-    // Whether so many lines are all.
+    // Returns true if this is the number of all lines.
     fn is_all(self, done: usize) -> bool
         ensures { result ≡ is_all self.all done }
     {

@@ -1,4 +1,4 @@
-//! A replay.
+//! A whole replay, from its input to its output.
 ghost use Rattle.std.specs.Prelude.{◌≡◌, ◌⊎◌, ℕ, List, IfOk, IfErr, OnOk};
 ghost use Rattle.recording.specs.Faults.{IsFaultOf};
 ghost use Rattle.replay.specs.declared.fault.ReplayFault.TheVariants as replay_fault;
@@ -18,14 +18,23 @@ use std::alloc::Global;
 use std::hash::RandomState;
 use std::io;
 
-/// Reads its input to the end as a recording, runs it on one thread, and writes what `printing` names. For a
-/// fault of the input nothing is written. Where a write fails or memory runs out, a beginning of the output
-/// is written: something is missing where a write failed, and no line is cut where memory ran out. A failed
-/// write is told as `Closed` where the writer's error is of the kind `BrokenPipe`, and else as `Write`. If
-/// `printing.progress` is set, `faults` is shown how many lines are done; what cannot be written there is left
-/// out. The line that is written over is left for the caller to end.
+/// Reads the input to its end as a recording, runs it on one thread, and writes what `printing`
+/// names.
 ///
-/// A journal is shown whole or not at all: if memory runs out over an event or a roll, the replay ends with `Memory`.
+/// If `printing.progress` is set, the number of lines done is shown on `faults`. Progress that
+/// cannot be written there is left out. The caller ends the line that is overwritten.
+///
+/// A journal that is shown never lacks an event because memory ran out. With `Show::Journal` the
+/// replay ends with `Memory`, and nothing is written, if an event is refused with 30 Memory or a
+/// roll is refused.
+///
+/// # Errors
+///
+/// - `Read` if the input cannot be read. Nothing is written.
+/// - `Line` if a line has a fault, or memory runs out at that line. Nothing is written.
+/// - `Closed` if a write fails with an error of the kind `BrokenPipe`, and `Write` if it fails
+///   otherwise. A beginning of the output may be written, but not all of it.
+/// - `Memory` if memory runs out. A beginning of the output may be written, which has no cut line.
 pub fn replay_one<R: io::Read, W: io::Write, F: io::Write>(
     alloc: Global,
     hashing: RandomState,
@@ -60,7 +69,13 @@ pub fn replay_one<R: io::Read, W: io::Write, F: io::Write>(
     }
 }
 
-/// Reads to the end, and takes what was read for a recording.
+/// Reads the input to its end, and parses it as a recording.
+///
+/// # Errors
+///
+/// - `Read` if the input cannot be read.
+/// - `Memory` if memory runs out while the input is read.
+/// - `Line` if a line has a fault, or memory runs out at that line.
 pub fn read_recording<R: io::Read>(alloc: Global, input: &mut R) -> Result<Recording, ReplayFault>
     ensures recording { IfOk result (IsRead (R.remaining input.old) (R.remaining input.new)) }
     ensures fault { IfErr result (IsReadFault (R.remaining input.old) (R.remaining input.new)) }
@@ -75,7 +90,11 @@ pub fn read_recording<R: io::Read>(alloc: Global, input: &mut R) -> Result<Recor
     }
 }
 
-/// Takes the bytes for a recording.
+/// Parses the bytes as a recording.
+///
+/// # Errors
+///
+/// Returns `Line` if a line has a fault, or memory runs out at that line.
 pub fn parse_bytes(alloc: Global, bytes: &[u8]) -> Result<Recording, ReplayFault>
     ensures recording { IfOk result (IsParsed bytes.now) }
     ensures fault { IfErr result (λ e. (f : LineFault) × (e ≡ replay_fault.Line f)

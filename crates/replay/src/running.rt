@@ -1,4 +1,4 @@
-//! The run of a recording's lines.
+//! The run of the lines of a recording.
 ghost use Rattle.std.specs.Prelude.{◌≡◌, ◌≢◌, [], ◌∷◌, ◌+◌, ◌^◌, ◌<◌, ◌≤◌, length, IfOk, OnOk, IfErr, string_bytes};
 ghost use Rattle.event_state.specs.declared.refusal.Refusal.TheVariants as refusal_value;
 ghost use Rattle.recording.specs.Places.{first_lines};
@@ -21,7 +21,8 @@ use std::alloc::Global;
 use std::io;
 
 impl OpenedRecording {
-    /// Runs the lines behind the base, and prints what comes of them. What is returned is the core after the last line.
+    /// Runs the lines after the base, and prints their outcome. Returns the core after the last
+    /// line.
     pub(crate) fn run_lines<W: io::Write, F: io::Write>(
         self,
         printing: PrintOptions,
@@ -55,8 +56,15 @@ impl OpenedRecording {
         Ok(core)
     }
 
-    /// Runs the lines behind the base, and prints nothing of them. What is returned is the core after the last line. It ends where
-    /// memory runs out over a line: what that would have changed is missing then.
+    /// Runs the lines after the base, and prints none of them. Returns the core after the last
+    /// line.
+    ///
+    /// If `is_shown` is set, the number of lines done is shown on `faults`.
+    ///
+    /// # Errors
+    ///
+    /// Returns `Memory` if an event is refused with 30 Memory, or a roll is refused. The core is
+    /// dropped then.
     pub fn run_silently<F: io::Write>(
         self,
         alloc: Global,
@@ -81,7 +89,7 @@ impl OpenedRecording {
         Ok(core)
     }
 
-    // How much is done, of all the lines of the recording.
+    // Returns the progress of the run, which counts all lines of the recording.
     fn progress(&self, is_shown: bool) -> Progress
         ensures { result.is_shown ≡ is_shown }
     {
@@ -93,8 +101,10 @@ impl OpenedRecording {
     }
 }
 
-/// The number of the first line behind the base, for which there are the first lines of its version, one for each area and each
-/// range, and one for each interface and each LSA.
+/// Returns the number of the first line after the base.
+///
+/// The lines before it are the first lines of the version, and one for each area, range, interface
+/// and LSA of the base.
 pub fn first_event_line(version: Version, base: &Base) -> usize
     requires { first_number version base.now < 2 ^ 64 }
     ensures { result ≡ first_number version base.now }
@@ -106,7 +116,7 @@ pub fn first_event_line(version: Version, base: &Base) -> usize
     number + (base.interfaces.len() + base.lsas.len())
 }
 
-// How many lines come first, each in its place.
+// Returns the number of lines before the areas.
 fn first_lines(version: Version) -> usize
     ensures value { result ≡ first_lines version }
     ensures few { result ≤ 4 }
@@ -118,7 +128,7 @@ fn first_lines(version: Version) -> usize
     }
 }
 
-// Runs a line, and appends what comes of it.
+// Runs a line, and appends its outcome.
 fn run_line(
     format: Format,
     core: &mut Core,
@@ -136,7 +146,7 @@ fn run_line(
     }
 }
 
-// Runs a line. What is found for an address is not printed, but that something is found is a part of the run.
+// Runs a line without printing it. A lookup is made all the same: its match is a part of the run.
 fn take_line(core: &mut Core, line: Line) -> Result<(), Memory>
     ensures { OnOk result (IsRunTo core.old (line ∷ []) core.new) }
 {
@@ -150,7 +160,7 @@ fn take_line(core: &mut Core, line: Line) -> Result<(), Memory>
     }
 }
 
-// Applies an event.
+// Applies an event. Returns an error if it was refused because memory ran out.
 fn take_event(core: &mut Core, event: Event) -> Result<(), Memory>
     ensures { OnOk result (TakesEvent core.old event core.new) }
 {
@@ -160,7 +170,7 @@ fn take_event(core: &mut Core, event: Event) -> Result<(), Memory>
     }
 }
 
-// An error where the refusal is for want of memory.
+// Returns an error if the refusal is 30 Memory.
 fn unless_memory(refusal: Refusal) -> Result<(), Memory>
     ensures { OnOk result (refusal ≢ refusal_value.Memory) }
 {
@@ -170,7 +180,8 @@ fn unless_memory(refusal: Refusal) -> Result<(), Memory>
     Ok(())
 }
 
-// Rolls the core. That is refused where memory runs out, and where it ran out before: only then a table is behind.
+// Rolls the core. A roll is refused only if memory runs out, or if it ran out before: only then is
+// a table behind.
 fn take_roll(core: &mut Core) -> Result<(), Memory>
     ensures { OnOk result (TakesRoll core.old core.new) }
 {
@@ -180,7 +191,6 @@ fn take_roll(core: &mut Core) -> Result<(), Memory>
     }
 }
 
-// Rolls the core.
 fn roll(core: &mut Core) -> Result<u64, Refusal>
     ensures { RollsBy core.old result core.new }
 {

@@ -1,4 +1,4 @@
-//! What is shown after a run.
+//! The state that is shown after a run.
 ghost use Rattle.std.specs.Prelude.{◌++◌, OnOk, IfErr, string_bytes};
 ghost use Rattle.std.specs.List.{flat_map};
 ghost use Rattle.std.specs.FinMap.{entries};
@@ -16,7 +16,12 @@ use output_format::Format;
 use route_table::Table;
 use std::io;
 
-/// The items of the table.
+/// Prints the items of the table.
+///
+/// # Errors
+///
+/// Returns the reason why printing stopped. A beginning of the lines may be written then. After
+/// `Memory` it has no cut line, if the buffer had none.
 pub fn show_items<W: io::Write>(
     format: Format,
     table: &Table,
@@ -36,7 +41,12 @@ pub fn show_items<W: io::Write>(
     Ok(())
 }
 
-/// What is due in each area.
+/// Prints the summary-LSAs that are due in each area.
+///
+/// # Errors
+///
+/// Returns the reason why printing stopped. A beginning of the lines may be written then. After
+/// `Memory` it has no cut line, if the buffer had none.
 pub fn show_summaries<W: io::Write>(
     format: Format,
     summaries: &DueSummaries,
@@ -55,7 +65,7 @@ pub fn show_summaries<W: io::Write>(
     Ok(())
 }
 
-// What is due in an area.
+// Prints the summary-LSAs that are due in an area.
 fn show_area<W: io::Write>(
     format: Format,
     area: u32,
@@ -76,7 +86,12 @@ fn show_area<W: io::Write>(
     Ok(())
 }
 
-/// The LSAs, each with its scope.
+/// Prints the LSAs with their scopes.
+///
+/// # Errors
+///
+/// Returns the reason why printing stopped. A beginning of the lines may be written then. After
+/// `Memory` it has no cut line, if the buffer had none.
 pub fn show_lsas<W: io::Write>(
     format: Format,
     lsas: Vec<(Scope, Checked)>,

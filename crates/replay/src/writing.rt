@@ -1,4 +1,4 @@
-//! Bytes, written whole.
+//! Writes that go on until all bytes are written.
 ghost use Rattle.std.specs.Prelude.{◌≡◌, ◌↔◌, ◌≤◌, [], take, length, Some, IsTrue, IfOk, IfErr, OnOk, OnErr};
 ghost use Rattle.std.specs.declared.io.ErrorKind.TheVariants as io_kind;
 ghost use Rattle.std.specs.Io.KnownBytes.{Appends};
@@ -6,40 +6,46 @@ ghost use Rattle.replay.specs.Writing.{AppendsPart, IsWriteStep, IsWriteEnd, IsE
 
 use std::io;
 
-/// Why bytes were not written whole.
+/// The reason why not all bytes were written.
 #[derive(Clone, Copy, Debug, PartialEq, Eq)]
 pub enum WriteError {
-    /// The writer failed, or took nothing.
+    /// A write that failed, or that took no bytes.
     Failed,
-    /// The writer failed with `io::ErrorKind::BrokenPipe`: it is a pipe, and its reading end was closed.
+    /// A write that failed with `io::ErrorKind::BrokenPipe`: the reading end of the pipe was
+    /// closed.
     Closed,
 }
 
-// Whether a write that failed so is tried again: only one that was interrupted.
+// Returns true if the write was interrupted. Only then is it tried again.
 fn is_interrupted(kind: io::ErrorKind) -> bool
     ensures { IsTrue result ↔ (kind ≡ io_kind.Interrupted) }
 {
     kind == io::ErrorKind::Interrupted
 }
 
-// Whether a write failed so because the reading end of a pipe was closed.
+// Returns true if the write failed because the reading end of a pipe was closed.
 fn is_closed_pipe(kind: io::ErrorKind) -> bool
     ensures { IsTrue result ↔ (kind ≡ io_kind.BrokenPipe) }
 {
     kind == io::ErrorKind::BrokenPipe
 }
 
-// What one write came to: so many bytes were taken, and none only where it was interrupted.
+// The outcome of a write: the number of bytes that it took. It is 0 only after an interruption.
 #[derive(Clone, Copy)]
 struct Step {
     count: usize,
-    // proof: without it a write that failed for good could be tried again.
+    // proof: the kind of the error, so that only an interrupted write can be tried again.
     failed: Option<io::ErrorKind>,
     ghost why: { count ≡ 0 → failed ≡ Some io_kind.Interrupted },
 }
 
-/// Writes all the bytes; or a part of them, where the writer fails or takes nothing. A write that was
-/// interrupted is tried again. The kind of the writer's error decides between `Closed` and `Failed`.
+/// Writes all bytes. A write that was interrupted is tried again.
+///
+/// # Errors
+///
+/// Returns `Closed` if the writer's error is of the kind `BrokenPipe`, and `Failed` if it is of
+/// another kind or the writer takes no bytes. A beginning of the bytes may be written then, but not
+/// all of them.
 pub fn write_whole<W: io::Write>(out: &mut W, bytes: &[u8]) -> Result<(), WriteError>
     ensures ok { OnOk result (Appends (W.contents out.old) (W.contents out.new) bytes.now) }
     ensures err { OnErr result (AppendsPart (W.contents out.old) (W.contents out.new) bytes.now) }
@@ -59,7 +65,7 @@ pub fn write_whole<W: io::Write>(out: &mut W, bytes: &[u8]) -> Result<(), WriteE
     }
 }
 
-// One write.
+// Makes one write.
 fn write_some<W: io::Write>(out: &mut W, bytes: &[u8]) -> Result<Step, WriteError>
     ensures bound { IfOk result (λ step. step.count ≤ length bytes.now) }
     ensures ok { IfOk result (λ step. Appends (W.contents out.old) (W.contents out.new)
@@ -69,7 +75,7 @@ fn write_some<W: io::Write>(out: &mut W, bytes: &[u8]) -> Result<Step, WriteErro
     step_of(out.write(bytes))
 }
 
-// What the answer of one write comes to: a step, or why no more is written.
+// Returns the outcome of a write by its result, or the reason why no more is written.
 fn step_of(answer: io::Result<usize>) -> Result<Step, WriteError>
     ensures step { IfOk result (λ step. IsWriteStep answer step.count) }
     ensures end { IfErr result (IsWriteEnd answer) }
@@ -84,7 +90,7 @@ fn step_of(answer: io::Result<usize>) -> Result<Step, WriteError>
     }
 }
 
-// What a write comes to that failed so.
+// Returns the outcome of a write that failed with this error.
 fn step_of_error(kind: io::ErrorKind) -> Result<Step, WriteError>
     ensures step { IfOk result (λ step. (step.count ≡ 0) × (kind ≡ io_kind.Interrupted)) }
     ensures end { IfErr result (IsErrorEnd kind) }

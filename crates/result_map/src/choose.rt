@@ -1,18 +1,20 @@
-//! How results are chosen anew.
+//! The choice of a result, as a layer of routes defines it.
 ghost use Rattle.std.specs.Prelude.{IfOk};
 
 use ospf_types::memory::Memory;
 use std::alloc::Global;
 
-/// What chooses the result at a key, by all that offers something to it now.
+/// A layer's rule for the result at a key, with the inputs that offer something to the key.
 pub trait Choose<K, V> {
     ghost use Rattle.std.specs.Prelude.{Option};
 
-    // The result that has to stand at the key now.
+    // The result that is right at the key, by the present inputs.
     ghost IsChosen: { Self → K → Option V → Type 0 };
 
-    /// The result at the key; none where nothing is offered. The one that stands there may tell where to look first, and
-    /// decides nothing.
+    /// Returns the result at the key, or `None` if nothing is offered to it.
+    ///
+    /// `standing` is the present result at the key. It may hint at what to look up first, and the
+    /// returned result does not depend on it.
     fn choose(&self, alloc: Global, key: K, standing: Option<&V>) -> Result<Option<V>, Memory>
         ensures { IfOk result (IsChosen self.now key) };
 }

@@ -1,4 +1,4 @@
-//! Lists of destinations, by which layers tell one another what differs.
+//! Lists of destinations, by which layers report changes to each other.
 ghost use Rattle.std.specs.Prelude.{◌≡◌, ◌++◌, map as list_map, IfOk, OnOk};
 ghost use Rattle.std.specs.List.{filter_map};
 ghost use Rattle.ospf_types.specs.declared.key.Dest.TheVariants as dest_value;
@@ -9,7 +9,7 @@ use ospf_types::memory::Memory;
 use ospf_types::prefix::Prefix;
 use std::alloc::Global;
 
-/// The networks among the destinations, in their order.
+/// Returns the networks among the destinations, in the same order.
 pub fn networks_among(alloc: Global, dests: &[Dest]) -> Result<Vec<Prefix>, Memory>
     ensures { IfOk result (λ networks. networks.items ≡ filter_map network_of dests.now) }
 {
@@ -20,7 +20,7 @@ pub fn networks_among(alloc: Global, dests: &[Dest]) -> Result<Vec<Prefix>, Memo
     Ok(networks)
 }
 
-/// The routers among the destinations, in their order.
+/// Returns the Router IDs among the destinations, in the same order.
 pub fn routers_among(alloc: Global, dests: &[Dest]) -> Result<Vec<u32>, Memory>
     ensures { IfOk result (λ routers. routers.items ≡ filter_map router_of dests.now) }
 {
@@ -31,7 +31,11 @@ pub fn routers_among(alloc: Global, dests: &[Dest]) -> Result<Vec<u32>, Memory>
     Ok(routers)
 }
 
-/// Adds the networks as destinations.
+/// Appends the networks as destinations.
+///
+/// # Errors
+///
+/// Returns `Memory` if memory runs out. Only the first networks are then appended.
 pub fn add_networks(networks: &[Prefix], dests: &mut Vec<Dest>) -> Result<(), Memory>
     ensures { OnOk result (dests.new.items
         ≡ dests.old.items ++ list_map dest_value.Net networks.now) }
@@ -42,7 +46,11 @@ pub fn add_networks(networks: &[Prefix], dests: &mut Vec<Dest>) -> Result<(), Me
     Ok(())
 }
 
-/// Adds the routers as destinations.
+/// Appends the Router IDs as destinations.
+///
+/// # Errors
+///
+/// Returns `Memory` if memory runs out. Only the first Router IDs are then appended.
 pub fn add_routers(routers: &[u32], dests: &mut Vec<Dest>) -> Result<(), Memory>
     ensures { OnOk result (dests.new.items
         ≡ dests.old.items ++ list_map dest_value.Router routers.now) }
@@ -53,7 +61,7 @@ pub fn add_routers(routers: &[u32], dests: &mut Vec<Dest>) -> Result<(), Memory>
     Ok(())
 }
 
-/// The networks, and behind them the routers, as destinations.
+/// Returns the networks, followed by the Router IDs, as destinations.
 pub fn dests_of(alloc: Global, networks: &[Prefix], routers: &[u32]) -> Result<Vec<Dest>, Memory>
     ensures { IfOk result (λ dests. dests.items
         ≡ list_map dest_value.Net networks.now ++ list_map dest_value.Router routers.now) }
@@ -65,7 +73,7 @@ pub fn dests_of(alloc: Global, networks: &[Prefix], routers: &[u32]) -> Result<V
     Ok(dests)
 }
 
-// The network that the destination is.
+// Returns the network, if the destination is a network.
 fn network_of(dest: Dest) -> Option<Prefix>
     ensures { result ≡ network_of dest }
 {
@@ -75,7 +83,7 @@ fn network_of(dest: Dest) -> Option<Prefix>
     }
 }
 
-// The router that the destination is.
+// Returns the Router ID, if the destination is a router.
 fn router_of(dest: Dest) -> Option<u32>
     ensures { result ≡ router_of dest }
 {

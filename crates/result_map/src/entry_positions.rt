@@ -1,4 +1,4 @@
-//! Where results stand among the entries, so that a key is hashed once where its result is chosen anew.
+//! The places of results among the entries, so that recomputing a result hashes its key once.
 ghost use Rattle.std.specs.Prelude.{◌≡◌, ◌↔◌, None, Some, IfNone, IfOk, IfSome, IsTrue, OnErr, OnOk};
 ghost use Rattle.result_map.specs.Results.{OthersUnchanged, StandsAt, ReportsDifference, ReportsSame, result_in};
 
@@ -8,12 +8,12 @@ use indexmap::IndexMap;
 use ospf_types::memory::Memory;
 use word_hash::WordHash;
 
-/// Where the result of the key stands.
+/// Returns the place of the result at the key, or `None` if it has no result.
 pub(crate) fn place_of<K: ResultKey, V>(entries: &IndexMap<K, V, WordHash>, key: K) -> Option<usize>
     ensures at { IfSome result (StandsAt K.order entries.now.entries key) }
     ensures none { IfNone result (result_in K.order entries.now.entries key ≡ None) }
 {
-    // Where there are none, nothing is hashed.
+    // An empty map need not hash the key.
     if entries.is_empty() {
         return None;
     }
@@ -23,8 +23,10 @@ pub(crate) fn place_of<K: ResultKey, V>(entries: &IndexMap<K, V, WordHash>, key:
     }
 }
 
-/// This is the result at the key from now on, which stands at the place, where it has one. The answer tells whether it
-/// differs from the one before. If memory runs out, nothing changes.
+/// Sets the result at the key, or removes it if `fresh` is `None`. `place` is the result of
+/// `place_of`. Returns true if the result differs from the previous one.
+///
+/// If memory runs out, the entries are unchanged.
 pub(crate) fn exchange<K: ResultKey, V: Same + Drop>(
     entries: &mut IndexMap<K, V, WordHash>,
     place: Option<usize>,
@@ -56,7 +58,8 @@ pub(crate) fn exchange<K: ResultKey, V: Same + Drop>(
     }
 }
 
-// This is the result at the key from now on, which has one at the place. The answer tells whether it differs from that.
+// Replaces the result of the key, which is at the place. Returns true if it differs from the
+// previous one.
 fn write<K: ResultKey, V: Same + Drop>(
     entries: &mut IndexMap<K, V, WordHash>,
     place: usize,
@@ -73,14 +76,14 @@ fn write<K: ResultKey, V: Same + Drop>(
         (result_in K.order entries.new.entries) key result }
 {
     let stays = stands_at(entries, place, key, &fresh);
-    // proof: no key stands twice.
+    // proof: the map's invariant, that no key has two entries, is known by this call.
     let _ = entries.len();
-    // Written where the result stays too: beside it, it may tell where to look first.
+    // An equal result is written too, because it may have other hints than the old one.
     entries[place] = fresh;
     !stays
 }
 
-// Whether the result at the key, which stands at the place, is this one.
+// Returns true if the result of the key, which is at the place, is equal to `fresh`.
 fn stands_at<K: ResultKey, V: Same>(
     entries: &IndexMap<K, V, WordHash>,
     place: usize,
@@ -96,7 +99,7 @@ fn stands_at<K: ResultKey, V: Same>(
     }
 }
 
-// The key, whose result stands at the place, has none from now on. The last entry takes the place.
+// Removes the result of the key, which is at the place. The last entry moves to that place.
 fn take_out<K: ResultKey, V: Drop>(entries: &mut IndexMap<K, V, WordHash>, place: usize, key: K)
     requires { StandsAt K.order entries.old.entries key place }
     ensures here { result_in K.order entries.new.entries key ≡ None }

@@ -1,4 +1,4 @@
-//! The keys by which results are kept.
+//! The keys of results, and their order.
 ghost use Rattle.std.specs.Prelude.{Contains};
 ghost use Rattle.std.specs.List.Sorted.{IsStrictlySortedBy};
 ghost use Rattle.result_map.specs.Lists.{ListsExactly};
@@ -7,13 +7,13 @@ use ospf_types::key::{Dest, Key};
 use ospf_types::prefix::Prefix;
 use std::hash::Hash;
 
-/// A key of results. In its order only equal keys tie, and `==` tests just that.
+/// A type of keys. Only equal keys compare as equal in its order.
 pub trait ResultKey: Hash + Ord + Copy {
     ghost use Rattle.std.specs.Prelude.{◌≡◌};
     ghost use Rattle.std.specs.declared.cmp.Ordering.{Ordering};
     ghost use Rattle.std.specs.FinMap.{IsAntisymmetric};
 
-    // The order by its name: at each type of keys, that of the definitions.
+    // The order of the keys, under the name that the definitions use.
     ghost order: { Self → Self → Ordering };
 
     ghost ordered: { Self.cmp ≡ order };
@@ -68,7 +68,7 @@ impl ResultKey for u32 {
     ghost exact = { exact_unsigned };
 }
 
-/// The keys, ascending, each once.
+/// Sorts the keys and removes duplicates.
 pub fn ascending<K: ResultKey>(mut keys: Vec<K>) -> Vec<K>
     ensures in_order { IsStrictlySortedBy K.order result.items }
     ensures same { ListsExactly (Contains keys.items) result.items }

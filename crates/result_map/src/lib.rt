@@ -1,5 +1,5 @@
-//! Results by key, of which those are chosen anew that rest on something that may differ. A layer of routes keeps what it
-//! chose in a `ResultMap`, and tells the layer above at which keys another result stands now, and nothing else.
+//! Maps of results that follow changes key by key. A layer of routes keeps its results in a
+//! `ResultMap`. It passes on to the layer above only the keys whose result changed.
 #![tactic(auto)]
 
 mod choose;

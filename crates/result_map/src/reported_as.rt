@@ -1,15 +1,16 @@
-//! What keys are told as.
+//! The form in which changed keys are reported.
 ghost use Rattle.std.specs.Prelude.{◌≡◌};
 
 use crate::keys::ResultKey;
 use ospf_types::key::Dest;
 use ospf_types::prefix::Prefix;
 
-/// What a key is told as, where another result stands at it.
+/// A type in which a layer reports keys whose result changed. A network can be reported as a
+/// destination.
 pub trait ReportedAs<K> {
     ghost reported_as: { K → Self };
 
-    /// What the key is told as.
+    /// Returns the reported form of the key.
     fn told(key: K) -> Self
         ensures { result ≡ reported_as key };
 }

@@ -1,4 +1,28 @@
-//! Results by key.
+//! A map of results that is updated key by key.
+//!
+//! A layer of routes keeps its results in a `ResultMap`: an entry for each network, or a preferred
+//! route for each AS boundary router. The result at a key is the best of what the layers below
+//! offer to it (RFC 2328, 16), or `None` if nothing is offered. When something below the layer
+//! changes, the layer lists the keys that may be affected and calls `follow`:
+//!
+//! ```text
+//!  layer below            this layer                                   layer above
+//!  changed results ─────> keys that may be affected
+//!                               │ follow: `Choose::choose` at each key
+//!                               ▼
+//!                         new results ──── keys whose result changed ────> ..
+//! ```
+//!
+//! All other keys are offered the same as before, so their results are still right. Afterwards the
+//! map has the results that a build would give. Recomputing a key whose result stays the same has
+//! no effect on the layer above.
+//!
+//! If memory runs out, some results are recomputed and others are not. The layer is then spent: it
+//! has to be built again.
+//!
+//! A layer itself defines only its offers, and the keys to list. Inter-area and external routes use
+//! `follow`. Intra-area routes use `choose_each`, with keys that are sorted already and reported as
+//! destinations.
 ghost use Rattle.std.specs.Prelude.{◌≡◌, ◌≢◌, ◌++◌, [], IfOk, IfSome, IsSome, OnOk, OnErr, option_copied};
 ghost use Rattle.std.specs.List.{AllPairs};
 ghost use Rattle.std.specs.List.Sorted.{IsStrictlySortedBy};
@@ -21,15 +45,15 @@ use std::hash::{Hash, RandomState};
 use std::marker::Model;
 use word_hash::WordHash;
 
-/// Results by key, each of which is chosen anew where something that it rests on may differ.
+/// A map from keys to results, in which single results can be recomputed.
 pub struct ResultMap<K: Eq + Hash, V> {
     entries: IndexMap<K, V, WordHash>,
-    // Where the last change left the results that it told, one after another: no more than there are results. No answer
-    // depends on it.
+    // The indices in `entries` of the results that the last change replaced, in key order. There
+    // are no more of them than results. They are hints: no result of a call depends on them.
     left: Vec<usize>,
 }
 
-// proof: one call drops it, in place of a drop of each part wherever one is held.
+// proof: a value is dropped by one call, not part by part at each exit of a function.
 impl<K: Eq + Hash + Drop, V: Drop> Drop for ResultMap<K, V> {
     fn drop(self) {
         let ResultMap {
@@ -53,14 +77,14 @@ impl<K: Eq + Hash, V> Model for ResultMap<K, V> {
 }
 
 impl<K: ResultKey, V: Same + Drop> ResultMap<K, V> {
-    /// No results.
+    /// Creates an empty map. `hashing` supplies the keys of its hash function.
     pub fn new(alloc: Global, hashing: RandomState) -> ResultMap<K, V>
         ensures { result.entries ≡ [] }
     {
         ResultMap::with_hasher(alloc, WordHash::new(hashing))
     }
 
-    /// No results, of which the keys are hashed so.
+    /// Creates an empty map that uses the given hash function.
     pub fn with_hasher(alloc: Global, hashing: WordHash) -> ResultMap<K, V>
         ensures { result.entries ≡ [] }
     {
@@ -70,19 +94,21 @@ impl<K: ResultKey, V: Same + Drop> ResultMap<K, V> {
         }
     }
 
-    /// The result at the key.
+    /// Returns the result at the key.
     pub fn get(&self, key: K) -> Option<&V>
         ensures value { option_copied result ≡ result_at K.order self.now key }
     {
-        // Where there are none, nothing is hashed.
+        // An empty map need not hash the key.
         if self.entries.is_empty() {
             return None;
         }
         self.entries.get(&key)
     }
 
-    /// The result at the key, for a caller that asks for keys in ascending order: it keeps `next` from one to the next, 0 at
-    /// first. What was told last is read where it was left, and nothing is hashed.
+    /// Returns the result at the key, as `get` does, but usually without hashing it.
+    ///
+    /// It is for callers that look up, in ascending order, the keys that the last change returned.
+    /// They pass the same `next` each time, 0 at first.
     pub fn get_with_hint(&self, key: K, next: &mut usize) -> Option<&V>
         ensures value { option_copied result ≡ result_at K.order self.now key }
     {
@@ -91,7 +117,7 @@ impl<K: ResultKey, V: Same + Drop> ResultMap<K, V> {
                 *next = next.saturating_add(1);
                 Some(result)
             }
-            // Another has moved there since.
+            // The result that was here has moved, or has been removed.
             Some((standing, _)) if *standing < key => {
                 *next = next.saturating_add(1);
                 self.get(key)
@@ -100,7 +126,11 @@ impl<K: ResultKey, V: Same + Drop> ResultMap<K, V> {
         }
     }
 
-    /// The keys that have a result, in no stated order.
+    /// Returns a copy of the keys, in no stated order.
+    ///
+    /// # Errors
+    ///
+    /// Returns `Memory` if memory runs out.
     pub fn keys(&self, alloc: Global) -> Result<Vec<K>, Memory>
         ensures exact { IfOk result (λ keys. AreKeysOf K.order self.now keys.items) }
         ensures each_once { IfOk result (λ keys. AllPairs (λ j k. j ≢ k) keys.items) }
@@ -109,7 +139,7 @@ impl<K: ResultKey, V: Same + Drop> ResultMap<K, V> {
         Ok(keys)
     }
 
-    /// The keys that have a result, where they stand, in no stated order.
+    /// Returns the keys, in no stated order.
     pub fn key_slice(&self) -> &[K]
         ensures exact { AreKeysOf K.order self.now result.now }
         ensures each_once { AllPairs (λ j k. j ≢ k) result.now }
@@ -117,7 +147,7 @@ impl<K: ResultKey, V: Same + Drop> ResultMap<K, V> {
         self.entries.keys().as_slice()
     }
 
-    /// The keys that have a result, each with it, in no stated order.
+    /// Returns the keys with their results, in no stated order.
     pub fn entries(&self) -> Slice<'_, K, V>
         ensures exact { AreResults K.order self.now result }
         ensures keys { AreKeysOf K.order self.now (keys_of result) }
@@ -126,8 +156,12 @@ impl<K: ResultKey, V: Same + Drop> ResultMap<K, V> {
         self.entries.as_slice()
     }
 
-    /// The result at the key is the fresh one from now on. The answer tells whether it differs from the one before. If
-    /// memory runs out, nothing changes.
+    /// Sets the result at the key, or removes it if `fresh` is `None`. Returns true if it differs
+    /// from the previous result.
+    ///
+    /// # Errors
+    ///
+    /// Returns `Memory` if memory runs out. The results are then unchanged.
     pub fn update(&mut self, key: K, fresh: Option<V>) -> Result<bool, Memory>
         ensures here { OnOk result (result_at K.order self.new key ≡ fresh) }
         ensures others { OnOk result (OthersUnchanged (result_at K.order self.old)
@@ -143,9 +177,16 @@ impl<K: ResultKey, V: Same + Drop> ResultMap<K, V> {
         exchange(&mut self.entries, place, key, fresh)
     }
 
-    /// Chooses the results at the keys anew, where at all other keys there stands what has to. Then there does at each key. The
-    /// answer is the keys at which another result stands now, ascending, each once. If memory runs out, some results were
-    /// chosen anew and others were not.
+    /// Recomputes the results at the keys, and returns the keys whose result changed, in ascending
+    /// order without duplicates.
+    ///
+    /// `keys` must list every key whose result may be out of date. All results are right
+    /// afterwards.
+    ///
+    /// # Errors
+    ///
+    /// Returns `Memory` if memory runs out. Some results are then recomputed and others are not, so
+    /// the caller has to build the map again.
     pub fn follow<R: Choose<K, V>>(
         &mut self,
         alloc: Global,
@@ -165,8 +206,13 @@ impl<K: ResultKey, V: Same + Drop> ResultMap<K, V> {
         Ok(others)
     }
 
-    /// Chooses the results at the keys anew, which ascend, each once, and tells those at which another stands now. If memory
-    /// runs out, some results were chosen anew and others were not.
+    /// Recomputes the results at the keys, which are in ascending order without duplicates, and
+    /// appends to `told` the keys whose result changed. `told` is empty at first. A network can be
+    /// appended as a destination.
+    ///
+    /// # Errors
+    ///
+    /// Returns `Memory` if memory runs out. Some results are then recomputed and others are not.
     pub fn choose_each<R: Choose<K, V>, N: ReportedAs<K> + Drop>(
         &mut self,
         alloc: Global,
@@ -187,7 +233,7 @@ impl<K: ResultKey, V: Same + Drop> ResultMap<K, V> {
         Ok(())
     }
 
-    /// Takes all results out.
+    /// Removes all results.
     pub fn clear(&mut self)
         ensures { self.new.entries ≡ [] }
     {
@@ -195,14 +241,17 @@ impl<K: ResultKey, V: Same + Drop> ResultMap<K, V> {
         self.entries.clear();
     }
 
-    // Where the last change left the next result that it told.
+    // Returns the index of the result that the last change replaced as number `next`, or an index
+    // past the end.
     fn left_at(&self, next: usize) -> usize {
         self.left.get(next).copied().unwrap_or(usize::MAX)
     }
 }
 
-// Chooses the result at the key anew, and tells the key where another stands now: the answer is the place of that one, if
-// there is one. If memory runs out, the results at all other keys are as before.
+// Recomputes the result at the key, and appends the key to `told` if its result changed. Returns
+// the place of the new result, if it changed and there is one.
+//
+// The results at all other keys are unchanged, even if memory runs out.
 fn choose_one<K: ResultKey, V: Same + Drop, R: Choose<K, V>, N: ReportedAs<K> + Drop>(
     entries: &mut IndexMap<K, V, WordHash>,
     alloc: Global,
@@ -229,7 +278,7 @@ fn choose_one<K: ResultKey, V: Same + Drop, R: Choose<K, V>, N: ReportedAs<K> + 
     Ok(stands.then_some(at))
 }
 
-// What is told next stands at the place, where it has a result.
+// Appends the place of a result that was added or replaced, if there is one.
 fn leave(left: &mut Vec<usize>, place: Option<usize>) -> Result<(), Memory>
     ensures ok { OnOk result (left.new.items ≡ left.old.items ++ option_to_list place) }
     ensures err { OnErr result (left.new.items ≡ left.old.items) }
@@ -240,7 +289,7 @@ fn leave(left: &mut Vec<usize>, place: Option<usize>) -> Result<(), Memory>
     Ok(())
 }
 
-// The result that stands at the place.
+// Returns the result at the place.
 fn standing<K: Eq + Hash, V>(entries: &IndexMap<K, V, WordHash>, place: usize) -> Option<&V> {
     match entries.get_index(place) {
         Some((_, result)) => Some(result),

@@ -1,11 +1,11 @@
-//! Whether what is kept is the same as what was chosen anew.
+//! The comparison of an old and a new result.
 ghost use Rattle.std.specs.Prelude.{◌≡◌, ◌↔◌, IsTrue, option_copied};
 
 use ospf_types::entry::Entry;
 
-/// A value that is compared whole.
+/// A type whose values can be compared as a whole.
 pub trait Same {
-    /// Whether the two are equal.
+    /// Returns true if the values are equal.
     fn is_same(&self, other: &Self) -> bool
         ensures { IsTrue result ↔ (self.now ≡ other.now) };
 }
@@ -22,7 +22,7 @@ impl Same for u32 {
     }
 }
 
-/// Whether the two are equal, or both are absent.
+/// Returns true if the values are equal, or both are absent.
 pub fn are_same<T: Same>(a: Option<&T>, b: Option<&T>) -> bool
     ensures { IsTrue result ↔ (option_copied a.entry ≡ option_copied b.entry) }
 {

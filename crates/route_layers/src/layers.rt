@@ -1,4 +1,5 @@
-//! The layers above intra-area routes: inter-area routes, and external ones (RFC 2328, 16.2 and 16.4).
+//! The layers above intra-area routes: inter-area routes and external routes (RFC 2328, 16.2 and
+//! 16.4).
 ghost use Rattle.std.specs.Prelude.{ℕ, ◌≡◌, ◌≢◌, ◌↔◌, ◌≤◌, false, length, Option, Contains, IsTrue, IfOk, IfSome, IfNone, OnOk, map as list_map};
 ghost use Rattle.std.specs.List.Sorted.{IsStrictlySortedBy};
 ghost use Rattle.ospf_types.specs.declared.config.AreaConfig.{AreaConfig};
@@ -42,7 +43,8 @@ use std::hash::RandomState;
 // The Area ID of the backbone (RFC 2328, 3.1).
 const BACKBONE: u32 = 0;
 
-/// The routes of a state within its areas, on which the other routes rest: intra-area routes, and active ranges.
+/// A state, its intra-area routes and its active ranges, from which the other routes are
+/// calculated.
 #[derive(Clone, Copy)]
 pub struct IntraLayer<'a> {
     pub state: &'a State,
@@ -51,7 +53,7 @@ pub struct IntraLayer<'a> {
 }
 
 impl IntraLayer<'_> {
-    /// The inter-area routes of the state.
+    /// Builds the inter-area routes of the state.
     pub fn build_inter(self, alloc: Global, hashing: RandomState) -> Result<Inter, Memory>
         requires fit { AreFit self.state.now.config.areas self.state.now.databases }
         requires routed { IsRightFor (inputs_of self.state.now) self.intra.now }
@@ -69,7 +71,13 @@ impl IntraLayer<'_> {
         Inter::build(alloc, &inputs, hashing)
     }
 
-    /// The inter-area routes follow the state, the intra-area routes and the active ranges.
+    /// Updates the inter-area routes by the state, the intra-area routes and the active ranges.
+    /// Returns the destinations whose entry changed, in ascending order without duplicates.
+    ///
+    /// # Errors
+    ///
+    /// Returns `Memory` if memory runs out. The routes may then be out of date, and have to be
+    /// built again.
     pub fn follow_inter(
         self,
         alloc: Global,
@@ -99,7 +107,7 @@ impl IntraLayer<'_> {
         inter.update(alloc, &inputs, dirty)
     }
 
-    /// The external routes of the state.
+    /// Builds the external routes of the state.
     pub fn build_external(
         self,
         alloc: Global,
@@ -128,7 +136,13 @@ impl IntraLayer<'_> {
         External::build(alloc, &inputs, hashing)
     }
 
-    /// The external routes follow the state and the layers below.
+    /// Updates the external routes by the state and the layers below. Returns the destinations
+    /// whose result changed, in ascending order without duplicates.
+    ///
+    /// # Errors
+    ///
+    /// Returns `Memory` if memory runs out. The routes may then be out of date, and have to be
+    /// built again.
     pub fn follow_external(
         self,
         alloc: Global,
@@ -166,7 +180,7 @@ impl IntraLayer<'_> {
     }
 }
 
-// The database of AS-external-LSAs.
+// Returns the database of AS-external-LSAs.
 fn externals(state: &State) -> &Database
     requires { AreFit state.now.config.areas state.now.databases }
     ensures { result.now.lsas ≡ lsas_in (database_of state.now scope_value.As) }
@@ -177,7 +191,7 @@ fn externals(state: &State) -> &Database
     database
 }
 
-// The Area IDs, in the order of the configuration.
+// Returns the Area IDs, in the order of the configuration.
 fn area_ids(alloc: Global, state: &State) -> Result<SmallVec<u32, 4>, Memory>
     ensures { IfOk result (λ ids. ids.items ≡ list_map (λ a. a.id) state.now.config.areas) }
 {
@@ -188,7 +202,8 @@ fn area_ids(alloc: Global, state: &State) -> Result<SmallVec<u32, 4>, Memory>
     Ok(ids)
 }
 
-/// The Area IDs of the active areas, in the order of the configuration. Up to four stand in the value; more take memory.
+/// Returns the Area IDs of the active areas, in the order of the configuration. Up to four are
+/// stored inline; more are allocated.
 pub fn active_areas(alloc: Global, state: &State) -> Result<SmallVec<u32, 4>, Memory>
     ensures { IfOk result (λ active. AreActive state.now active.items) }
 {
@@ -201,8 +216,8 @@ pub fn active_areas(alloc: Global, state: &State) -> Result<SmallVec<u32, 4>, Me
     Ok(active)
 }
 
-// The area whose summaries are examined (RFC 2328, 16.2): the backbone where two areas or more have an interface that is
-// up, or the only area that has one.
+// Returns the examined area (RFC 2328, 16.2). It is the backbone if two or more areas have an
+// interface that is up, or else the only area that has one.
 fn examined(state: &State) -> Option<ExaminedArea<'_>>
     requires { AreFit state.now.config.areas state.now.databases }
     ensures { IsExaminedOf state.now result }
@@ -214,7 +229,7 @@ fn examined(state: &State) -> Option<ExaminedArea<'_>>
     Some(ExaminedArea { area, database })
 }
 
-// Its Area ID.
+// Returns the Area ID of the examined area.
 fn examined_area(state: &State) -> Option<u32>
     requires { AreFit state.now.config.areas state.now.databases }
     ensures some { IfSome result (λ area.
@@ -233,8 +248,8 @@ fn examined_area(state: &State) -> Option<u32>
     active
 }
 
-// Whether the area has an interface that is up. The interfaces of an area mostly have ids side by side, so they are looked
-// through from both ends.
+// Returns true if the area has an interface that is up. The interfaces of an area usually have
+// adjacent ids, so the search starts at both ends.
 fn is_active(state: &State, area: u32) -> bool
     ensures { IsTrue result ↔ IsUpIn state.now area }
 {
@@ -250,7 +265,7 @@ fn is_active(state: &State, area: u32) -> bool
     false
 }
 
-// Takes the last of the interfaces that are left. The answer tells whether it is one of the area's, and up.
+// Removes the last interface from `left`. Returns true if it is in the area and up.
 fn is_last_up_in(left: &mut Iter<'_, u8, Interface>, area: u32) -> bool
     ensures up { IsTrue result → IsUpAmong left.old area }
     ensures among { (e : ℕ × InterfaceValue) → Contains left.new e → Contains left.old e }
@@ -263,7 +278,7 @@ fn is_last_up_in(left: &mut Iter<'_, u8, Interface>, area: u32) -> bool
     }
 }
 
-// The backbone, where it is configured.
+// Returns the Area ID of the backbone, if the backbone is configured.
 fn backbone(state: &State) -> Option<u32>
     ensures some { IfSome result (λ id. (id ≡ 0)
         × ((a : AreaConfig) × Contains state.now.config.areas a × (a.id ≡ 0))) }

@@ -1,5 +1,5 @@
-//! The layers of routes above the intra-area ones (RFC 2328, 16.2, 16.3 and 16.4), each built and updated by what a state
-//! has; and the areas that are active.
+//! The layers of routes above the intra-area routes (RFC 2328, 16.2, 16.3 and 16.4), built and
+//! updated from a state; and the active areas.
 #![tactic(auto)]
 
 mod layers;

@@ -1,4 +1,4 @@
-//! A network and the item that a table is to have for it.
+//! The new item of a network.
 ghost use Rattle.std.specs.Prelude.{◌≡◌, ◌↔◌, IfOk, IsTrue, IsFalse, IsSome, Some, option_copied};
 ghost use Rattle.route_table.specs.Changes.{HasPlaceFor, IsNewItem};
 ghost use Rattle.route_table.specs.declared.table.Item.TheVariants as item;
@@ -10,14 +10,15 @@ use ospf_types::prefix::Prefix;
 use std::alloc::Global;
 use std::marker::Model;
 
-// The place of an item that stands in no table.
+// The index of an item that is not in the table.
 const NOWHERE: usize = usize::MAX;
 
-/// A network with the item that a table is to have for it, or with none.
+/// A network with the new item that it gets in a table, or with `None` if it loses its item.
 #[derive(Debug, Drop)]
 pub struct NewItem {
     pub(crate) network: Prefix,
-    // Where the table has the item that this one replaces. If that is wrong, it is looked for.
+    // The index of the item that this one replaces. It is a hint: if it is wrong, the network is
+    // searched.
     pub(crate) place: usize,
     pub(crate) item: Option<Item>,
 }
@@ -34,7 +35,7 @@ impl Model for NewItem {
 }
 
 impl NewItem {
-    /// The network with the item, or with none.
+    /// Creates a new item for the network, or its removal.
     pub fn new(network: Prefix, item: Option<Item>) -> NewItem
         ensures { result ≡ (network, item) }
     {
@@ -45,14 +46,14 @@ impl NewItem {
         }
     }
 
-    /// The network.
+    /// Returns the network.
     pub fn network(&self) -> Prefix
         ensures { result ≡ self.now.0 }
     {
         self.network
     }
 
-    // Whether it has an item, and the table may have none for the network.
+    // Returns true if there is an item and the network may have none in the table so far.
     pub(crate) fn needs_place(&self, table: &Table) -> bool
         ensures needed { IsTrue result → IsSome self.now.1 }
         ensures has_place { IsFalse result → HasPlaceFor table.now.items self.now }
@@ -62,8 +63,10 @@ impl NewItem {
 }
 
 impl Table {
-    /// The item, or none, as what the table is to have for the network; nothing if it has just that. It
-    /// looks for the network once, and a change to the new item does not look for it again.
+    /// Returns the new item of the network if the table has another one, or `None` if it has the
+    /// same.
+    ///
+    /// It searches the network once. Changing the table to the new item needs no second search.
     pub fn new_item(&self, network: Prefix, item: Option<Item>) -> Option<NewItem>
         ensures { IsNewItem self.now.items network item result }
     {
@@ -81,8 +84,12 @@ impl Table {
         })
     }
 
-    /// The route as what the table is to have for the network; nothing if it has just that. A copy is made only if the
-    /// table has something else.
+    /// Returns the route as the new item of the network if the table has another item, or `None` if
+    /// it has the same. The route is copied only if it differs.
+    ///
+    /// # Errors
+    ///
+    /// Returns `Memory` if memory runs out.
     pub fn new_route(
         &self,
         alloc: Global,
@@ -107,7 +114,7 @@ impl Table {
 }
 
 impl Item {
-    // Whether it is that route.
+    // Returns true if the item is this route.
     fn is_route(&self, entry: &Entry) -> bool
         ensures { IsTrue result ↔ (self.now ≡ item.Route entry.now) }
     {
@@ -117,7 +124,7 @@ impl Item {
         }
     }
 
-    // Whether it is that item.
+    // Returns true if the item equals the other one.
     fn is_item(&self, other: Option<&Item>) -> bool
         ensures { IsTrue result ↔ (Some self.now ≡ option_copied other.entry) }
     {

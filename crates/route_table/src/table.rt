@@ -1,4 +1,4 @@
-//! The items of the networks, and how they are found.
+//! The routing table: a map from networks to items, with longest-match lookup.
 ghost use Rattle.std.specs.Prelude.{◌≡◌, ◌<◌, ◌^◌, OnOk, OnErr, None, length, option_copied, option_map, IsSome, IsTrue};
 ghost use Rattle.std.specs.FinMap as map;
 ghost use Rattle.std.specs.List.Sorted.{IsStrictlySortedBy};
@@ -15,27 +15,28 @@ use std::hash::RandomState;
 use std::marker::Model;
 use word_hash::WordHash;
 
-/// What the table has for a network.
+/// The item that the table has for a network.
 #[derive(Debug, Drop)]
 pub enum Item {
-    /// The network's route.
+    /// The network has a route.
     Route(Entry),
-    /// Packets to the network are discarded: an active area address range that no route stands for
-    /// (RFC 2328, 11.1).
+    /// Packets to the network are discarded: it is the prefix of an active address range, and has
+    /// no route (RFC 2328, 11.1).
     Discard,
 }
 
-/// The networks with their items, and how many events the table follows.
+/// The routing table: the networks with their items, and the serial of the last event that it
+/// reflects.
 #[derive(Debug)]
 pub struct Table {
     alloc: Global,
-    // The keys under which networks are hashed.
+    // The keys of the hash function for networks.
     hashing: WordHash,
     items: PrefixIndex<Item>,
     serial: u64,
 }
 
-// proof: one call drops it, in place of a drop of each part wherever one is held.
+// proof: a value is dropped by one call, not part by part at each exit of a function.
 impl Drop for Table {
     fn drop(self) {
         let Table {
@@ -57,18 +58,18 @@ impl Model for Table {
     ghost view = { λ t. record { items = t.items; serial = t.serial } };
 }
 
-/// What the longest match of an address answers.
+/// The result of a longest match.
 #[derive(Debug, Drop)]
 pub enum Match<'a> {
-    /// A route, with its network.
+    /// The address has this route, to this network.
     Route(Prefix, &'a Entry),
-    /// Packets to the address are discarded, for this network's sake.
+    /// Packets to the address are discarded, because of this network.
     Discard(Prefix),
-    /// No network of the table has the address.
+    /// No network of the table contains the address.
     None,
 }
 
-/// The networks with their items, in ascending order.
+/// An iterator over the networks with their items, in ascending order.
 #[derive(Drop)]
 pub struct Items<'a> {
     left: prefix_index::Iter<'a, Item>,
@@ -99,23 +100,23 @@ impl<'a> Iterator for Items<'a> {
 }
 
 impl Table {
-    /// The table with no items. It takes no memory yet. Networks are hashed under keys that the random
-    /// state gives.
+    /// Creates an empty table with this serial. `hashing` supplies the keys of its hash function.
+    /// No memory is allocated yet.
     pub fn new(alloc: Global, serial: u64, hashing: RandomState) -> Table
         ensures { result ≡ record { items = map.empty; serial = serial } }
     {
         Table::under(alloc, serial, WordHash::new(hashing))
     }
 
-    /// A table with no items, which has this one's serial and hashes under its keys. It takes no memory
-    /// yet.
+    /// Creates an empty table with the serial and the hash function of this one. No memory is
+    /// allocated yet.
     pub fn empty_copy(&self, alloc: Global) -> Table
         ensures { result ≡ record { items = map.empty; serial = self.now.serial } }
     {
         Table::under(alloc, self.serial, self.hashing)
     }
 
-    // The table with no items, under these keys.
+    // Creates an empty table with this hash function.
     fn under(alloc: Global, serial: u64, hashing: WordHash) -> Table
         ensures { result ≡ record { items = map.empty; serial = serial } }
     {
@@ -127,21 +128,22 @@ impl Table {
         }
     }
 
-    /// How many events the table follows.
+    /// Returns the serial: that of the last event that the table reflects.
     pub fn serial(&self) -> u64
         ensures { result ≡ self.now.serial }
     {
         self.serial
     }
 
-    /// The network's item.
+    /// Returns the item of the network.
     pub fn get(&self, prefix: Prefix) -> Option<&Item>
         ensures { option_copied result ≡ map.get self.now.items prefix }
     {
         self.items.get(prefix)
     }
 
-    /// The networks with their items, by ascending address, and at one address the shorter first.
+    /// Returns an iterator over the networks with their items, by ascending address and then by
+    /// length, the shorter first.
     pub fn items(&self) -> Items<'_>
         ensures all { result ≡ map.entries self.now.items }
         ensures in_order { IsStrictlySortedBy network_cmp (keys_of result) }
@@ -152,9 +154,10 @@ impl Table {
         }
     }
 
-    /// What the table has for packets to an address (host order): the item of the longest network
-    /// that contains it (RFC 2328, 11.1). It takes no memory, and looks for at most 33 networks,
-    /// however many the table has.
+    /// Returns the longest match of an address (in host order): the item of the longest network
+    /// that contains it (RFC 2328, 11.1).
+    ///
+    /// It allocates no memory, and looks for at most 33 networks, whatever the size of the table.
     pub fn lookup(&self, address: u32) -> Match<'_>
         ensures { IsMatch self.now.items address result }
     {
@@ -165,8 +168,12 @@ impl Table {
         }
     }
 
-    /// Sets the network's item, in place of the one that it had. That one's memory serves for it, so
-    /// memory can run out only for a new network.
+    /// Sets the item of the network, in place of the previous one.
+    ///
+    /// # Errors
+    ///
+    /// Returns `Memory` if memory runs out, which can happen only if the network had no item. The
+    /// table is then unchanged.
     pub fn set(&mut self, prefix: Prefix, item: Item) -> Result<(), Memory>
         ensures ok { OnOk result (self.new ≡ table_with self.old prefix item) }
         ensures err { OnErr result (self.new ≡ self.old) }
@@ -175,7 +182,7 @@ impl Table {
         self.items.insert(prefix, item)
     }
 
-    // What `set` does, with no look-up if the network's item stands at the place.
+    // Sets the item like `set`, but without searching if the network's item is at this index.
     pub(crate) fn set_at(&mut self, place: usize, prefix: Prefix, item: Item) -> Result<(), Memory>
         ensures ok { OnOk result (self.new ≡ table_with self.old prefix item) }
         ensures err { OnErr result (self.new ≡ self.old) }
@@ -184,40 +191,40 @@ impl Table {
         self.items.insert_at(place, prefix, item)
     }
 
-    // The network's item, with the place where it stands.
+    // Returns the item of the network with its index.
     pub(crate) fn find(&self, prefix: Prefix) -> Option<(usize, &Item)>
         ensures { option_map (λ found. found.1.now) result ≡ map.get self.now.items prefix }
     {
         self.items.find(prefix)
     }
 
-    // Whether the network's item stands at the place.
+    // Returns true if the item at the index is the network's.
     pub(crate) fn has_at(&self, place: usize, prefix: Prefix) -> bool
         ensures { IsTrue result → IsSome (map.get self.now.items prefix) }
     {
         self.items.has_at(place, prefix)
     }
 
-    /// Sets how many events the table follows.
+    /// Sets the serial of the table.
     pub fn set_serial(&mut self, serial: u64)
         ensures { self.new ≡ record self.old { serial = serial } }
     {
         self.serial = serial;
     }
 
-    // No network has an item any more.
+    // Removes all items.
     pub(crate) fn clear(&mut self)
         ensures { self.new ≡ record self.old { items = map.empty } }
     {
         self.items.clear();
     }
 
-    // What the table's memory comes from.
+    // Returns the allocator of the table.
     pub(crate) fn alloc(&self) -> Global {
         self.alloc
     }
 
-    // Takes the network's item out.
+    // Removes the item of the network.
     pub(crate) fn remove(&mut self, prefix: Prefix)
         ensures { self.new ≡ record self.old { items = map.remove self.old.items prefix } }
     {
@@ -225,7 +232,7 @@ impl Table {
     }
 }
 
-// The match that answers a network with its item.
+// Returns the match of an address whose longest network has this item.
 fn match_of(prefix: Prefix, item: &Item) -> Match<'_>
     ensures { StandsAs prefix item.now result }
 {

@@ -1,4 +1,4 @@
-//! What the least links into a vertex give it, of the next hops of their tails (RFC 2328, 16.1.1).
+//! The next hops that a vertex gets over its least links (RFC 2328, 16.1.1).
 ghost use Rattle.std.specs.Prelude.{◌≡◌, ◌↔◌, IfSome, IfNone, IsTrue, IfOk, OnOk, Some, option_copied, option_to_list};
 ghost use Rattle.std.specs.FinMap as map;
 ghost use Rattle.ospf_types.specs.Distances.{FirstOnly};
@@ -15,7 +15,8 @@ use tree_parts::{Distances, NextHopMap};
 use vertex_graph::{Graph, Link, LinkLabel};
 use vertex_map::HintedVertex;
 
-/// A tree whose next hops are being updated: the distances are those after, and each next hop is of before or after.
+/// A tree whose next hops are being updated. The distances are new, and the next hops of a vertex
+/// may be old or new.
 #[derive(Clone, Copy)]
 pub(crate) struct TreeInUpdate<'a> {
     pub(crate) graph: &'a Graph,
@@ -24,7 +25,8 @@ pub(crate) struct TreeInUpdate<'a> {
 }
 
 impl TreeInUpdate<'_> {
-    /// The next hops that the least links into a vertex, which is this far, give it.
+    /// Returns the next hops that the vertex gets over the least links to it. `far` is its
+    /// distance.
     pub(crate) fn gather(self, alloc: Global, vertex: &HintedVertex, far: u32) -> Result<HopSet, Memory>
         requires { map.get self.distances.now vertex.now ≡ Some far }
         ensures { IfOk result (AreGiven self.entry.graph.now
@@ -38,7 +40,8 @@ impl TreeInUpdate<'_> {
         Ok(set)
     }
 
-    // Adds what a link gives its head, which is this far, if it is a least link.
+    // Adds the next hops that the link passes on to its head, if it is a least link. `far` is the
+    // distance of the head.
     fn add_given(self, root: u32, link: &Link, far: u32, set: &mut HopSet) -> Result<(), Memory>
         requires { map.get self.distances.now link.now.to ≡ Some far }
         ensures { OnOk result
@@ -48,7 +51,7 @@ impl TreeInUpdate<'_> {
         if !is_least(self.distances, link, far) {
             return Ok(());
         }
-        // 16.1.1: out of the root the interface of the link, else what the tail has.
+        // 16.1.1: for the root, the interface of the link; else the next hops of the tail.
         if is_at_root(root, &link.from) {
             return add_first(link.to.vertex(), &link.label, set);
         }
@@ -59,7 +62,7 @@ impl TreeInUpdate<'_> {
     }
 }
 
-/// Whether both are the same next hops.
+/// Returns true if the next hops are the same.
 pub(crate) fn are_same(before: Option<&HopSet>, after: &HopSet) -> bool
     ensures { IsTrue result ↔ HaveSameHops (option_copied before.entry) after.now }
 {
@@ -69,7 +72,7 @@ pub(crate) fn are_same(before: Option<&HopSet>, after: &HopSet) -> bool
     }
 }
 
-// Whether a link is a least link: its head, which is this far, is as far as tail and link together.
+// Returns true if the link is a least link. `far` is the distance of its head.
 fn is_least(distances: &Distances, link: &Link, far: u32) -> bool
     requires { map.get distances.now link.now.to ≡ Some far }
     ensures { IsTrue result ↔ IsLeastLink (map.get distances.now) link.now }
@@ -80,7 +83,7 @@ fn is_least(distances: &Distances, link: &Link, far: u32) -> bool
     }
 }
 
-// Adds the next hop of a path that is one link, to this vertex.
+// Adds the next hop of the path that consists of one link from the root.
 fn add_first(to: Vertex, label: &LinkLabel, set: &mut HopSet) -> Result<(), Memory>
     ensures { OnOk result (IsUnion set.old set.new (FirstOnly to label.now)) }
 {
@@ -90,7 +93,8 @@ fn add_first(to: Vertex, label: &LinkLabel, set: &mut HopSet) -> Result<(), Memo
     }
 }
 
-// The next hop of a path that is one link.
+// Returns the next hop of the path that consists of one link from the root, or `None` if the label
+// has no interface.
 fn first_hop(to: Vertex, label: &LinkLabel) -> Option<NextHop>
     ensures { option_to_list result ≡ first_hops to label.now }
 {
@@ -101,8 +105,8 @@ fn first_hop(to: Vertex, label: &LinkLabel) -> Option<NextHop>
     }
 }
 
-// Adds what a link hands on of the next hops of its tail. Only of a network that is attached to the
-// root are they others than those.
+// Adds the next hops that a link passes on from its tail. They are the same as the tail's, unless
+// the tail is a network attached to the root.
 fn add_handed_on(tail: &HopSet, label: &LinkLabel, set: &mut HopSet) -> Result<(), Memory>
     ensures { OnOk result (IsUnion set.old set.new (IsOfSome tail.now (IsHandedOn label.now))) }
 {
@@ -115,7 +119,7 @@ fn add_handed_on(tail: &HopSet, label: &LinkLabel, set: &mut HopSet) -> Result<(
     Ok(())
 }
 
-// Adds all of these next hops. Most often they are the first.
+// Adds all next hops of the tail. The set is usually empty before.
 fn unite(tail: &HopSet, set: &mut HopSet) -> Result<(), Memory>
     ensures { OnOk result (AreUnited set.old tail.now set.new) }
 {
@@ -132,18 +136,18 @@ fn has_direct(hops: &[NextHop]) -> bool
     hops.iter().any(|hop| matches!(hop, NextHop::Direct(_)))
 }
 
-// Adds what a link hands on of one next hop.
+// Adds the next hops that a link passes on for one next hop of its tail.
 fn add_handed(hop: NextHop, label: &LinkLabel, set: &mut HopSet) -> Result<(), Memory>
     ensures { OnOk result (IsUnion set.old set.new (HandsOn hop label.now)) }
 {
     match hop {
-        // 16.1.1: behind a network that is attached to the root, the router's address on that network.
+        // 16.1.1: after a network attached to the root, the router's address on that network.
         NextHop::Direct(interface) => add_addresses(interface, label, set),
         NextHop::Peer(_) | NextHop::Router(_, _) => set.put(hop),
     }
 }
 
-// Adds the addresses on a network that is attached to this interface.
+// Adds the next hops over this interface, one for each address in the label.
 fn add_addresses(interface: u8, label: &LinkLabel, set: &mut HopSet) -> Result<(), Memory>
     ensures { OnOk result (IsUnion set.old set.new (HandsOn (NextHop.Direct interface) label.now)) }
 {

@@ -1,11 +1,11 @@
-//! The places of vertices, as their links tell them.
+//! Hints to vertices, taken from links.
 ghost use Rattle.std.specs.Prelude.{◌≡◌, ◌↔◌, IsTrue};
 
 use ospf_types::entry::Vertex;
 use vertex_graph::{Graph, Link};
 use vertex_map::HintedVertex;
 
-/// The vertex that these links lead out of, at the place that the first of them tells.
+/// Returns the vertex, with the hint of the first of these links, which leave from it.
 pub(crate) fn tail_of(links: &[Link], vertex: Vertex) -> HintedVertex
     ensures { result ≡ vertex }
 {
@@ -15,7 +15,8 @@ pub(crate) fn tail_of(links: &[Link], vertex: Vertex) -> HintedVertex
     }
 }
 
-/// The root of the graph, at the place that its links tell. They are looked for at the place that it had.
+/// Returns the root of the graph, with the hint of its links. `before` has the hint of the last
+/// repair, by which the links are looked up.
 pub(crate) fn root_of(graph: &Graph, before: &HintedVertex) -> HintedVertex
     ensures { result ≡ Vertex.Router graph.now.root }
 {
@@ -23,7 +24,7 @@ pub(crate) fn root_of(graph: &Graph, before: &HintedVertex) -> HintedVertex
     tail_of(graph.links_from_at(&before.with_vertex(root)), root)
 }
 
-/// Whether the vertex is the root.
+/// Returns true if the vertex is the root.
 pub(crate) fn is_at_root(root: u32, vertex: &HintedVertex) -> bool
     ensures { IsTrue result ↔ (vertex.now ≡ Vertex.Router root) }
 {

@@ -1,5 +1,6 @@
-//! The first part of a repair: which vertices lose their distance, since the links that went took all
-//! that supported it. A full calculation has no such step: 16.1 (1) begins it with the root only.
+//! The first part of a repair: the vertices that lose their distance, because no link supports it
+//! any more. A full calculation does not need it, since it starts with the root only (RFC 2328,
+//! 16.1 (1)).
 ghost use Rattle.std.specs.Prelude.{◌≡◌, ◌↔◌, ◌<◌, [], IsTrue, IfSome, IfNone, IfOk, OnOk, Contains, length};
 ghost use Rattle.std.specs.FinMap as map;
 ghost use Rattle.tree_parts.specs.Maps.{most_distance};
@@ -16,7 +17,7 @@ use vertex_graph::{Graph, Link, LinkChanges};
 use vertex_map::{HintedVertex, VertexMap};
 use word_hash::WordHash;
 
-/// Finds what is lost by the links that went.
+/// Finds the vertices that are lost because links were removed.
 pub(crate) fn lose_support(
     graph: &Graph,
     changes: &LinkChanges,
@@ -35,17 +36,18 @@ pub(crate) fn lose_support(
     Ok(())
 }
 
-/// What is found while vertices are suspected to have lost all that supported them: those that lose their distance, and
-/// those that are looked at again. It is kept for its memory.
+/// The search for lost vertices: the lost ones, the ones to be updated later (`pending`), and the
+/// suspects. It is kept for its memory.
 pub(crate) struct Search {
     pub(crate) lost: VertexSet,
     pub(crate) pending: Pending,
     suspects: VertexSet,
-    // At which of the links into a vertex a search for support stopped, if it passed over many.
+    // The index, among the links to a vertex, where the search for support stopped, if it was at
+    // least eight links further on.
     stops: VertexMap<usize>,
 }
 
-// proof: one call drops it, in place of a drop of each part wherever one is held.
+// proof: a value is dropped by one call, not part by part at each exit of a function.
 impl Drop for Search {
     fn drop(self) {
         let Search {
@@ -71,7 +73,7 @@ impl Search {
         }
     }
 
-    /// Gives back the memory of what was found, but not that of the queue.
+    /// Gives back the memory of the search, except the queue's.
     pub(crate) fn give_back(&mut self, alloc: Global, hashing: WordHash) {
         self.lost = VertexSet::new(alloc, hashing);
         self.pending.stale = VertexSet::new(alloc, hashing);
@@ -79,7 +81,7 @@ impl Search {
         self.stops = VertexMap::new(alloc, hashing);
     }
 
-    // Takes out what the last search found. No more marks stay than so many.
+    // Clears the results of the last search. At most `most` marks are kept in each set.
     fn clear(&mut self, most: usize)
         ensures lost { self.new.lost ≡ [] }
         ensures stale { self.new.pending.stale ≡ [] }
@@ -91,7 +93,7 @@ impl Search {
         self.stops.clear();
     }
 
-    // Suspects the heads of the least links among those that went.
+    // Suspects the heads of the removed least links.
     fn suspect_heads(
         &mut self,
         gone: &[Link],
@@ -110,7 +112,8 @@ impl Search {
         Ok(())
     }
 
-    // Suspects the heads of the links out of a lost vertex that it might have supported.
+    // Suspects the heads of the links that a lost vertex may have supported. `distance` is the
+    // distance that it had.
     fn suspect_beyond(
         &mut self,
         links: &[Link],
@@ -132,13 +135,13 @@ impl Search {
         Ok(())
     }
 
-    // The vertex is stale, and suspected unless it is lost.
+    // Makes the vertex stale, and a suspect unless it is lost.
     fn suspect(&mut self, vertex: &HintedVertex) -> Result<(), Memory>
         requires within { AreWithin self.old.lost self.old.suspects self.old.pending.stale }
         ensures told { OnOk result (AreToldIn (λ v. vertex.now ≡ v) self.old self.new) }
         ensures lost { OnOk result (self.new.lost ≡ self.old.lost) }
     {
-        // One that was not stale is neither lost nor suspected.
+        // A vertex that was not stale is neither lost nor a suspect.
         if self.pending.stale.add(vertex)? {
             return self.suspects.push(vertex);
         }
@@ -148,7 +151,8 @@ impl Search {
         Ok(())
     }
 
-    // Finds whether a suspect is lost.
+    // Makes the suspect lost if it was reached and no link supports it. The
+    // vertices that it may have supported then become suspects.
     fn judge(
         &mut self,
         graph: &Graph,
@@ -182,7 +186,7 @@ impl Search {
     }
 }
 
-// The vertices that keep their distance: those that were reached and are not lost.
+// The vertices that keep their distance: they were reached and are not lost.
 #[derive(Clone, Copy)]
 struct StillReached<'a> {
     distances: &'a Distances,
@@ -190,8 +194,10 @@ struct StillReached<'a> {
 }
 
 impl StillReached<'_> {
-    // Whether a link into the vertex supports it at its distance. The search goes on where one for the vertex stopped,
-    // if that passed over eight links or more. What that one passed over is read again only before the vertex is lost.
+    // Returns true if a link supports the vertex at its distance.
+    //
+    // The search continues where the last one for this vertex stopped. The links before that place
+    // are read only if no later link supports the vertex.
     fn is_supported(
         self,
         stops: &mut VertexMap<usize>,
@@ -212,7 +218,7 @@ impl StillReached<'_> {
         Ok(self.find_support(passed, distance).is_some())
     }
 
-    // The place of the first link that supports its head at the distance.
+    // Returns the index of the first link that supports its head at the distance.
     fn find_support(self, links: &[Link], distance: u32) -> Option<usize>
         ensures none { IfNone result
             (NoneSupports self.entry.distances.now self.entry.lost.now distance links.now) }
@@ -228,7 +234,8 @@ impl StillReached<'_> {
         None
     }
 
-    // Whether the link's tail keeps its distance, and its head is no farther over it than this distance.
+    // Returns true if the tail of the link keeps its distance, and the head is at most this far
+    // over the link.
     fn supports(self, link: &Link, distance: u32) -> bool
         ensures { IsTrue result ↔
             Supports (map.get self.entry.distances.now) self.entry.lost.now distance link.now }
@@ -240,7 +247,7 @@ impl StillReached<'_> {
     }
 }
 
-// Where the search for the vertex's support goes on.
+// Returns the index from which support for the vertex is searched.
 fn start_of(stops: &VertexMap<usize>, vertex: &HintedVertex) -> usize {
     if stops.is_empty() {
         return 0;
@@ -248,7 +255,8 @@ fn start_of(stops: &VertexMap<usize>, vertex: &HintedVertex) -> usize {
     stops.get(vertex).copied().unwrap_or(0)
 }
 
-// Notes where a search for support stopped that passed over many links. A few are soon read again, and take no memory.
+// Notes where a search for support stopped, if it passed at least eight links. Fewer are soon read
+// again, and take no memory.
 fn note_stop(
     stops: &mut VertexMap<usize>,
     vertex: &HintedVertex,
@@ -261,7 +269,7 @@ fn note_stop(
     Ok(())
 }
 
-// Whether the link is a least one into a vertex other than the root.
+// Returns true if the link is a least link to another vertex than the root.
 fn was_least(link: &Link, root: u32, distances: &Distances) -> bool
     ensures { IsTrue result ↔ WasLeast root (map.get distances.now) link.now }
 {
@@ -274,8 +282,8 @@ fn was_least(link: &Link, root: u32, distances: &Distances) -> bool
     }
 }
 
-// Whether, over a link whose tail is at the distance, a reached vertex other than the root is no
-// farther than it was.
+// Returns true if the link may have supported its head: over it, a reached vertex other than the
+// root is at most as far as it was. `distance` is the distance of the tail.
 fn may_support(link: &Link, root: u32, distances: &Distances, distance: u32) -> bool
     requires { distance < most_distance }
     ensures { IsTrue result ↔ MaySupport root (map.get distances.now) distance link.now }

@@ -1,5 +1,5 @@
-//! The second part of a repair: the distances after (RFC 2328, 16.1 (2) and (3)), from those that are
-//! kept and the links that came.
+//! The second part of a repair: the new distances (RFC 2328, 16.1 (2) and (3)), from the distances
+//! that are kept and the added links.
 ghost use Rattle.std.specs.Prelude.{◌≡◌, ◌↔◌, ◌^◌, ◌<◌, [], OnOk, IfOk, IsTrue, length};
 ghost use Rattle.std.specs.FinMap as map;
 ghost use Rattle.ospf_types.specs.declared.entry.Vertex.TheVariants.{Router as RouterValue};
@@ -20,7 +20,7 @@ use vertex_map::HintedVertex;
 use vertex_queue::Queue;
 use word_hash::WordHash;
 
-/// The links after: those of the graph, whose root is looked for at its place, and which of them came.
+/// The graph after the change, its root with a hint, and the added links.
 #[derive(Clone, Copy)]
 pub(crate) struct LinksAfter<'a> {
     pub(crate) graph: &'a Graph,
@@ -28,13 +28,13 @@ pub(crate) struct LinksAfter<'a> {
     pub(crate) came: &'a [Link],
 }
 
-/// The vertices that are looked at again: those that wait in the queue, and the stale ones, whose least links changed.
+/// The vertices to be updated: the queued ones, and the stale ones, whose least links changed.
 pub(crate) struct Pending {
     pub(crate) queue: Queue,
     pub(crate) stale: VertexSet,
 }
 
-// proof: one call drops it, in place of a drop of each part wherever one is held.
+// proof: a value is dropped by one call, not part by part at each exit of a function.
 impl Drop for Pending {
     fn drop(self) {
         let Pending {
@@ -54,7 +54,8 @@ impl Pending {
         }
     }
 
-    /// Finds the distances after, and the vertices that moved. Vertices whose least links changed by them become stale.
+    /// Updates the distances, and lists the vertices that got a lower distance or a distance again
+    /// in `moved`. Vertices whose least links change become stale.
     pub(crate) fn relax(
         &mut self,
         after: LinksAfter<'_>,
@@ -87,7 +88,8 @@ impl Pending {
         Ok(touched)
     }
 
-    // 16.1 (2): gives the vertex its distance, and offers the heads of its links what they have over it.
+    // 16.1 (2): sets the distance of the vertex, and offers the heads of its links the distance
+    // over them.
     fn reach(
         &mut self,
         graph: &Graph,
@@ -106,7 +108,7 @@ impl Pending {
         self.offer_from(graph.root(), links, distance, distances)
     }
 
-    // Offers these vertices what they have over links from reached ones.
+    // Offers the vertices the distances over the links to them from reached vertices.
     fn offer_into(
         &mut self,
         graph: &Graph,
@@ -125,7 +127,8 @@ impl Pending {
         Ok(())
     }
 
-    // Offers the head of these links, which is this far, what it has over them, where the tails are reached.
+    // Offers the head of these links the distances over them, for the tails that are reached. `far`
+    // is the distance of the head.
     fn offer_to(
         &mut self,
         root: u32,
@@ -146,7 +149,7 @@ impl Pending {
         Ok(())
     }
 
-    // Offers the heads of links what they have over them, where the tails are reached.
+    // Offers the heads of the links the distances over them, for the tails that are reached.
     fn offer_reached(
         &mut self,
         root: u32,
@@ -166,7 +169,7 @@ impl Pending {
         Ok(())
     }
 
-    // Offers the heads of links what they have over them, where the tails are all at one distance.
+    // Offers the heads of the links the distances over them. All tails are at the distance `near`.
     fn offer_from(
         &mut self,
         root: u32,
@@ -186,7 +189,8 @@ impl Pending {
         Ok(())
     }
 
-    // Offers the head of a link, which is this far, what it has over it, unless that is the root.
+    // Offers the head of the link the distance over it, unless it is the root. `near` and `far` are
+    // the distances of tail and head.
     fn offer_over(
         &mut self,
         root: u32,
@@ -206,8 +210,8 @@ impl Pending {
         self.offer(&link.to, near + u32::from(link.cost), far)
     }
 
-    // 16.1 (2d): offers a vertex, which is this far, a distance. If that is nearer the vertex is queued; if it is as
-    // near, the vertex is stale.
+    // 16.1 (2d): offers the vertex a distance. It is queued if the distance is below `far`, its
+    // present one, or if it has none. It becomes stale if they are equal.
     fn offer(&mut self, vertex: &HintedVertex, distance: u32, far: Option<u32>) -> Result<(), Memory>
         ensures { OnOk result (AreMadeAt (OneOffer vertex.now distance) vertex.now far
             self.old self.new) }
@@ -225,8 +229,8 @@ impl Pending {
     }
 }
 
-// The distances from which those after are sought: none of what is lost, and of the root by whether it
-// is a vertex.
+// Removes the distances of the lost vertices. The root gets the distance 0 if it is a vertex, and
+// else none.
 fn reset(
     graph: &Graph,
     place: &HintedVertex,
@@ -245,7 +249,7 @@ fn reset(
     Ok(())
 }
 
-// Whether the root is a vertex. It is one where links lead out of it, and they are found at its place.
+// Returns true if the root is a vertex. If it has links, it is found by its hint.
 fn has_root(graph: &Graph, root: &HintedVertex) -> bool
     requires { root.now ≡ RouterValue graph.now.root }
     ensures { IsTrue result ↔ HasRoot graph.now }

@@ -1,3 +1,4 @@
+//! The tree, and the order of the parts of a repair.
 ghost use Rattle.std.specs.Prelude.{◌≡◌, ◌<◌, [], OnOk, OnErr, IfOk, IfSome};
 ghost use Rattle.std.specs.FinMap as map;
 ghost use Rattle.std.specs.List.Sorted.{IsStrictlySortedBy};
@@ -21,18 +22,21 @@ use vertex_graph::{Graph, LinkChanges};
 use vertex_map::HintedVertex;
 use word_hash::WordHash;
 
-/// The shortest-path tree of an area.
+/// The shortest-path tree of an area, with distances and next hops.
+///
+/// It is *spent* after a repair ran out of memory: it is then empty, and a new tree has to be
+/// built.
 pub struct Tree {
     distances: Distances,
     hops: NextHopMap,
     changed: Vec<Vertex>,
     spent: bool,
-    // The root, with its place.
+    // The root, with a hint.
     root: HintedVertex,
     workspace: Workspace,
 }
 
-// proof: one call drops it, in place of a drop of each part wherever one is held.
+// proof: a value is dropped by one call, not part by part at each exit of a function.
 impl Drop for Tree {
     fn drop(self) {
         let Tree {
@@ -63,7 +67,11 @@ impl Model for Tree {
 }
 
 impl Tree {
-    /// The tree of a graph, and the work of building it.
+    /// Builds the tree of the graph, and returns it with the work of building it.
+    ///
+    /// # Errors
+    ///
+    /// Returns `Memory` if memory runs out.
     pub fn build(
         alloc: Global,
         graph: &Graph,
@@ -95,14 +103,18 @@ impl Tree {
             changed: Vec::new(alloc),
             spent: false,
             root,
-            // That of the build is dropped: few repairs find as much.
+            // The workspace of the build is dropped, because few repairs need as much memory.
             workspace: Workspace::new(alloc, hashing),
         };
         Ok((tree, touched))
     }
 
-    /// Brings a tree that is right for the links before to those of the graph, and answers the work. If memory
-    /// runs out, the tree is spent: it answers nothing, and only `build` makes another.
+    /// Updates the tree after a change of links, and returns the work. The tree must be right for
+    /// the links before the change. `graph` is the graph after it.
+    ///
+    /// # Errors
+    ///
+    /// Returns `Memory` if memory runs out. The tree is then spent.
     pub fn repair(
         &mut self,
         alloc: Global,
@@ -128,14 +140,15 @@ impl Tree {
         repaired
     }
 
-    /// Says that no link went or came: no vertex changed.
+    /// Clears the list of changed vertices. It is called instead of `repair` if no link changed.
     pub fn rest(&mut self)
         ensures { self.new ≡ at_rest self.old }
     {
         self.changed.clear();
     }
 
-    /// The distance of a vertex, a sum of metrics below 2^30; none where it is not reached, or the tree is spent.
+    /// Returns the distance of the vertex, a sum of metrics below 2^30. It is `None` if the vertex
+    /// is not reached or the tree is spent.
     pub fn distance(&self, vertex: Vertex) -> Option<u32>
         ensures value { result ≡ map.get self.now.distances vertex }
         ensures bounded { IfSome result (λ distance. distance < most_distance) }
@@ -143,8 +156,8 @@ impl Tree {
         self.distances.find(vertex)
     }
 
-    /// The next hops of a vertex, ascending, each once; none for the root, where it is not reached, and where the
-    /// tree is spent.
+    /// Returns the next hops of the vertex, in ascending order. There are none for the root, for a
+    /// vertex that is not reached, and in a spent tree.
     pub fn hops(&self, vertex: Vertex) -> &[NextHop]
         ensures value { result.now ≡ listed_hops (map.get self.now.hops vertex) }
         ensures in_order { IsStrictlySortedBy hop_cmp result.now }
@@ -155,7 +168,8 @@ impl Tree {
         }
     }
 
-    /// The distance of a vertex that comes with the place of its row in the graph. Mostly nothing is hashed.
+    /// Returns the distance of the vertex, as `distance` does. The vertex is hashed only if its
+    /// hint, the place of its row in the graph, is wrong.
     pub fn distance_at(&self, vertex: &HintedVertex) -> Option<u32>
         ensures value { result ≡ map.get self.now.distances vertex.now }
         ensures bounded { IfSome result (λ distance. distance < most_distance) }
@@ -163,7 +177,8 @@ impl Tree {
         self.distances.get(vertex)
     }
 
-    /// The next hops of a vertex that comes with the place of its row in the graph. Mostly nothing is hashed.
+    /// Returns the next hops of the vertex, as `hops` does. The vertex is hashed only if its hint,
+    /// the place of its row in the graph, is wrong.
     pub fn hops_at(&self, vertex: &HintedVertex) -> &[NextHop]
         ensures value { result.now ≡ listed_hops (map.get self.now.hops vertex.now) }
         ensures in_order { IsStrictlySortedBy hop_cmp result.now }
@@ -174,14 +189,15 @@ impl Tree {
         }
     }
 
-    /// Whether memory ran out in a repair. A spent tree may not be repaired.
+    /// Returns true if a repair ran out of memory. A spent tree must not be repaired.
     pub fn spent(&self) -> bool
         ensures { result ≡ self.now.spent }
     {
         self.spent
     }
 
-    /// The vertices whose distance or next hops the last repair changed, ascending, each once.
+    /// Returns the vertices whose distance or next hops the last repair changed, in ascending
+    /// order.
     pub fn changed(&self) -> &[Vertex]
         ensures { result.now ≡ self.now.changed }
     {
@@ -190,8 +206,8 @@ impl Tree {
 }
 
 impl Tree {
-    // All parts of a repair, and the vertices that they changed. After an error the tree is neither of the links
-    // before nor of those after.
+    // Carries out all parts of a repair, and lists the changed vertices. After an error the tree
+    // may match neither the old nor the new links.
     fn repair_parts(&mut self, graph: &Graph, changes: &LinkChanges) -> Result<Touched, Memory>
         requires { IsTreeBefore graph.now changes.now.gone.items changes.now.came.items self.old }
         ensures tree { OnOk result (IsTreeOf graph.now self.new) }
@@ -230,7 +246,7 @@ impl Tree {
         Ok(touched)
     }
 
-    // Gives up places of vertices that are gone, where there are many.
+    // Drops the places of removed vertices, if there are many.
     fn trim(&mut self, graph: &Graph)
         ensures { self.new ≡ self.old }
     {
@@ -240,7 +256,7 @@ impl Tree {
         self.workspace.trim(most);
     }
 
-    // Takes all out of the tree.
+    // Empties the tree, and marks it as spent.
     fn spend(&mut self)
         ensures { self.new ≡ spent_value }
     {

@@ -1,4 +1,4 @@
-//! The third part of a repair: the next hops after (RFC 2328, 16.1.1), handed on over least links, the
+//! The third part of a repair: the new next hops (RFC 2328, 16.1.1), passed on over least links,
 //! nearest vertex first.
 ghost use Rattle.std.specs.Prelude.{◌≡◌, ◌-◌, ◌^◌, ◌<◌, ◌≤◌, ◌++◌, ◌∷◌, [], Some, IfSome, IfNone, OnOk, Contains, length};
 ghost use Rattle.std.specs.FinMap as map;
@@ -18,7 +18,8 @@ use vertex_graph::{Graph, Link};
 use vertex_map::HintedVertex;
 use vertex_queue::Queue;
 
-/// What relaxing leaves: the graph with the distances after, the vertices that lost theirs, and those that moved.
+/// The result of the second part: the graph, the new distances, the lost vertices, and the moved
+/// ones.
 #[derive(Clone, Copy)]
 pub(crate) struct Relaxed<'a> {
     pub(crate) graph: &'a Graph,
@@ -27,14 +28,14 @@ pub(crate) struct Relaxed<'a> {
     pub(crate) moved: &'a VertexList,
 }
 
-/// Writes next hops: it names the vertices whose next hops it wrote, and counts its work.
+/// The writer of next hops, which lists the vertices whose next hops it wrote and counts the work.
 pub(crate) struct HopWriter {
     alloc: Global,
     pub(crate) written: VertexList,
     pub(crate) touched: Touched,
 }
 
-// proof: one call drops it, in place of a drop of each part wherever one is held.
+// proof: a value is dropped by one call, not part by part at each exit of a function.
 impl Drop for HopWriter {
     fn drop(self) {
         let HopWriter {
@@ -46,7 +47,7 @@ impl Drop for HopWriter {
 }
 
 impl HopWriter {
-    /// Nothing is written yet.
+    /// Creates a writer that has written nothing.
     pub(crate) fn new(alloc: Global) -> HopWriter {
         HopWriter {
             alloc,
@@ -55,7 +56,7 @@ impl HopWriter {
         }
     }
 
-    /// Brings the next hops to those after, and finds the vertices whose next hops are written.
+    /// Updates the next hops, and lists the vertices whose next hops were written.
     pub(crate) fn update_next_hops(
         &mut self,
         relaxed: Relaxed<'_>,
@@ -97,7 +98,8 @@ impl HopWriter {
         Ok(())
     }
 
-    // Takes the next hops of what is lost and is not reached again. Those vertices are written.
+    // Removes the next hops of the lost vertices that are not reached again. These vertices count
+    // as written.
     fn blank(
         &mut self,
         distances: &Distances,
@@ -120,8 +122,8 @@ impl HopWriter {
         Ok(())
     }
 
-    // Brings the next hops of a vertex that was taken to those that its least links give it. If they are others,
-    // the heads of its least links wait.
+    // Updates the next hops of a vertex taken from the queue. If they change, the heads of its
+    // least links are queued.
     fn settle(
         &mut self,
         least_links: LeastLinks<'_>,
@@ -152,7 +154,7 @@ impl HopWriter {
         least_links.put_heads(taken, queue)
     }
 
-    // Writes the next hops of a vertex where none were written yet.
+    // Writes the next hops of a vertex that was not written before in this repair.
     fn write(
         &mut self,
         vertex: &HintedVertex,
@@ -172,14 +174,14 @@ impl HopWriter {
     }
 }
 
-// A vertex that was taken from the queue, at the distance that it has.
+// A vertex taken from the queue, at its distance.
 #[derive(Drop)]
 struct Taken {
     vertex: HintedVertex,
     distance: u32,
 }
 
-// The least links of a graph: those whose head is as far as tail and link together.
+// The least links of a graph: the head is as far from the root as the tail and the link's cost.
 #[derive(Clone, Copy)]
 struct LeastLinks<'a> {
     graph: &'a Graph,
@@ -187,7 +189,7 @@ struct LeastLinks<'a> {
 }
 
 impl LeastLinks<'_> {
-    // Lets the heads of the least links out of a vertex wait, but not the root.
+    // Queues the heads of the least links from the vertex, except the root.
     fn put_heads(self, taken: &Taken, queue: &mut Queue) -> Result<(), Memory>
         requires { map.get self.distances.now taken.now.vertex ≡ Some taken.now.distance }
         ensures { OnOk result (AreHeadsPut self.entry.graph.now self.entry.distances.now
@@ -200,7 +202,8 @@ impl LeastLinks<'_> {
         Ok(())
     }
 
-    // Lets the head of a link, whose tail is this near, wait if that is a least link and the head is not the root.
+    // Queues the head of the link, if it is a least link and the head is not the root. `near` is
+    // the distance of its tail.
     fn put_head(self, root: u32, link: &Link, near: u32, queue: &mut Queue) -> Result<(), Memory>
         requires { map.get self.distances.now link.now.from ≡ Some near }
         ensures { OnOk result
@@ -216,7 +219,7 @@ impl LeastLinks<'_> {
     }
 }
 
-// Lets those of the vertices wait that are reached, but not the root.
+// Queues the vertices that are reached, except the root.
 fn put_reached(
     root: u32,
     distances: &Distances,
@@ -248,8 +251,8 @@ fn put_if_reached(
     }
 }
 
-// The distance of a link's head, if that is a least link: the head is as far as its tail, which is this near,
-// and the link together.
+// Returns the distance of the link's head, if it is a least link. `near` is the distance of its
+// tail.
 fn least_distance(distances: &Distances, link: &Link, near: u32) -> Option<u32>
     requires { map.get distances.now link.now.from ≡ Some near }
     ensures least { IfSome result (λ distance. IsLeastLink (map.get distances.now) link.now) }

@@ -1,4 +1,4 @@
-//! What a repair finds on its way.
+//! The working memory of a repair.
 ghost use Rattle.std.specs.Prelude.{◌≡◌, [], OnOk, IfOk};
 ghost use Rattle.std.specs.FinMap as map;
 ghost use Rattle.tree_parts.specs.Maps.{AreHopsInOrder};
@@ -14,13 +14,14 @@ use vertex_map::HintedVertex;
 use vertex_queue::Queue;
 use word_hash::WordHash;
 
-/// The most vertices for which memory is kept from repair to repair.
+/// The maximum number of vertices whose memory is kept from repair to repair.
 pub(crate) const MOST_KEPT: usize = 512;
 
-/// What a repair finds on its way. It is kept for its memory: each repair begins with none of it.
+/// The working memory of a repair. It is kept for the next repair, which starts without its
+/// contents.
 pub(crate) struct Workspace {
     pub(crate) search: Search,
-    // The root and what was lost, each with its distance before.
+    // The root and the lost vertices, with their distances before the repair.
     pub(crate) remembered: Vec<(HintedVertex, Option<u32>)>,
     pub(crate) moved: VertexList,
     pub(crate) writer: HopWriter,
@@ -28,7 +29,7 @@ pub(crate) struct Workspace {
     hashing: WordHash,
 }
 
-// proof: one call drops it, in place of a drop of each part wherever one is held.
+// proof: a value is dropped by one call, not part by part at each exit of a function.
 impl Drop for Workspace {
     fn drop(self) {
         let Workspace {
@@ -43,7 +44,7 @@ impl Drop for Workspace {
 }
 
 impl Workspace {
-    /// Nothing is found yet.
+    /// Creates an empty workspace.
     pub(crate) fn new(alloc: Global, hashing: WordHash) -> Workspace
         ensures lost { result.search.lost ≡ [] }
         ensures stale { result.search.pending.stale ≡ [] }
@@ -58,8 +59,8 @@ impl Workspace {
         }
     }
 
-    /// Brings distances and next hops to those after, once it is known what is lost: the second and the third part of a
-    /// repair.
+    /// Carries out the second and third part of a repair: updates the distances and the next hops,
+    /// once the lost vertices are known.
     pub(crate) fn update_distances_and_hops(
         &mut self,
         after: LinksAfter<'_>,
@@ -75,9 +76,9 @@ impl Workspace {
         ensures were_in_order { AreHopsInOrder hops.old }
         ensures in_order { OnOk result (AreHopsInOrder hops.new) }
     {
-        // proof: what is in the columns is in order, which any call tells.
+        // proof: the invariant of the next hops, that each set is in order, is known by this call.
         let _ = hops.len();
-        // proof: nothing waits, as a tree is not repaired once memory ran out.
+        // proof: the queue is empty already, because a tree is not repaired after memory ran out.
         empty(&mut self.search.pending.queue);
         let touched = self
             .search
@@ -92,12 +93,12 @@ impl Workspace {
         };
         self.writer
             .update_next_hops(relaxed, &mut self.search.pending, hops)?;
-        // proof: it is in order after, too.
+        // proof: the sets are in order after the update too.
         let _ = hops.len();
         Ok(self.writer.touched)
     }
 
-    /// Gives up the places of vertices that do not wait, where there are more than so many.
+    /// Drops the places kept for vertices that are not queued, if more than `most` places are kept.
     pub(crate) fn trim(&mut self, most: usize) {
         self.search.pending.queue.trim(most);
     }
@@ -116,7 +117,7 @@ impl Workspace {
     }
 }
 
-// Takes out all that waits.
+// Empties the queue.
 fn empty(queue: &mut Queue)
     ensures { queue.new ≡ map.empty }
 {

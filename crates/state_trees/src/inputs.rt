@@ -1,4 +1,4 @@
-//! What routes are calculated from, as the state and the trees have it.
+//! The inputs of the route calculation, taken from the state and its trees.
 ghost use Rattle.std.specs.Prelude.{◌≡◌, ◌↔◌, IsTrue, length, IfOk};
 ghost use Rattle.state_trees.specs.Trees.{areas_with, AreUpsOf};
 
@@ -11,7 +11,7 @@ use ospf_types::memory::Memory;
 use std::alloc::Global;
 use vertex_graph::Up;
 
-/// The areas with their databases and trees, in the order of the configuration.
+/// Returns the areas with their databases and trees, in the order of the configuration.
 pub fn area_inputs<'a>(
     alloc: Global,
     state: &'a State,
@@ -32,7 +32,7 @@ pub fn area_inputs<'a>(
     Ok(areas)
 }
 
-/// The interfaces of the area that are up.
+/// Returns the interfaces of the area that are up.
 pub(crate) fn ups(alloc: Global, state: &State, area: u32) -> Result<Vec<Up>, Memory>
     ensures { IfOk result (λ ups. AreUpsOf state.now area ups.items) }
 {
@@ -46,7 +46,7 @@ pub(crate) fn ups(alloc: Global, state: &State, area: u32) -> Result<Vec<Up>, Me
     Ok(ups)
 }
 
-/// Whether the interface is one of the area's, and up.
+/// Returns true if the interface is in the area and up.
 pub fn is_up_in(interface: &Interface, area: u32) -> bool
     ensures { IsTrue result ↔ ((interface.now.area ≡ area) × IsTrue interface.now.up) }
 {

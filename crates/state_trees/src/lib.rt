@@ -1,5 +1,5 @@
-//! The graphs and trees of a state's areas, which follow its LSAs and interfaces (RFC 2328, 16.1), and what routes are
-//! calculated from.
+//! The graphs and trees of a state's areas, which follow its LSAs and interfaces (RFC 2328, 16.1),
+//! and the inputs of the route calculation.
 #![tactic(auto)]
 
 mod inputs;

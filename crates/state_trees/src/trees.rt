@@ -21,7 +21,7 @@ use spf::Touched;
 use std::alloc::Global;
 use std::hash::RandomState;
 
-/// The tree of each area, and the work of building them.
+/// Builds the tree of each area. Returns the trees in the order of the configuration, and the work.
 pub fn build_trees(
     alloc: Global,
     state: &State,
@@ -43,7 +43,7 @@ pub fn build_trees(
     Ok((trees, work))
 }
 
-// The tree of an area.
+// Builds the tree of an area.
 fn build_tree(
     alloc: Global,
     state: &State,
@@ -63,18 +63,25 @@ fn build_tree(
     AreaTree::build(alloc, state.config().router, database, &ups, hashing)
 }
 
-/// A state, and the LSAs or the interfaces in which it differs from the one before.
+/// A state, and the LSAs and interfaces in which it differs from the previous state.
 #[derive(Clone, Copy)]
 pub struct ChangedState<'a> {
     pub state: &'a State,
-    /// The keys of those LSAs.
+    /// The keys of these LSAs.
     pub keys: &'a [(Scope, Key)],
-    /// The ids of those interfaces.
+    /// The ids of these interfaces.
     pub interfaces: &'a [u8],
 }
 
-/// The trees follow the state, which may also have other ranges than the one before: no tree rests on them. Vertices whose
-/// distance or next hops differ are added, each with its Area ID. The answer is the work.
+/// Updates the trees to the state. Appends the vertices whose distance or next hops changed, each
+/// with its Area ID, and returns the work.
+///
+/// The previous state may also have other address ranges: trees do not depend on them.
+///
+/// # Errors
+///
+/// Returns `Memory` if memory runs out. Some trees are then updated and others are not, so the
+/// caller has to build them again.
 pub fn follow_trees(
     alloc: Global,
     trees: &mut [AreaTree],
@@ -98,7 +105,7 @@ pub fn follow_trees(
     Ok(work)
 }
 
-// The tree of an area follows the state.
+// Updates the tree of an area to the state.
 fn follow_tree(
     alloc: Global,
     tree: &mut AreaTree,
@@ -128,7 +135,7 @@ fn follow_tree(
     tree.follow(alloc, database, &keys)
 }
 
-// The keys of the area.
+// Returns the keys in the area's database.
 fn keys_of(alloc: Global, area: u32, keys: &[(Scope, Key)]) -> Result<Vec<Key>, Memory>
     ensures { IfOk result (λ found. (key : KeyValue)
         → Contains found.items key ↔ Contains keys.now (Scope.Area area, key)) }
@@ -142,14 +149,14 @@ fn keys_of(alloc: Global, area: u32, keys: &[(Scope, Key)]) -> Result<Vec<Key>, 
     Ok(found)
 }
 
-// Whether the scope is the area's.
+// Returns true if the scope is the area.
 fn is_area(scope: Scope, area: u32) -> bool
     ensures { IsTrue result ↔ (scope ≡ Scope.Area area) }
 {
     matches!(scope, Scope::Area(id) if id == area)
 }
 
-// Adds the vertices that differ, with the Area ID.
+// Appends the vertices that changed, each with the Area ID.
 fn push_changed(area: u32, tree: &AreaTree, vertices: &mut Vec<(u32, Vertex)>) -> Result<(), Memory>
     ensures { OnOk result (vertices.new.items
         ≡ vertices.old.items ++ list_map (λ v. (area, v)) tree.now.tree.changed) }
@@ -160,7 +167,7 @@ fn push_changed(area: u32, tree: &AreaTree, vertices: &mut Vec<(u32, Vertex)>) -
     Ok(())
 }
 
-// The work of both, as far as it can be counted.
+// Returns the sum of the work, up to the greatest count.
 fn both(a: Touched, b: Touched) -> Touched
     ensures taken { result.taken ≡ min (a.taken + b.taken) most_count }
     ensures hop_sets { result.hop_sets ≡ min (a.hop_sets + b.hop_sets) most_count }

@@ -1,5 +1,5 @@
-//! An example of one more layer of routes, which is no part of the product: static routes, each used where no other route to
-//! its network stands.
+//! An example of one more layer of routes, which is not part of the product: static routes. A
+//! static route is used if no other route leads to its network.
 #![tactic(auto)]
 
 mod routes;

@@ -1,3 +1,4 @@
+//! The layer of static routes.
 ghost use Rattle.std.specs.Prelude.{◌≡◌, IfOk, OnOk, true, false, map as list_map, option_copied};
 ghost use Rattle.std.specs.List.Sorted.{IsStrictlySortedBy};
 ghost use Rattle.ospf_types.specs.Network.{network_cmp};
@@ -13,12 +14,12 @@ use std::alloc::Global;
 use std::hash::RandomState;
 use std::marker::Model;
 
-/// What static routes are chosen from.
+/// The inputs of the static routes.
 #[derive(Drop)]
 pub struct StaticInputs<'a> {
-    /// The static routes, each a network with a metric.
+    /// The configured static routes: networks with metrics.
     pub configured: &'a [(Prefix, u32)],
-    /// The networks to which another route stands: it is preferred.
+    /// The networks with another route, which is preferred.
     pub taken: &'a [Prefix],
 }
 
@@ -40,12 +41,12 @@ impl<'a> Choose<Prefix, u32> for StaticInputs<'a> {
     }
 }
 
-/// The metric of each network that has a static route.
+/// The metric of each network whose static route is used.
 pub struct StaticRoutes {
     routes: ResultMap<Prefix, u32>,
 }
 
-// proof: one call drops it, in place of a drop of each part wherever one is held.
+// proof: a value is dropped by one call, not part by part at each exit of a function.
 impl Drop for StaticRoutes {
     fn drop(self) {
         let StaticRoutes { routes: _routes } = self;
@@ -67,7 +68,11 @@ impl Model for StaticRoutes {
 }
 
 impl StaticRoutes {
-    /// The routes of these inputs, from scratch.
+    /// Calculates the static routes for these inputs from scratch.
+    ///
+    /// # Errors
+    ///
+    /// Returns `Memory` if memory runs out.
     pub fn build(
         alloc: Global,
         inputs: &StaticInputs<'_>,
@@ -83,8 +88,14 @@ impl StaticRoutes {
         Ok(routes)
     }
 
-    /// Follows the inputs, where no network but these has another route by them. The answer is the networks that do, ascending,
-    /// each once. If memory runs out, some routes follow and others do not.
+    /// Updates the routes to these networks, and returns the networks whose route changed, in
+    /// ascending order without duplicates.
+    ///
+    /// `networks` must list every network whose route may be out of date.
+    ///
+    /// # Errors
+    ///
+    /// Returns `Memory` if memory runs out. Some routes are then updated and others are not.
     pub fn update(
         &mut self,
         alloc: Global,
@@ -104,7 +115,8 @@ impl StaticRoutes {
         Ok(others)
     }
 
-    /// The metric of the network's static route; none where it has none, or another route stands.
+    /// Returns the metric of the network's static route, or `None` if it has none or another route
+    /// is preferred.
     pub fn get(&self, network: Prefix) -> Option<&u32>
         ensures { option_copied result ≡ result_at network_cmp self.now network }
     {
@@ -112,7 +124,7 @@ impl StaticRoutes {
     }
 }
 
-// The networks of the routes.
+// Returns the networks of the static routes.
 fn networks_in(alloc: Global, configured: &[(Prefix, u32)]) -> Result<Vec<Prefix>, Memory>
     ensures { IfOk result (λ networks. networks.items ≡ list_map (λ x. x.0) configured.now) }
 {
@@ -120,7 +132,7 @@ fn networks_in(alloc: Global, configured: &[(Prefix, u32)]) -> Result<Vec<Prefix
     Ok(networks)
 }
 
-// The least metric that is configured for the network.
+// Returns the least metric configured for the network.
 fn least_of(configured: &[(Prefix, u32)], network: Prefix) -> Option<u32>
     ensures { IsLeast (IsConfigured configured.now network) result }
 {
@@ -131,7 +143,8 @@ fn least_of(configured: &[(Prefix, u32)], network: Prefix) -> Option<u32>
     least
 }
 
-// The least metric, with this one too where it is one of the network's.
+// Returns the lower of `least` and this metric. The metric counts only if it is configured for the
+// network.
 fn least_with(least: Option<u32>, is_its: bool, metric: u32) -> Option<u32>
     ensures other { is_its ≡ false → result ≡ least }
     ensures its { is_its ≡ true → IsLesser least metric result }

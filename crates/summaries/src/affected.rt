@@ -1,4 +1,4 @@
-//! The destinations whose summaries may differ.
+//! The destinations whose due summaries may change.
 ghost use Rattle.std.specs.Prelude.{◌↔◌, Contains, IsFalse, IsTrue, IfOk, OnOk};
 ghost use Rattle.std.specs.List.Sorted.{IsStrictlySortedBy};
 ghost use Rattle.ospf_types.specs.declared.key.Dest.{Dest as DestValue};
@@ -16,7 +16,8 @@ use ospf_types::prefix::Prefix;
 use result_map::{add_networks, add_routers};
 use std::alloc::Global;
 
-/// The named destinations, and the prefixes of the ranges that have one of the named networks; ascending, each once.
+/// Returns the destinations, and the prefixes of ranges that cover a network among them, in
+/// ascending order without duplicates.
 pub(crate) fn affected(
     alloc: Global,
     areas: &[AreaConfig],
@@ -32,7 +33,8 @@ pub(crate) fn affected(
     ascending(found)
 }
 
-/// The destinations, ascending, each once. Those that stand in order already cost little.
+/// Returns the destinations in ascending order without duplicates. This is cheap if they are in
+/// order already.
 pub(crate) fn ascending(mut dests: Vec<Dest>) -> Result<Vec<Dest>, Memory>
     ensures in_order { IfOk result (λ found. IsStrictlySortedBy dest_cmp found.items) }
     ensures same { IfOk result (λ found. ListsExactly (Contains dests.items) found.items) }
@@ -42,7 +44,7 @@ pub(crate) fn ascending(mut dests: Vec<Dest>) -> Result<Vec<Dest>, Memory>
     Ok(dests)
 }
 
-// Adds the prefixes of the area's ranges that have one of the networks.
+// Appends the prefixes of the area's ranges that cover one of the networks.
 fn push_ranges_of(area: &AreaConfig, dests: &[Dest], found: &mut Vec<Dest>) -> Result<(), Memory>
     ensures { OnOk result
         (GainsAll (IsOverIn area.now.ranges dests.now) found.old.items found.new.items) }
@@ -53,7 +55,7 @@ fn push_ranges_of(area: &AreaConfig, dests: &[Dest], found: &mut Vec<Dest>) -> R
     Ok(())
 }
 
-// Adds the prefix, where it covers one of the networks.
+// Appends the prefix, if it covers one of the networks.
 fn push_range(prefix: Prefix, dests: &[Dest], found: &mut Vec<Dest>) -> Result<(), Memory>
     ensures { OnOk result (GainsAll (IsOver dests.now prefix) found.old.items found.new.items) }
 {
@@ -64,7 +66,7 @@ fn push_range(prefix: Prefix, dests: &[Dest], found: &mut Vec<Dest>) -> Result<(
     Ok(())
 }
 
-// Whether the prefix covers one of the networks.
+// Returns true if the prefix covers one of the networks.
 fn covers_one(prefix: Prefix, dests: &[Dest]) -> bool
     ensures { IsFalse result → (d : DestValue) → Contains dests.now d → IsNetIn prefix d → ⊥ }
 {
@@ -76,7 +78,7 @@ fn covers_one(prefix: Prefix, dests: &[Dest]) -> bool
     false
 }
 
-// Whether the destination is a network that the prefix covers.
+// Returns true if the destination is a network that the prefix covers.
 fn is_covered(prefix: Prefix, dest: &Dest) -> bool
     ensures { IsTrue result ↔ IsNetIn prefix dest.now }
 {
@@ -86,7 +88,7 @@ fn is_covered(prefix: Prefix, dest: &Dest) -> bool
     }
 }
 
-/// Each destination that is due in an area; and perhaps others.
+/// Returns each destination that may be due in an area. Some of them may be due in no area.
 pub(crate) fn all(alloc: Global, inputs: &SummaryInputs<'_>) -> Result<Vec<Dest>, Memory>
     ensures { IfOk result (λ dests. HasAllDue inputs.now dests.items) }
 {

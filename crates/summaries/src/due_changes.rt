@@ -1,4 +1,4 @@
-//! What changed in due summaries.
+//! The changes of due summaries.
 ghost use Rattle.std.specs.Prelude.{◌≡◌, [], length, option_map, slice_get};
 ghost use Rattle.summaries.specs.Carrying.{changes_of};
 ghost use Rattle.summaries.specs.DueSummaries.{changes_in};
@@ -8,13 +8,13 @@ use std::alloc::Global;
 use std::marker::Model;
 use summary_lists::AreaPlan;
 
-/// The summaries that came, left or changed their metric, area by area.
+/// The summaries that were added or removed, or whose metric changed, area by area.
 pub struct DueChanges {
-    // One an area, or none at all where nothing was looked at.
+    // A plan for each area. The list is empty if no destination was affected.
     areas: Vec<AreaPlan>,
 }
 
-// proof: one call drops it, in place of a drop of each part wherever one is held.
+// proof: a value is dropped by one call, not part by part at each exit of a function.
 impl Drop for DueChanges {
     fn drop(self) {
         let DueChanges { areas: _areas } = self;
@@ -32,7 +32,7 @@ impl Model for DueChanges {
 }
 
 impl DueChanges {
-    /// Nothing changed.
+    /// Creates a value without changes.
     pub fn none(alloc: Global) -> DueChanges
         ensures { result ≡ [] }
     {
@@ -41,30 +41,33 @@ impl DueChanges {
         }
     }
 
-    // What was carried out by these plans.
+    // Returns the changes that these plans made.
     pub(crate) fn of(areas: Vec<AreaPlan>) -> DueChanges
         ensures { result ≡ changes_of areas.items }
     {
         DueChanges { areas }
     }
 
-    /// Nothing is told any more.
+    /// Removes all changes.
     pub fn clear(&mut self)
         ensures { self.new ≡ [] }
     {
         self.areas.clear();
     }
 
-    /// Of how many areas changes are told, in the order of the configuration. In an area that is left out nothing changed,
-    /// and nothing in one with an empty list either.
+    /// Returns the number of areas that have a list of changes.
+    ///
+    /// An area without a list has no changes. Nor has an area whose list is empty.
     pub fn areas(&self) -> usize
         ensures { result ≡ length self.now }
     {
         self.areas.len()
     }
 
-    /// The Area ID at this place, and what changed there: destinations, ascending by LS type and destination, each once, with
-    /// the metrics at which they are due now; `None` in the place of the metric for one that is no longer due.
+    /// Returns the Area ID at the index, in the order of the configuration, and the area's changes.
+    ///
+    /// These are the destinations that changed, ascending by LS type and destination, without
+    /// duplicates. Each has the metric at which it is due now, or `None` if it is no longer due.
     pub fn at(&self, place: usize) -> Option<(u32, &[(Dest, Option<u32>)])>
         ensures { option_map (λ area. (area.0, area.1.now)) result ≡ slice_get self.now place }
     {
@@ -72,7 +75,7 @@ impl DueChanges {
         Some((plan.area, plan.metrics.as_slice()))
     }
 
-    /// What changed in the area; nothing where it is not configured.
+    /// Returns the changes of the area, or an empty slice if the area is not configured.
     pub fn get(&self, area: u32) -> &[(Dest, Option<u32>)]
         ensures { result.now ≡ changes_in self.now area }
     {

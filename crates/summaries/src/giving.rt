@@ -1,4 +1,9 @@
-//! What gives a summary for a destination, and the greatest metric of what gives one (RFC 2328, 12.4.3).
+//! The metric at which a destination is due as a summary-LSA in an area (RFC 2328, 12.4.3).
+//!
+//! Routes and advertised address ranges are the *sources* of a summary. A source gives none in the
+//! area that it leads through (split horizon). If a destination has several sources, the one with
+//! the highest metric counts. So each destination is looked up once for all areas: it is enough to
+//! keep the highest metric, and the highest metric through any other area than that one's.
 ghost use Rattle.std.specs.Prelude.{ℕ, ◌≡◌, ◌≢◌, ◌↔◌, ◌≤◌, ◌⊎◌, Some, None, Contains, IsTrue, All, option_copied};
 ghost use Rattle.std.specs.FinMap as map;
 ghost use Rattle.ospf_types.specs.declared.key.Dest.TheVariants as dest_value;
@@ -15,23 +20,24 @@ use ospf_types::key::Dest;
 use ospf_types::lsa::LS_INFINITY;
 use ospf_types::prefix::Prefix;
 
-/// An area that a route leads through, or whose range it is, and its cost, which is finite.
+/// A source of a summary: its area, and its cost, which is below LSInfinity. The area is the one
+/// that the route leads through, or the one whose range it is.
 #[derive(Clone, Copy, Debug, PartialEq, Eq)]
 pub(crate) struct Through {
     pub area: u32,
     pub cost: u32,
 }
 
-/// The greatest metrics of what gives a summary for a destination. What leads through an area gives none in that area.
+/// The highest metrics among the sources of a summary.
 #[derive(Clone, Copy, Debug)]
 pub(crate) struct Given {
-    // What has the greatest metric.
+    // The source with the highest metric.
     most: Option<Through>,
-    // The greatest metric of what leads through another area than that.
+    // The highest metric of the sources of other areas than that one's.
     next: Option<u32>,
 }
 
-/// A destination, and what gives a summary for it, looked up once for all areas.
+/// A destination and the sources of its summary, for all areas.
 #[derive(Clone, Copy, Debug)]
 pub(crate) struct Candidate {
     pub dest: Dest,
@@ -39,7 +45,7 @@ pub(crate) struct Candidate {
 }
 
 impl Given {
-    // Nothing gives one.
+    // Returns the value for no sources.
     fn none() -> Given
         ensures in_order { IsOrdered result }
         ensures none { (area : ℕ) → metric_into result area ≡ None }
@@ -50,7 +56,7 @@ impl Given {
         }
     }
 
-    // What gives one, and this besides.
+    // Adds a source, if there is one.
     fn with(self, through: Option<Through>) -> Given
         requires { IsOrdered self }
         ensures in_order { IsOrdered result }
@@ -83,11 +89,12 @@ impl Given {
         }
     }
 
-    // The greatest metric in the area.
+    // Returns the highest metric of the sources that count in the area, or `None` if there are
+    // none.
     fn metric_into(self, area: u32) -> Option<u32>
         ensures { result ≡ metric_into self area }
     {
-        // 12.4.3: what leads through the area itself gives no summary there.
+        // 12.4.3: a route that leads through the area itself is not advertised into it.
         match self.most {
             Some(through) if through.area != area => Some(through.cost),
             _ => self.next,
@@ -95,13 +102,13 @@ impl Given {
     }
 }
 
-/// The destination with what gives a summary for it. With fewer than two active areas nothing is due, and nothing is looked
-/// up.
+/// Looks up the sources of a summary for the destination. With fewer than two active areas there
+/// are none, as no summaries are due then.
 pub(crate) fn find_candidate(inputs: &SummaryInputs<'_>, dest: Dest) -> Candidate
     ensures dest { result.dest ≡ dest }
     ensures right { IsCandidateOf inputs.now result }
 {
-    // 12.4.3: only an area border router sends summaries.
+    // 12.4.3: only area border routers originate summary-LSAs.
     if inputs.active.len() < 2 {
         return Candidate {
             dest,
@@ -120,7 +127,8 @@ pub(crate) fn find_candidate(inputs: &SummaryInputs<'_>, dest: Dest) -> Candidat
     }
 }
 
-/// The metric at which the destination is due in the area; none where it is not.
+/// Returns the metric at which the destination is due in the area, or `None` if it is not due
+/// there. `served` is the result of `is_served` for the area.
 pub(crate) fn metric(area: &AreaConfig, served: bool, candidate: &Candidate) -> Option<u32>
     ensures { IsMetricOf area.now served candidate.now result }
 {
@@ -133,14 +141,14 @@ pub(crate) fn metric(area: &AreaConfig, served: bool, candidate: &Candidate) -> 
     }
 }
 
-/// Whether the area is active, and another one is too.
+/// Returns true if the area is active and so is another one: only then are summaries due in it.
 pub(crate) fn is_served(active: &[u32], area: u32) -> bool
     ensures { IsTrue result ↔ IsServed active.now area }
 {
     active.contains(&area) && has_other_active_area(active, area)
 }
 
-/// Whether another area is active.
+/// Returns true if another area than this one is active.
 pub fn has_other_active_area(active: &[u32], area: u32) -> bool
     ensures { IsTrue result ↔ ((another : ℕ) × Contains active.now another × (another ≢ area)) }
 {
@@ -152,11 +160,12 @@ pub fn has_other_active_area(active: &[u32], area: u32) -> bool
     false
 }
 
-// A stub area is sent its default route, and other networks only where its configuration says so.
+// Returns the metric at which the network is due in the area. Into a stub area only the default
+// route is advertised, unless its configuration also wants the summaries of networks.
 fn network_metric(area: &AreaConfig, given: Given, network: Prefix) -> Option<u32>
     ensures { IsNetworkMetricOf area.now given network result }
 {
-    // 12.4.3: a stub area is sent its default route at StubDefaultCost (C.2).
+    // 12.4.3: a stub area gets a default route at its StubDefaultCost (C.2).
     if let Some(stub) = area.stub {
         if is_default(network) {
             return Some(stub.cost);
@@ -168,20 +177,21 @@ fn network_metric(area: &AreaConfig, given: Given, network: Prefix) -> Option<u3
     given.metric_into(area.id)
 }
 
+// Returns true if the network is the destination of the default route.
 fn is_default(network: Prefix) -> bool
     ensures { IsTrue result ↔ (network ≡ default_route) }
 {
     network == default_network()
 }
 
-/// The network of the default route.
+/// Returns the destination of the default route, 0.0.0.0/0.
 pub(crate) fn default_network() -> Prefix
     ensures { result ≡ default_route }
 {
     Prefix::from_mask(0, 0)
 }
 
-// What gives a summary for the network.
+// Returns the sources of a summary for the network.
 fn network_given(inputs: &SummaryInputs<'_>, network: Prefix) -> Given
     ensures { (area : ℕ) → IsNetworkIn inputs.now area network result }
 {
@@ -190,19 +200,20 @@ fn network_given(inputs: &SummaryInputs<'_>, network: Prefix) -> Given
     with_ranges(inputs, network, own)
 }
 
-// The intra-area route of a network outside the ranges of its area.
+// Returns the intra-area route to the network as a source, if no range of its area covers the
+// network.
 fn intra_through(inputs: &SummaryInputs<'_>, network: Prefix) -> Option<Through>
     ensures { IsOnly (IsIntraThrough inputs.now network) result }
 {
     let through = finite(inputs.intra.get(network))?;
-    // 12.4.3: a network that a range of its area has is advertised only by the range.
+    // 12.4.3: a network that a range of its area covers is advertised only as part of the range.
     if is_outside(inputs.areas, through.area, network) {
         return Some(through);
     }
     None
 }
 
-// The inter-area route of a network.
+// Returns the inter-area route to the network as a source.
 fn inter_through(inputs: &SummaryInputs<'_>, network: Prefix) -> Option<Through>
     ensures { IsOnly
         (LeadsThrough (map.get inputs.now.inter.entries (dest_value.Net network))) result }
@@ -210,13 +221,13 @@ fn inter_through(inputs: &SummaryInputs<'_>, network: Prefix) -> Option<Through>
     finite(inputs.inter.get(Dest::Net(network)))
 }
 
-// The area that the entry leads through, where its cost is finite.
+// Returns the route as a source, if there is one and its cost is below LSInfinity.
 fn finite(entry: Option<&Entry>) -> Option<Through>
     ensures { IsOnly (LeadsThrough (option_copied entry.entry)) result }
 {
     let entry = entry?;
     let area = entry.area?;
-    // 12.4.3: a cost of LSInfinity or more gives no summary.
+    // 12.4.3: a route at LSInfinity or more is not advertised.
     if entry.cost < LS_INFINITY {
         return Some(Through {
             area,
@@ -226,7 +237,7 @@ fn finite(entry: Option<&Entry>) -> Option<Through>
     None
 }
 
-// Whether no range of the area has the network.
+// Returns true if no range of the area covers the network.
 fn is_outside(areas: &[AreaConfig], id: u32, network: Prefix) -> bool
     ensures { IsTrue result ↔ IsOutside areas.now id network }
 {
@@ -238,7 +249,7 @@ fn is_outside(areas: &[AreaConfig], id: u32, network: Prefix) -> bool
     true
 }
 
-// Whether a range of the area has the network.
+// Returns true if a range of the area covers the network.
 fn is_in_range(area: &AreaConfig, network: Prefix) -> bool
     ensures { IsTrue result ↔ (All (λ r. Covers r.prefix network → ⊥) area.now.ranges → ⊥) }
 {
@@ -250,7 +261,7 @@ fn is_in_range(area: &AreaConfig, network: Prefix) -> bool
     false
 }
 
-// What is given, and what the areas' advertised ranges with the prefix give besides.
+// Adds the advertised ranges with this prefix, of all areas, to the sources.
 fn with_ranges(inputs: &SummaryInputs<'_>, prefix: Prefix, own: Given) -> Given
     requires { IsOrdered own }
     ensures { HasMostOf own (λ area n. RangeGives inputs.now area prefix n) result }
@@ -262,14 +273,15 @@ fn with_ranges(inputs: &SummaryInputs<'_>, prefix: Prefix, own: Given) -> Given
     given
 }
 
-// The area, at the greatest cost of its advertised range with the prefix.
+// Returns the area's advertised range with this prefix as a source, if it has one, with a network
+// at a cost below LSInfinity.
 fn range_through(inputs: &SummaryInputs<'_>, area: &AreaConfig, prefix: Prefix) -> Option<Through>
     ensures { IsOnly (IsRangeThrough inputs.now area.now prefix) result }
 {
     if !advertises(area, prefix) {
         return None;
     }
-    // 12.4.3: the cost of a range is the greatest of its networks' costs.
+    // 12.4.3: the cost of a range is the highest cost of its networks below LSInfinity.
     let cost = inputs.ranges.costliest(prefix, area.id, LS_INFINITY)?;
     Some(Through {
         area: area.id,
@@ -277,7 +289,7 @@ fn range_through(inputs: &SummaryInputs<'_>, area: &AreaConfig, prefix: Prefix) 
     })
 }
 
-/// Whether the area has an advertised range with the prefix.
+/// Returns true if the area has an advertised range with this prefix.
 pub fn advertises(area: &AreaConfig, prefix: Prefix) -> bool
     ensures { IsTrue result ↔ Advertises area.now prefix }
 {
@@ -289,7 +301,7 @@ pub fn advertises(area: &AreaConfig, prefix: Prefix) -> bool
     false
 }
 
-// The costlier of the two.
+// Returns the source with the higher cost.
 fn costlier(a: Through, b: Through) -> Through
     ensures one { (result ≡ a) ⊎ (result ≡ b) }
     ensures first { a.cost ≤ result.cost }
@@ -301,25 +313,26 @@ fn costlier(a: Through, b: Through) -> Through
     a
 }
 
-// The greater of the two, where the first is there; else the second.
+// Returns the higher of the two metrics.
 fn greater(a: Option<u32>, b: u32) -> Option<u32>
     ensures { IsMost (λ n. (a ≡ Some n) ⊎ (Some b ≡ Some n)) result }
 {
     a.max(Some(b))
 }
 
-// The cost of the preferred route of an AS boundary router, where that leads through another area. A stub area is sent none.
+// Returns the metric at which an AS boundary router is due in the area. `given` is its preferred
+// route.
 fn router_metric(stub: Option<Stub>, area: u32, given: Given) -> Option<u32>
     ensures { (m : ℕ) → (result ≡ Some m) ↔ ((stub ≡ None) × (metric_into given area ≡ Some m)) }
 {
-    // 12.4.3: a stub area is sent no AS boundary routers.
+    // 12.4.3: no type 4 summary-LSAs are originated into stub areas.
     match stub {
         Some(_) => None,
         None => given.metric_into(area),
     }
 }
 
-// What gives a summary for the AS boundary router whose preferred route this is.
+// Returns the sources of a summary for an AS boundary router: only its preferred route.
 fn router_given(preferred: Option<&AsbrRoute>) -> Given
     ensures { IsRouterIn (option_copied preferred.entry) result }
 {
@@ -329,12 +342,12 @@ fn router_given(preferred: Option<&AsbrRoute>) -> Given
     }
 }
 
-// The area that the preferred entry leads through, where its cost is finite.
+// Returns the preferred route as a source, if there is one and its cost is below LSInfinity.
 fn preferred_through(preferred: Option<&AsbrRoute>) -> Option<Through>
     ensures { IsOnly (IsPreferredThrough (option_copied preferred.entry)) result }
 {
     let preferred = preferred?;
-    // 12.4.3: only the preferred path to an AS boundary router gives a summary, at a cost below LSInfinity.
+    // 12.4.3: AS boundary routers are advertised by their preferred route, below LSInfinity.
     if preferred.cost() < LS_INFINITY {
         return Some(Through {
             area: preferred.area(),

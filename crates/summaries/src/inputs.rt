@@ -5,11 +5,11 @@ use intra::Intra;
 use ospf_types::config::AreaConfig;
 use std::marker::Model;
 
-/// What due summaries are calculated from.
+/// The inputs of due summaries.
 #[derive(Drop)]
 pub struct SummaryInputs<'a> {
     pub areas: &'a [AreaConfig],
-    /// The Area IDs of the active areas: those with an interface that is up.
+    /// The Area IDs of the active areas, which have an interface that is up.
     pub active: &'a [u32],
     pub intra: &'a Intra,
     pub ranges: &'a ActiveRanges,

@@ -22,10 +22,10 @@ use std::alloc::Global;
 use std::marker::Model;
 use summary_lists::{AreaPlan, AreaSummaries, DueSummary, look_up};
 
-/// What is to change in due summaries, with room for it.
+/// The changes to make in due summaries, for which all memory is reserved.
 #[derive(Drop)]
 pub struct Plan {
-    // One an area, or none at all where nothing changes.
+    // A plan for each area. The list is empty if no destination is affected.
     areas: Vec<AreaPlan>,
     active: SmallVec<u32, 4>,
 }
@@ -42,15 +42,15 @@ impl Model for Plan {
     ghost view = { λ p. record { areas = p.areas.items; active = p.active.items } };
 }
 
-/// The summaries that an area border router is to send into its areas (RFC 2328, 12.4.3).
+/// The summary-LSAs that an area border router should originate into its areas (RFC 2328, 12.4.3).
 pub struct DueSummaries {
     areas: Vec<AreaSummaries>,
     active: SmallVec<u32, 4>,
-    // What a plan looks up; kept for its memory.
+    // The affected destinations of the last plan. They are kept for their memory.
     candidates: Vec<Candidate>,
 }
 
-// proof: one call drops it, in place of a drop of each part wherever one is held.
+// proof: a value is dropped by one call, not part by part at each exit of a function.
 impl Drop for DueSummaries {
     fn drop(self) {
         let DueSummaries {
@@ -74,7 +74,7 @@ impl Model for DueSummaries {
 }
 
 impl DueSummaries {
-    /// What is due by these inputs, from scratch.
+    /// Builds the due summaries of these inputs.
     pub fn build(alloc: Global, inputs: &SummaryInputs<'_>) -> Result<DueSummaries, Memory>
         ensures kept { IfOk result (AreSummariesOf inputs.now) }
         ensures right { IfOk result (IsRightWith inputs.now) }
@@ -85,8 +85,15 @@ impl DueSummaries {
         Ok(summaries)
     }
 
-    /// What is to change where the routes to the named destinations may differ, and one range, if its prefix and the networks
-    /// of its area that it covers are named: the lists stay, and get room for it.
+    /// Plans the update of the due summaries for the destinations in `dests`. The lists are
+    /// unchanged, and reserve the memory that carrying out the plan needs.
+    ///
+    /// `dests` lists every destination whose route may have changed. If an address range was set or
+    /// dropped, it also lists the prefix of the range, and the networks of its area that it covers.
+    ///
+    /// # Errors
+    ///
+    /// Returns `Memory` if memory runs out. The lists are then unchanged.
     pub fn plan(
         &mut self,
         alloc: Global,
@@ -115,7 +122,7 @@ impl DueSummaries {
         Ok(Plan { areas, active })
     }
 
-    /// Makes the changes of a plan, and tells them. It takes no memory.
+    /// Makes the changes of a plan, and returns them. It allocates nothing.
     pub fn carry_out(&mut self, plan: Plan) -> DueChanges
         requires { IsReady plan self.old }
         ensures carried { IsCarriedOut plan self.old self.new }
@@ -127,14 +134,15 @@ impl DueSummaries {
         DueChanges::of(areas)
     }
 
-    /// What is due in each area, in the order of the configuration.
+    /// Returns the due summaries of each area, in the order of the configuration.
     pub fn areas(&self) -> &[AreaSummaries]
         ensures { result.now ≡ self.now.areas }
     {
         self.areas.as_slice()
     }
 
-    /// What is due in the area, ascending by LS type and destination; `None` where no such area is configured.
+    /// Returns the due summaries of the area, ascending by LS type and destination, or `None` if
+    /// the area is not configured.
     pub fn get(&self, area: u32) -> Option<&[DueSummary]>
         ensures { option_map (λ list. list.now) result ≡ list_in self.now.areas area }
     {
@@ -148,7 +156,7 @@ impl DueSummaries {
 }
 
 impl DueSummaries {
-    // Nothing is due in any area.
+    // Creates empty lists for the areas.
     fn none(alloc: Global, areas: &[AreaConfig]) -> Result<DueSummaries, Memory>
         ensures { IfOk result (AreOfInactive areas.now) }
     {
@@ -163,7 +171,8 @@ impl DueSummaries {
         })
     }
 
-    // The destinations whose summaries may differ, ascending, each once: all where other areas are active than before.
+    // Returns the destinations whose due summaries may change, in ascending order without
+    // duplicates. These are all destinations if other areas are active than before.
     fn affected(
         &self,
         alloc: Global,
@@ -178,14 +187,14 @@ impl DueSummaries {
         if !are_same {
             return self.all(alloc, inputs);
         }
-        // 12.4.3: only an area border router sends summaries.
+        // 12.4.3: only area border routers originate summary-LSAs.
         if inputs.active.len() < 2 {
             return Ok(Vec::new(alloc));
         }
         affected(alloc, inputs.areas, dests)
     }
 
-    // All destinations that are due or may be, ascending, each once.
+    // Returns all destinations that are or may be due, in ascending order without duplicates.
     fn all(&self, alloc: Global, inputs: &SummaryInputs<'_>) -> Result<Vec<Dest>, Memory>
         ensures in_order { IfOk result (λ found. IsStrictlySortedBy dest_cmp found.items) }
         ensures enough { IfOk result (λ found. AreEnoughForAll inputs.now self.now found.items) }
@@ -195,7 +204,7 @@ impl DueSummaries {
         ascending(found)
     }
 
-    // Adds what is due in an area.
+    // Appends the destinations that are due in an area.
     fn push_own(&self, dests: &mut Vec<Dest>) -> Result<(), Memory>
         ensures { OnOk result
             (dests.new.items ≡ dests.old.items ++ flat_map dests_of self.now.areas) }
@@ -207,7 +216,7 @@ impl DueSummaries {
     }
 }
 
-// Adds the destinations.
+// Appends the destinations of the summaries.
 fn push_dests(list: &[DueSummary], dests: &mut Vec<Dest>) -> Result<(), Memory>
     ensures { OnOk result
         (dests.new.items ≡ dests.old.items ++ list_map (λ due. due.dest) list.now) }
@@ -218,7 +227,7 @@ fn push_dests(list: &[DueSummary], dests: &mut Vec<Dest>) -> Result<(), Memory>
     Ok(())
 }
 
-// The destinations, each with what may give a summary for it, in the place of those that were found before.
+// Replaces the candidates by these destinations, each with the sources of its summary.
 fn find_candidates(
     inputs: &SummaryInputs<'_>,
     dests: &[Dest],
@@ -234,7 +243,7 @@ fn find_candidates(
     Ok(())
 }
 
-// What a plan is made from: the destinations that may change, each with what may give a summary for it.
+// The inputs of a plan: the affected destinations, each with the sources of its summary.
 #[derive(Clone, Copy)]
 struct Planning<'a> {
     inputs: &'a SummaryInputs<'a>,
@@ -242,7 +251,7 @@ struct Planning<'a> {
 }
 
 impl Planning<'_> {
-    // What is to change in each of the lists.
+    // Plans the changes of each list.
     fn plan_areas(self, alloc: Global, lists: &mut [AreaSummaries]) -> Result<Vec<AreaPlan>, Memory>
         requires long { length lists.old ≡ length self.inputs.now.areas }
         requires right { AreCandidates self.inputs.now self.candidates.now }
@@ -262,7 +271,7 @@ impl Planning<'_> {
         Ok(plans)
     }
 
-    // Plans one area.
+    // Plans the changes of one area.
     fn plan_area(
         self,
         alloc: Global,
@@ -281,8 +290,8 @@ impl Planning<'_> {
         Ok(plan)
     }
 
-    // The destinations that are due at another metric than the list has, with that metric; and whether some of them come to
-    // the list or leave it.
+    // Returns the destinations that are due at another metric than in the list, with that metric.
+    // Returns also true if some of them are added to the list or removed from it.
     fn changes(
         self,
         alloc: Global,
@@ -311,7 +320,7 @@ impl Planning<'_> {
     }
 }
 
-// Makes the changes, each in its list. It takes no memory.
+// Makes the changes of each list. It allocates nothing.
 fn carry_out_areas(plans: &mut [AreaPlan], lists: &mut [AreaSummaries])
     requires { AllFit plans.old lists.old }
     ensures lists { AllChanged (changes_of plans.old) lists.old lists.new }
@@ -322,7 +331,8 @@ fn carry_out_areas(plans: &mut [AreaPlan], lists: &mut [AreaSummaries])
     }
 }
 
-// Adds the destination at this metric, unless that is the one that it had. The answer is whether it comes or leaves.
+// Appends the destination with this metric, unless it had the metric before. Returns true if it is
+// added to the list or removed from it.
 fn push_change(
     dest: Dest,
     metric: Option<u32>,

@@ -1,5 +1,5 @@
-//! The list of summary-LSAs that are due in an area, and how it changes: a change is planned, with room for it, and
-//! then carried out without memory.
+//! The list of summary-LSAs that are due in an area, and its changes. A change is planned, which
+//! reserves memory for it, and is then carried out without allocating.
 #![tactic(auto)]
 
 mod due;

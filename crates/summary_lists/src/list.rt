@@ -1,4 +1,4 @@
-//! What is due in one area.
+//! The due summaries of one area.
 ghost use Rattle.std.specs.Prelude.{◌≡◌, ◌≤◌, ◌<◌, ◌+◌, ◌++◌, [], length, IfOk, IfErr, OnOk};
 ghost use Rattle.summary_lists.specs.Lists.{AreInOrder, IsMetricIn, IsPut, IsChangedBy, AreMetricsInOrder, AreOfKind};
 ghost use Rattle.summary_lists.specs.Places.{IsAt, IsGapFor, those_before, those_at, those_after};
@@ -16,7 +16,7 @@ pub struct AreaSummaries {
     list: Vec<DueSummary>,
 }
 
-// proof: one call drops it, in place of a drop of each part wherever one is held.
+// proof: a value is dropped by one call, not part by part at each exit of a function.
 impl Drop for AreaSummaries {
     fn drop(self) {
         let AreaSummaries {
@@ -38,7 +38,7 @@ impl Model for AreaSummaries {
 }
 
 impl AreaSummaries {
-    /// Nothing is due in the area.
+    /// Creates the empty list of the area.
     pub fn none(alloc: Global, area: u32) -> AreaSummaries
         ensures area { result.area ≡ area }
         ensures list { result.list ≡ [] }
@@ -49,14 +49,14 @@ impl AreaSummaries {
         }
     }
 
-    /// Its Area ID.
+    /// Returns the Area ID.
     pub fn area(&self) -> u32
         ensures { result ≡ self.now.area }
     {
         self.area
     }
 
-    /// Ascending by LS type and destination.
+    /// Returns the summaries, ascending by LS type and destination.
     pub fn as_slice(&self) -> &[DueSummary]
         ensures value { result.now ≡ self.now.list }
         ensures in_order { AreInOrder self.now.list }
@@ -65,7 +65,7 @@ impl AreaSummaries {
         self.list.as_slice()
     }
 
-    /// Makes room for so many more.
+    /// Reserves room for `more` summaries.
     pub fn reserve(&mut self, more: usize) -> Result<(), Memory>
         ensures area { self.new.area ≡ self.old.area }
         ensures list { self.new.list ≡ self.old.list }
@@ -75,7 +75,10 @@ impl AreaSummaries {
         Ok(())
     }
 
-    /// Changes what is due to these destinations, one after the other.
+    /// Sets the metrics of these destinations in the list, one by one. A destination is removed if
+    /// its metric is `None`.
+    ///
+    /// There must be room for as many summaries, so that nothing is allocated.
     pub fn put_all(&mut self, metrics: &[(Dest, Option<u32>)])
         requires in_order { AreMetricsInOrder metrics.now }
         requires room { length metrics.now ≤ self.old.room }
@@ -88,11 +91,11 @@ impl AreaSummaries {
         for (dest, metric) in metrics {
             near = self.put(near, *dest, *metric);
         }
-        // (the type keeps the order of its list, and a look at the list brings that into the proof)
+        // proof: the type keeps its list in order, and reading the list gives the prover this fact.
         let _ = self.list.len();
     }
 
-    /// The list with these changes, in one pass, and room for an eighth more.
+    /// Returns the list with these changes, made in one pass, with room for an eighth more.
     pub fn merged(
         &self,
         alloc: Global,
@@ -114,7 +117,7 @@ impl AreaSummaries {
         Ok(list)
     }
 
-    /// This list in the place of the one before.
+    /// Replaces the list.
     pub fn set(&mut self, list: Vec<DueSummary>)
         requires in_order { AreInOrder list.items }
         requires of_kind { AreOfKind list.items }
@@ -126,8 +129,8 @@ impl AreaSummaries {
 }
 
 impl AreaSummaries {
-    // The destination is due at this metric; for none it is not due. It may stand at the place `near`. The answer is the
-    // place after it.
+    // Sets the metric of the destination, or removes the destination if `metric` is `None`. It may
+    // be at the index `near`. Returns the index after it.
     fn put(&mut self, near: usize, dest: Dest, metric: Option<u32>) -> usize
         requires { 0 < self.old.room }
         ensures area { self.new.area ≡ self.old.area }
@@ -157,7 +160,8 @@ impl AreaSummaries {
         }
     }
 
-    // Where the destination is, or where it would go. The place `near` is tried first.
+    // Returns the index of the destination as `Ok`, or the index at which to insert it as `Err`.
+    // The index `near` is tried first.
     fn place(&self, near: usize, dest: &Dest) -> Result<usize, usize>
         ensures found { IfOk result (IsAt self.now.list dest.now) }
         ensures absent { IfErr result (IsGapFor self.now.list dest.now) }
@@ -173,8 +177,10 @@ impl AreaSummaries {
     }
 }
 
-/// The metric at which the destination is due by this list, and what comes after it in the list. Destinations that are
-/// looked up in ascending order are looked up in what came after the one before.
+/// Returns the metric at which the destination is due by this list, and the rest of the list after
+/// it.
+///
+/// Callers that look up destinations in ascending order pass the rest of the previous call.
 pub fn look_up<'a>(list: &'a [DueSummary], dest: &Dest) -> (Option<u32>, &'a [DueSummary])
     requires in_order { AreInOrder list.now }
     requires of_kind { AreOfKind list.now }
@@ -187,8 +193,8 @@ pub fn look_up<'a>(list: &'a [DueSummary], dest: &Dest) -> (Option<u32>, &'a [Du
     }
 }
 
-// Where the destination is, or where it would go. Destinations in their order mostly stand side by side, so the front of
-// the list is tried first.
+// Returns the index of the destination as `Ok`, or the index at which to insert it as `Err`.
+// Destinations in order are usually adjacent, so the first summary is tried first.
 fn place_in(list: &[DueSummary], dest: &Dest) -> Result<usize, usize>
     requires { AreInOrder list.now }
     ensures found { IfOk result (IsAt list.now dest.now) }
@@ -204,7 +210,7 @@ fn place_in(list: &[DueSummary], dest: &Dest) -> Result<usize, usize>
     }
 }
 
-// Where the destination is, or where it would go.
+// Returns the index of the destination as `Ok`, or the index at which to insert it as `Err`.
 fn place_by_search(list: &[DueSummary], dest: &Dest) -> Result<usize, usize>
     requires { AreInOrder list.now }
     ensures found { IfOk result (IsAt list.now dest.now) }
@@ -213,7 +219,7 @@ fn place_by_search(list: &[DueSummary], dest: &Dest) -> Result<usize, usize>
     list.binary_search_by_key(dest, |due| due.dest)
 }
 
-// Adds those before the destination. The answer is what comes after it.
+// Appends the summaries before the destination to `list`. Returns the summaries after it.
 fn push_before<'a>(
     rest: &'a [DueSummary],
     dest: &Dest,
@@ -232,7 +238,7 @@ fn push_before<'a>(
     Ok(&rest[begin..])
 }
 
-// Adds what is due. Mostly that is nothing, since changes stand side by side.
+// Appends the summaries. Usually there are none, as changes are often adjacent.
 fn push_all(summaries: &[DueSummary], list: &mut Vec<DueSummary>) -> Result<(), Memory>
     ensures { OnOk result (list.new.items ≡ list.old.items ++ summaries.now) }
 {
@@ -243,7 +249,7 @@ fn push_all(summaries: &[DueSummary], list: &mut Vec<DueSummary>) -> Result<(), 
     Ok(())
 }
 
-// Adds the destination, where it is due.
+// Appends the summary for the destination, if it is due.
 fn push_at(dest: Dest, metric: Option<u32>, list: &mut Vec<DueSummary>) -> Result<(), Memory>
     ensures { OnOk result (list.new.items ≡ list.old.items ++ those_at dest metric) }
 {

@@ -1,4 +1,4 @@
-//! What is to change in the list of an area: made with memory, and carried out without.
+//! The changes of one area's list: planned with memory, and carried out without.
 ghost use Rattle.std.specs.Prelude.{◌≡◌, IfOk};
 ghost use Rattle.summary_lists.specs.Lists.{AreMetricsInOrder};
 ghost use Rattle.summary_lists.specs.Plans.{Fits, IsChanged};
@@ -9,24 +9,31 @@ use ospf_types::key::Dest;
 use ospf_types::memory::Memory;
 use std::alloc::Global;
 
-// With more changes than this, of which some move what comes after them, the list is made anew, in one pass; else each is
-// put in its place.
+// The greatest number of changes that are always made one by one. If there are more, and some of
+// them move the summaries after them, the list is rebuilt in one pass.
 const FEW: usize = 8;
 
-/// What is to change in one area, and then what has changed there.
+/// The changes of one area's list, which are first planned and then made.
 #[derive(Drop)]
 pub struct AreaPlan {
-    /// Its Area ID.
+    /// The Area ID.
     pub area: u32,
-    /// The destinations, ascending, each once, with their metrics: none for one that is no longer due.
+    /// The destinations in ascending order without duplicates, with their metrics: `None` for a
+    /// destination that is no longer due.
     pub metrics: Vec<(Dest, Option<u32>)>,
-    /// The list with these changes, where it was made anew and is to be set yet.
+    /// The list with these changes, if it was rebuilt and is not set yet.
     pub whole: Option<Vec<DueSummary>>,
 }
 
 impl AreaPlan {
-    /// The plan of these changes. The list stays, and gets room. Where some destinations come or go, `moves` is to be
-    /// `true`: a list that is mostly moved is made anew instead, which costs less.
+    /// Plans these changes. The list is unchanged, and gets room for them.
+    ///
+    /// `moves` should be true if some destinations are added or removed. If many summaries have to
+    /// move, it costs less to rebuild the list.
+    ///
+    /// # Errors
+    ///
+    /// Returns `Memory` if memory runs out. The list is then unchanged.
     pub fn of(
         alloc: Global,
         metrics: Vec<(Dest, Option<u32>)>,
@@ -56,7 +63,7 @@ impl AreaPlan {
         })
     }
 
-    /// Changes the list so. It takes no memory.
+    /// Makes the planned changes in the list. It allocates nothing.
     pub fn carry_out(&mut self, summaries: &mut AreaSummaries)
         requires { Fits self.old summaries.old }
         ensures list { IsChanged self.old.metrics.items summaries.old summaries.new }

@@ -1,4 +1,4 @@
-//! Prints which beginnings of recordings come of LSAs.
+//! Prints the preambles of recordings that are made of LSAs.
 mod bytes;
 mod many_links;
 mod samples;
@@ -13,7 +13,7 @@ use std::alloc::Global;
 use std::hash::RandomState;
 use trial::Trial;
 
-/// The router whose configuration is wanted.
+/// The Router ID of the router whose configuration is wanted.
 const ROUTER: u32 = 0x0a00_0009;
 
 pub fn run(rt: &HostRuntime) -> Result<()> {
@@ -67,7 +67,7 @@ fn note_summaries(rt: &HostRuntime, trial: &mut Trial) -> Result<()> {
     Ok(())
 }
 
-// A router with 300 stub networks, 10.1.0.0/24 and those that follow.
+// Prints the preamble for a router with 300 stub networks, from 10.1.0.0/24 up.
 fn put_many_networks(rt: &HostRuntime) -> Result<()> {
     let mut trial = Trial::new(rt.alloc(), RandomState::new(rt)?, ROUTER);
     trial.see(0)?;
@@ -87,7 +87,8 @@ fn put_many_networks(rt: &HostRuntime) -> Result<()> {
     Ok(())
 }
 
-// Two routers with as many links as a router-LSA holds, nearly. What is printed last tells whether the last was found.
+// Prints the last lines for two routers, each with nearly as many links as a router-LSA holds. They
+// show if the last link was found.
 fn put_many_links(rt: &HostRuntime) -> Result<()> {
     let alloc = rt.alloc();
     let mut trial = Trial::new(alloc, RandomState::new(rt)?, ROUTER);
@@ -111,7 +112,7 @@ fn note_links(alloc: Global, trial: &mut Trial, router: u32, links: &[Fields]) -
     trial.note(alloc, 0, &lsa)
 }
 
-// A router of which nothing is known but its areas.
+// Prints the fault for a router of which only the areas are known.
 fn put_areas(rt: &HostRuntime, count: u32) -> Result<()> {
     let mut trial = Trial::new(rt.alloc(), RandomState::new(rt)?, ROUTER);
     for area in 0..count {

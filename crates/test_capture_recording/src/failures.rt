@@ -1,4 +1,4 @@
-//! Records a capture where the input, the output or what is said fails, and prints what came of it.
+//! Records a capture with an input or an output that fails, and prints the results.
 mod device;
 pub mod samples;
 
@@ -9,32 +9,33 @@ use samples::{CAPTURE, FIRST, FRONT, HEADER};
 use std::hash::RandomState;
 use std::io;
 
-/// Options that leave nothing out of the ordinary.
+/// The default options.
 const OPTIONS: Options = Options {
     keeps_all: false,
     without_seconds: false,
 };
 
-/// More bytes than are written.
+/// A greater number of bytes than are written.
 const AMPLE: usize = 1_000;
 
-/// A capture, and the devices that it is recorded with.
+/// A capture, and the devices with which it is recorded.
 #[derive(Clone, Copy)]
 struct Trial<'a> {
     name: &'a str,
     beginning: Preamble<'a>,
-    /// How many bytes of the capture come.
+    /// The number of bytes of the capture that can be read.
     length: usize,
-    /// Behind them a read fails.
+    /// True if a read fails after them.
     fails: bool,
-    /// How many bytes of the recording are taken, and how a write fails then.
+    /// The number of bytes of the recording that can be written. `failure` is the error of a write
+    /// after them.
     room: usize,
     failure: io::ErrorKind,
-    /// How many bytes are taken of what is said.
+    /// The number of bytes that can be written to standard error.
     told: usize,
 }
 
-/// All is recorded.
+/// A trial in which nothing fails.
 const WHOLE: Trial<'static> = Trial {
     name: "nothing fails",
     beginning: Preamble::Given(FRONT),

@@ -1,4 +1,5 @@
-//! Records a capture of which a packet comes at each read, and prints how many bytes of the recording were written by then.
+//! Records a capture with one packet at each read. It prints how many bytes of the recording were
+//! written before each read.
 
 use crate::failures::samples::{CAPTURE, FIRST, FRONT, HEADER};
 use anyhow::{Result, ensure};
@@ -7,18 +8,18 @@ use std::cell::Cell;
 use std::hash::RandomState;
 use std::io;
 
-/// Options that leave nothing out of the ordinary.
+/// The default options.
 const OPTIONS: Options = Options {
     keeps_all: false,
     without_seconds: false,
 };
 
-/// Gives the header, and then a packet at each read.
+/// An input that gives the header, and then one packet at each read.
 #[derive(Drop)]
 struct Input<'a> {
     reads: usize,
     written: &'a Cell<usize>,
-    /// How many bytes were written at each of the first reads.
+    /// The number of bytes written before each of the first reads.
     seen: [usize; 4],
 }
 
@@ -38,7 +39,7 @@ impl io::Read for Input<'_> {
     }
 }
 
-/// Counts what is written.
+/// An output that counts the bytes written.
 #[derive(Drop)]
 struct Output<'a> {
     written: &'a Cell<usize>,
@@ -56,7 +57,12 @@ impl io::Write for Output<'_> {
     }
 }
 
-/// The lines of a packet are written before the input is read for the next one.
+/// Prints how many bytes were written before each read. The lines of a packet are written before
+/// the next packet is read.
+///
+/// # Errors
+///
+/// Returns an error if the capture is not recorded, or if memory runs out.
 pub fn run(rt: &HostRuntime) -> Result<()> {
     let written = Cell::new(0);
     let mut input = Input {

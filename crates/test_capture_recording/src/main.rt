@@ -1,5 +1,8 @@
-//! Prints the lines and the beginnings of recordings that come of captures, and what comes where an input or an output fails. Behind
-//! them it prints how much was written whenever an input was read. It ends with an error where lines that were packed are others.
+//! Prints the lines and the preambles of recordings that are made of captures, also with inputs and
+//! outputs that fail.
+//!
+//! It also prints how much was written before each read of an input. The run ends with an error if
+//! lines that were packed differ.
 #![tactic(auto)]
 
 mod beginnings;

@@ -1,4 +1,4 @@
-//! Records a capture of many packets, whose lines are packed until it is known what the recording begins with.
+//! Records a capture of many packets, whose lines are packed until the preamble is known.
 
 use crate::failures::samples::{CAPTURE, FIRST, FRONT, HEADER};
 use anyhow::{Result, ensure};
@@ -6,19 +6,23 @@ use capture_recording::{Preamble, Capturing, Options, record_capture};
 use std::alloc::Global;
 use std::hash::RandomState;
 
-/// How often the packet comes.
+/// The number of times that the packet comes.
 const MANY: usize = 1_500;
 
-/// More bytes of lines than are kept unpacked.
+/// A number of bytes of lines from which some are packed.
 const PACKED: usize = 131_072;
 
-/// An LSA is recorded each time that it comes.
+/// Options with which an LSA is recorded each time that it comes.
 const OPTIONS: Options = Options {
     keeps_all: true,
     without_seconds: false,
 };
 
-/// The lines are those that are written behind a beginning that is given.
+/// Compares the packed lines with the lines that are written after a given preamble.
+///
+/// # Errors
+///
+/// Returns an error if the lines differ, if the capture is not recorded, or if memory runs out.
 pub fn run(rt: &HostRuntime) -> Result<()> {
     let (alloc, hashing) = (rt.alloc(), RandomState::new(rt)?);
     let capture = capture_of_many(alloc)?;
@@ -38,7 +42,7 @@ fn capture_of_many(alloc: Global) -> Result<Vec<u8>> {
     Ok(bytes)
 }
 
-// What is written of the capture.
+// Returns the recording of the capture.
 fn recorded(
     alloc: Global,
     hashing: RandomState,

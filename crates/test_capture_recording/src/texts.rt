@@ -1,4 +1,5 @@
-//! Prints lines of each kind: those of a recording, of faults, of seconds that are not recorded, and of what was found.
+//! Prints lines of each kind: lines of a recording, faults, seconds that are not recorded, and
+//! counts.
 mod samples;
 
 use anyhow::Result;
@@ -8,13 +9,13 @@ use datagrams::DatagramFault;
 use packets::{PacketFault, PacketKind};
 use samples::{one_each, two_each, without_lsas};
 
-/// 192.0.2.2.
+/// The address 192.0.2.2.
 const SENDER: u32 = 0xc000_0202;
 
-/// 300 milliseconds behind a second of the year 2023, in nanoseconds.
+/// A time 300 milliseconds after a second of the year 2023, in nanoseconds.
 const TIME: u64 = 1_700_000_002_300_000_000;
 
-/// A whole second.
+/// A time at a whole second, in nanoseconds.
 const LATER: u64 = 1_700_009_000_000_000_000;
 
 pub fn run(rt: &HostRuntime) -> Result<()> {
@@ -27,7 +28,7 @@ pub fn run(rt: &HostRuntime) -> Result<()> {
     Ok(())
 }
 
-// One of each.
+// Prints one of each.
 fn put_one(rt: &HostRuntime, text: &mut String) -> Result<()> {
     let mut counts = Counts::default();
     counts.count_heard(&Heard::Part);
@@ -36,7 +37,7 @@ fn put_one(rt: &HostRuntime, text: &mut String) -> Result<()> {
     Ok(())
 }
 
-// Several of each, and faults of each kind.
+// Prints several of each, and faults of each kind.
 fn put_several(rt: &HostRuntime, text: &mut String) -> Result<()> {
     let mut counts = Counts::default();
     hear(&mut counts);
@@ -51,7 +52,7 @@ fn put_several(rt: &HostRuntime, text: &mut String) -> Result<()> {
     Ok(())
 }
 
-// Gaps of 3600 seconds, all of which are recorded, and of more.
+// Prints a gap of 3600 seconds, all of which are recorded, and a longer one.
 fn put_gaps(rt: &HostRuntime, text: &mut String) -> Result<()> {
     let mut counts = Counts::default();
     let mut lines = String::new(rt.alloc());
@@ -66,7 +67,7 @@ fn put_gaps(rt: &HostRuntime, text: &mut String) -> Result<()> {
     Ok(())
 }
 
-// What is printed of a packet.
+// Counts a packet, and prints its notes and lines.
 fn put_packet(
     when: Option<u64>,
     taken: Taken,

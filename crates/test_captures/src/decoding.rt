@@ -1,5 +1,5 @@
-//! Prints what captures are read as, each whole and by few bytes at a time. It ends with an error where the two
-//! differ.
+//! Prints the packets and faults of captures, each read whole and few bytes at a time. It ends with
+//! an error if the two readings differ.
 mod reading;
 mod samples;
 
@@ -10,7 +10,7 @@ use samples::*;
 use std::alloc::Global;
 use std::fs;
 
-/// How many bytes come at a time.
+/// The numbers of bytes at a time.
 const STEPS: [usize; 3] = [1, 7, 64];
 
 pub fn run(rt: &HostRuntime) -> Result<()> {
@@ -49,7 +49,7 @@ pub fn run(rt: &HostRuntime) -> Result<()> {
     Ok(())
 }
 
-// What is printed of a capture, which is the same however its bytes come.
+// Returns the text of a capture, which is the same however its bytes come.
 fn shown(alloc: Global, name: &str, bytes: &[u8]) -> Result<String> {
     let whole = read_all(alloc, bytes, bytes.len())?;
     for step in STEPS {

@@ -1,5 +1,7 @@
-//! Prints what captures are read as, each whole and by few bytes at a time, and what recordings come of them. It ends with an
-//! error where the first two differ, or where an LSA that was heard is not known again.
+//! Prints the packets of captures, and the recordings that are made of them.
+//!
+//! Each capture is read whole and few bytes at a time. The run ends with an error if the two
+//! readings differ, or if an LSA that was recorded is recorded again.
 #![tactic(auto)]
 
 mod decoding;
@@ -7,7 +9,7 @@ mod recorded;
 
 use anyhow::Result;
 
-/// Captures of the same packets in each format, the third of them cut off within its last packet.
+/// Captures of the same packets in each format. The third is cut off within its last packet.
 const FILES: [&str; 4] = [
     "small.pcap",
     "small-be-nano.pcap",

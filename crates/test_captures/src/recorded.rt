@@ -1,4 +1,4 @@
-//! Prints what recordings come of captures.
+//! Prints the recordings that are made of captures.
 mod many;
 mod reading;
 mod samples;
@@ -30,7 +30,7 @@ pub fn run(rt: &HostRuntime) -> Result<()> {
     ensure_known_again(rt.alloc(), RandomState::new(rt)?)
 }
 
-// What is recorded of a file, with nothing left out if it is bare.
+// Prints the recording of a file. A bare recording has all LSAs and no seconds.
 fn put_file(rt: &HostRuntime, name: &str, is_bare: bool) -> Result<()> {
     let options = Options {
         keeps_all: is_bare,
@@ -44,7 +44,7 @@ fn put_file(rt: &HostRuntime, name: &str, is_bare: bool) -> Result<()> {
     Ok(())
 }
 
-// What is recorded of packets that were written by hand.
+// Prints the recording of packets that were written by hand.
 fn put_packets(rt: &HostRuntime, packets: &[&[u8]], keeps_all: bool) -> Result<()> {
     let options = Options {
         keeps_all,

@@ -1,12 +1,12 @@
-//! What a core answers to each event: its serial, whether anything that is used changed, and how many networks the table
-//! then has; and that no event build_count anything anew.
+//! The replies of a core: serials, and if anything that is used changed. Also the number of
+//! networks in the table after each event, and that no event builds anything from scratch.
 use crate::{events_of, networks_of};
 use event_core::{Core, Event, Refusal, Reply, Status};
 use std::alloc::Global;
 use std::hash::RandomState;
 use std::test::Fail;
 
-// The root's own router-LSA, a second before MaxAge: purged too early, aged, purged.
+// The root's own router-LSA, one second before MaxAge. It is purged too early, ages, and is purged.
 const AGED: &str = "abr 1\n\
 router 10.0.0.1\n\
 area 0.0.0.0 normal\n\
@@ -17,7 +17,8 @@ second\n\
 second\n\
 purge 0.0.0.0 1 10.0.0.1 10.0.0.1\n";
 
-// Another router's LSA, an LSA that is not there, and twice the root's own, are to be aged prematurely.
+// Flushes: an LSA of another router, an LSA that is not in the database, and the root's own LSA
+// twice.
 const FLUSHED: &str = "abr 1\n\
 router 10.0.0.1\n\
 area 0.0.0.0 normal\n\
@@ -29,9 +30,11 @@ flush 0.0.0.0 3 10.2.0.0 10.0.0.2\n\
 flush 0.0.0.0 1 10.0.0.1 10.0.0.1\n\
 flush 0.0.0.0 1 10.0.0.1 10.0.0.1\n";
 
-// A border router between the backbone, with a border router that is an AS boundary router, and an area with a transit
-// network: LSAs of each type come, change, come to MaxAge by a second, are aged prematurely and purged, and an interface
-// goes down and comes up.
+// A border router between the backbone and an area with a transit network.
+//
+// The backbone has a router that is both an area border router and an AS boundary router. LSAs of
+// each type are installed and changed. One reaches MaxAge by a second, one is flushed, and both are
+// purged. An interface goes down and comes up.
 pub const ALL: &str = "abr 1\n\
 router 10.0.0.1\n\
 area 0.0.0.0 normal\n\
@@ -66,7 +69,7 @@ fn opened(rt: &HostRuntime, text: &str) -> Result<(Core, Vec<Event>), Fail> {
     Ok((core, events))
 }
 
-// The answer as text.
+// Returns the text of the reply or refusal, with the number of networks.
 fn printed(alloc: Global, answer: Result<Reply, Refusal>, networks: usize) -> Result<String, Fail> {
     let text = match answer {
         Ok(reply) => format!(in alloc; "{} {} {}\n", reply.serial, reply.changed, networks)?,
@@ -100,7 +103,7 @@ fn what_no_longer_counts_changes_nothing(rt: HostRuntime) -> Result<(), Fail> {
     Ok(())
 }
 
-// Whether the event is followed: the core is current, and has built nothing since it was opened.
+// Returns true if the core is current after the event, and has built nothing since it was opened.
 fn is_followed(core: &mut Core, event: Event) -> bool {
     match core.apply(event) {
         Ok(reply) => reply.state == Status::Current && core.build_count() == 1,

@@ -1,5 +1,5 @@
-//! Trials of the event core on recordings: what the last event changed of the table, the work that it was,
-//! and what the core answered.
+//! Tests of the event core on recordings: the changes of the table by the last event, the work of
+//! that event, and the replies.
 #![tactic(auto)]
 
 mod trial;

@@ -1,4 +1,5 @@
-//! Cores that are rolled: they go on as one does that never was, and what a roll makes can be opened again.
+//! Cores that are rolled. They agree with a core that is never rolled, and with a core that is
+//! opened from their base.
 use crate::{events_of, items};
 use event_core::{Core, Event, Status};
 use lsa_codec::Checked;
@@ -8,12 +9,13 @@ use std::alloc::Global;
 use std::hash::RandomState;
 use std::test::Fail;
 
-// The range that is set, dropped and set again.
+// Returns the range that is set, hidden and dropped.
 fn range() -> Prefix {
     Prefix::from_mask(0x0a00_0000, 0xff00_0000)
 }
 
-// A core that is rolled now and then, one that never is, and how many events they took.
+// A core that is rolled after each third event, a core that is never rolled, and the number of
+// events taken.
 struct Pair {
     rolled: Core,
     other: Core,
@@ -46,7 +48,7 @@ fn opened(rt: &HostRuntime, text: &str) -> Result<(Pair, Vec<Event>), Fail> {
     ))
 }
 
-// Whether the LSAs of the two are the same ones, byte by byte, at the same ages.
+// Returns true if both lists have LSAs of the same scopes, keys and ages.
 fn are_same(lsas: &[(Scope, Checked)], others: &[(Scope, Checked)]) -> bool {
     lsas.len() == others.len()
         && lsas.iter().zip(others).all(|(one, other)| {
@@ -56,7 +58,8 @@ fn are_same(lsas: &[(Scope, Checked)], others: &[(Scope, Checked)]) -> bool {
         })
 }
 
-// Whether the two tell the same: table, due summaries, LSAs, ranges and serials.
+// Returns true if both cores have the same table, due summaries, LSAs and serials, and `one` is
+// current.
 fn agree(rt: &HostRuntime, one: &Core, other: &Core) -> Result<bool, Fail> {
     let here = items(rt.alloc(), one)?;
     let there = items(rt.alloc(), other)?;
@@ -71,7 +74,7 @@ fn agree(rt: &HostRuntime, one: &Core, other: &Core) -> Result<bool, Fail> {
     )
 }
 
-// The core that opens from the base of this one and takes the events of its journal.
+// Opens a core from the base of this one, and applies the events of its journal.
 fn opened_again(rt: &HostRuntime, core: &Core) -> Result<Core, Fail> {
     let base = core.base().copy(rt.alloc())?;
     let mut again = Core::open_from(rt.alloc(), base, RandomState::new(rt)?)?;
@@ -82,7 +85,8 @@ fn opened_again(rt: &HostRuntime, core: &Core) -> Result<Core, Fail> {
 }
 
 impl Pair {
-    // Takes the event, and after each third one rolls the one core. Whether all three cores agree.
+    // Applies the event to both cores, and rolls one after each third event. Returns true if these
+    // cores and one that is opened again agree.
     fn takes(&mut self, rt: &HostRuntime, event: Event) -> Result<bool, Fail> {
         let copy = event.copy(rt.alloc())?;
         let one = self.rolled.apply(event)?;
@@ -120,7 +124,7 @@ fn range_drop() -> Event {
     Event::RangeDrop { area, prefix }
 }
 
-// Events of each kind, and three hundred seconds among which a range comes, is hidden and goes.
+// Events of each kind, and 300 seconds in which a range is set, hidden and dropped.
 #[test]
 fn a_core_that_is_rolled_goes_on(rt: HostRuntime) -> Result<(), Fail> {
     let (mut pair, events) = opened(&rt, crate::answers::ALL)?;

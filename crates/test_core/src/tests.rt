@@ -6,7 +6,7 @@ use std::alloc::Global;
 use std::hash::RandomState;
 use std::test::Fail;
 
-// The peer's link to the network costs 6.
+// The peer's link to the network has metric 6.
 const DEARER: &str =
     "install 0.0.0.0 000102010a0000030a00000380000002ff40003c000000030a000001c633640201000005c0000202c000020302000006c6120000ffffff0003000001\n";
 
@@ -14,15 +14,15 @@ const DEARER: &str =
 const MOVED: &str =
     "install 0.0.0.0 000102010a0000020a00000280000002d08f003000000002c0000202c000020402000001cb007100ffffff0003000001\n";
 
-// The peer's link to the root goes.
+// The peer's link to the root is removed.
 const APART: &str =
     "install 0.0.0.0 000102010a0000030a00000380000002b609003000000002c0000202c000020302000005c6120000ffffff0003000001\n";
 
-// The peer's link to the network costs 4.
+// The peer's link to the network has metric 4.
 const CHEAPER: &str =
     "install 0.0.0.0 000102010a0000030a00000380000002c37e003c000000030a000001c633640201000005c0000202c000020302000004c6120000ffffff0003000001\n";
 
-// The network 192.0.2.0/24, and those of the leaf and of the peer.
+// The network 192.0.2.0/24, and the stub networks of the leaf and of the peer.
 const LAN: (u32, u8) = (0xc000_0200, 24);
 
 const OF_LEAF: (u32, u8) = (0xcb00_7100, 24);
@@ -33,7 +33,7 @@ fn after(rt: &HostRuntime, event: &str) -> Result<Core, Fail> {
     follows(rt, NETWORK, event)
 }
 
-// The core after the events of the base and this one.
+// Returns the core after the events of the base and this event.
 fn follows(rt: &HostRuntime, base: &str, event: &str) -> Result<Core, Fail> {
     let mut text = String::new(rt.alloc());
     text.push_str(base)?;
@@ -41,7 +41,7 @@ fn follows(rt: &HostRuntime, base: &str, event: &str) -> Result<Core, Fail> {
     applied(rt.alloc(), RandomState::new(rt)?, text.as_str())
 }
 
-// Whether the last event changed the items of these networks and of no other.
+// Returns true if the last event changed exactly the items of these networks.
 fn changes(core: &Core, networks: &[(u32, u8)]) -> bool {
     let mut all = core.changes().len() == networks.len();
     for (network, (address, length)) in core.changes().iter().zip(networks) {
@@ -50,14 +50,14 @@ fn changes(core: &Core, networks: &[(u32, u8)]) -> bool {
     all
 }
 
-// Whether the work of the last event was some, and no more than that.
+// Returns true if the last event took some work, and at most this much.
 fn works(core: &Core, most: usize) -> bool {
     let work = core.work();
     work.taken >= 1 && work.taken <= most && work.hop_sets <= most
 }
 
-// The most is twice the vertices that differ and the heads of the links that went or came, and the links out of
-// the vertices that differ: 2 * 3 + 4.
+// The bound is 2 * 3 + 4. The vertices that differ and the heads of the removed and added links
+// count twice, and the links out of the vertices that differ once.
 #[test]
 fn a_dearer_link_takes_a_path_away(rt: HostRuntime) -> Result<(), Fail> {
     let core = after(&rt, DEARER)?;
@@ -70,7 +70,7 @@ fn a_dearer_link_takes_a_path_away(rt: HostRuntime) -> Result<(), Fail> {
     Ok(())
 }
 
-// 2 * 3 + 2.
+// The bound is 2 * 3 + 2.
 #[test]
 fn another_address_is_another_hop(rt: HostRuntime) -> Result<(), Fail> {
     let core = after(&rt, MOVED)?;
@@ -78,7 +78,7 @@ fn another_address_is_another_hop(rt: HostRuntime) -> Result<(), Fail> {
     Ok(())
 }
 
-// 2 * 5 + 5.
+// The bound is 2 * 5 + 5.
 #[test]
 fn a_link_that_goes_leaves_the_longer_way(rt: HostRuntime) -> Result<(), Fail> {
     let core = after(&rt, APART)?;
@@ -86,7 +86,7 @@ fn a_link_that_goes_leaves_the_longer_way(rt: HostRuntime) -> Result<(), Fail> {
     Ok(())
 }
 
-// 2 * 5 + 8.
+// The bound is 2 * 5 + 8.
 #[test]
 fn a_cheaper_link_takes_all(rt: HostRuntime) -> Result<(), Fail> {
     let core = after(&rt, CHEAPER)?;
@@ -94,7 +94,7 @@ fn a_cheaper_link_takes_all(rt: HostRuntime) -> Result<(), Fail> {
     Ok(())
 }
 
-// A second in which no LSA comes to MaxAge is no work and changes nothing.
+// A second in which no LSA reaches MaxAge takes no work and changes nothing.
 #[test]
 fn a_second_that_changes_nothing_is_no_work(rt: HostRuntime) -> Result<(), Fail> {
     let core = after(&rt, "second\n")?;
@@ -112,9 +112,12 @@ fn of_a_hundred_networks_one_changes(rt: HostRuntime) -> Result<(), Fail> {
     Ok(())
 }
 
-// Two areas are active. The peer 10.0.0.2 in the backbone is a border router and an AS boundary router, and has a stub
-// link to 10.4.0.0/16, for which a range is active. It tells of 10.1.0.0/16, and of three external networks: one whose
-// forwarding address no route leads to, one that is a second before MaxAge, and one at MaxAge.
+// A router with two active areas.
+//
+// The peer 10.0.0.2 in the backbone is an area border router and an AS boundary router. It has a
+// stub link to 10.4.0.0/16, for which a range is active. It advertises 10.1.0.0/16 and three
+// external networks: one whose forwarding address has no route, one a second before MaxAge, and one
+// at MaxAge.
 const BORDER: &str = "abr 3\n\
 router 10.0.0.1\n\
 compat disabled\n\
@@ -132,14 +135,15 @@ install as 0e0f0205644000000a0000028000000126b40024ffc00000000000070000000000000
 install as 000102050a0200000a0000028000000190a50024ffff0000000000050000000000000000\n\
 install as 0e1002050a0200000a0000028000000190a50024ffff0000000000050000000000000000\n";
 
-// Whether the last event changed this and nothing else of what is due in area 0.0.0.1, and nothing of what is due in the
-// backbone.
+// Returns true if the last event changed exactly this in the due summaries of area 0.0.0.1, and
+// nothing in those of the backbone.
 fn changes_due(core: &Core, wanted: &[(Dest, Option<u32>)]) -> bool {
     let told = core.due_changes();
     told.get(1) == wanted && told.get(0).is_empty()
 }
 
-// The network that a range of the backbone stood for is due in the range's place, and then the range again.
+// Without the range, the network that it covered is due. With the range set again, the range is
+// due.
 #[test]
 fn a_range_that_goes_changes_what_is_due(rt: HostRuntime) -> Result<(), Fail> {
     let range = Dest::Net(Prefix::from_mask(0x0a04_0000, 0xfffc_0000));
@@ -152,7 +156,8 @@ fn a_range_that_goes_changes_what_is_due(rt: HostRuntime) -> Result<(), Fail> {
     Ok(())
 }
 
-// An event that changes no route changes nothing of what is due, and a refused one tells what the one before told.
+// An event that changes no route changes no due summary. A refused event leaves the changes of the
+// event before.
 #[test]
 fn a_second_changes_nothing_of_what_is_due(rt: HostRuntime) -> Result<(), Fail> {
     let mut core = follows(&rt, BORDER, "range-drop 0.0.0.0 10.4.0.0/14\n")?;
@@ -164,7 +169,8 @@ fn a_second_changes_nothing_of_what_is_due(rt: HostRuntime) -> Result<(), Fail> 
     Ok(())
 }
 
-// Whether the answer fits what the table then has: the old routes after a refusal and where it is behind, else the new.
+// Returns true if the table fits the answer. It has the old routes after a refusal or if the core
+// is behind, else the new routes.
 fn fits(core: &Core, answer: Result<Reply, Refusal>, is_old: bool, is_new: bool) -> bool {
     match answer {
         Err(refusal) => refusal == Refusal::Memory && is_old && core.serial() == 9,
@@ -185,7 +191,7 @@ fn has_items(rt: &HostRuntime, core: &Core, wanted: &str) -> Result<bool, Fail> 
     Ok(now.as_str() == wanted)
 }
 
-// Whether the core is as the answer says: its items are the old ones or the new ones.
+// Returns true if the items of the core are the old ones or the new ones, as the answer requires.
 fn is_as_answered(
     rt: &HostRuntime,
     core: &Core,
@@ -198,8 +204,8 @@ fn is_as_answered(
     Ok(fits(core, answer, is_old, is_new))
 }
 
-// Whether a roll is refused with 37 exactly where the table is behind, and where it is refused for want of memory or carried out,
-// all is as it was.
+// Returns true if a roll is refused with 37 NotCurrent exactly if the core is behind. The items and
+// the serial have to be unchanged. A roll of a current core may run out of memory.
 fn rolls(rt: &HostRuntime, core: &mut Core) -> Result<bool, Fail> {
     let (serial, is_current) = (core.serial(), core.is_current());
     let before = items(rt.alloc(), core)?;
@@ -212,8 +218,8 @@ fn rolls(rt: &HostRuntime, core: &mut Core) -> Result<bool, Fail> {
     Ok(fits && core.serial() == serial && has_items(rt, core, before.as_str())?)
 }
 
-// Brings the table up to the event, which is applied once more where it was refused. A table that was behind is built anew,
-// and no other.
+// Catches up, or applies the event again if it was refused. Returns true if this succeeds, and
+// `catch_up` rebuilds the table exactly if it was behind.
 fn catches_up(
     rt: &HostRuntime,
     core: &mut Core,
@@ -230,7 +236,7 @@ fn catches_up(
     Ok(is_current && (core.build_count() > build_count) == is_behind)
 }
 
-// What a core tells after the event, with ample memory.
+// Returns the items of a fresh core after the event, with ample memory.
 fn fresh_items(rt: &HostRuntime, event: &str) -> Result<String, Fail> {
     let mut fresh = follows(rt, BORDER, event)?;
     fresh.catch_up();
@@ -246,9 +252,11 @@ fn event_of(rt: &HostRuntime, line: &str) -> Result<Event, Fail> {
     Ok(event)
 }
 
-// One more event where memory may be refused: it is refused and nothing has changed, or taken and the table is
-// behind, or all is as it is with ample memory, and nothing was built anew. In the end table and due summaries are those
-// of a fresh core.
+// Applies one more event, for which memory may be refused.
+//
+// Returns true if one of three cases holds: the event is refused and nothing changed, the event is
+// taken and the core is behind, or the event is followed without building anything. In the end the
+// table and the due summaries have to be those of a fresh core.
 fn withstands(rt: &HostRuntime, line: &str) -> Result<bool, Fail> {
     let mut core = follows(rt, BORDER, "")?;
     core.catch_up();
@@ -274,7 +282,7 @@ fn goes_on(
     Ok(followed && right && caught_up && last && core.built() == 10)
 }
 
-// The peer's last network goes, and with it the active range.
+// The peer's last network is removed, and the range becomes inactive.
 #[test]
 fn a_router_lsa_where_memory_may_be_refused(rt: HostRuntime) -> Result<(), Fail> {
     let line =
@@ -283,7 +291,7 @@ fn a_router_lsa_where_memory_may_be_refused(rt: HostRuntime) -> Result<(), Fail>
     Ok(())
 }
 
-// A route to the forwarding address comes.
+// A route to the forwarding address is added.
 #[test]
 fn a_summary_where_memory_may_be_refused(rt: HostRuntime) -> Result<(), Fail> {
     let line = "install 0.0.0.0 000102030a0200000a0000028000000188b9001cffff000000000003\n";
@@ -324,7 +332,7 @@ fn a_purge_where_memory_may_be_refused(rt: HostRuntime) -> Result<(), Fail> {
     Ok(())
 }
 
-// A range of the backbone comes in place of the one that is there, and hides it; and one comes that is not there.
+// A range of the backbone is replaced and hidden, another range is set, and a range is dropped.
 #[test]
 fn a_range_where_memory_may_be_refused(rt: HostRuntime) -> Result<(), Fail> {
     assert!(rt; withstands(&rt, "range-set 0.0.0.0 10.4.0.0/14 hide\n")?);

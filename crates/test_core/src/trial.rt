@@ -9,9 +9,11 @@ use std::alloc::Global;
 use std::hash::RandomState;
 use std::test::Fail;
 
-/// The root reaches the network 192.0.2.0/24 at 10 over interface 1, and the peer at 5 over interface 2; the peer
-/// reaches the network at 5, and the leaf lies on it. The leaf has a stub link to 203.0.113.0/24, the peer one to
-/// 198.18.0.0/24.
+/// A recording of a network with a root, a leaf and a peer.
+///
+/// The root reaches the network 192.0.2.0/24 at 10 over interface 1, and the peer at 5 over
+/// interface 2. The peer reaches the network at 5, and the leaf is on it. The leaf has a stub link
+/// to 203.0.113.0/24, and the peer to 198.18.0.0/24.
 pub const NETWORK: &str = "abr 1\n\
 router 10.0.0.1\n\
 area 0.0.0.0 normal\n\
@@ -22,13 +24,15 @@ install 0.0.0.0 000102010a0000020a00000280000001b6ac003000000002c0000202c0000202
 install 0.0.0.0 000102010a0000030a00000380000001e35e003c000000030a000001c633640201000005c0000202c000020302000005c6120000ffffff0003000001\n\
 install 0.0.0.0 00010202c00002020a00000280000001d68a0024ffffff000a0000010a0000020a000003\n";
 
-// The front of the leaf's router-LSA with its link to the network and a hundred more (RFC 2328, A.4.2).
+// The start of the leaf's router-LSA, with its link to the network, before a hundred more links
+// (RFC 2328, A.4.2).
 const FRONT: [u8; 36] = [
     0, 1, 2, 1, 10, 0, 0, 2, 10, 0, 0, 2, 0x80, 0, 0, 2, 0, 0, 4, 0xd4, 0, 0, 0, 101, 192, 0, 2, 2,
     192, 0, 2, 2, 2, 0, 0, 1,
 ];
 
-/// The install of the router-LSA of 10.0.0.2 with a hundred stub links at metric 1, one of them at another metric.
+/// Returns the install of the router-LSA of 10.0.0.2 with a hundred stub links. One of them is at
+/// metric `other`, and the others are at metric 1.
 pub fn with_stubs(alloc: Global, seq: u8, other: u8) -> Result<Event, Fail> {
     let mut bytes = Vec::from_slice(alloc, &FRONT)?;
     for number in 0u8..100 {
@@ -43,7 +47,7 @@ fn push_stub(bytes: &mut Vec<u8>, number: u8, metric: u8) -> Result<(), Fail> {
     Ok(())
 }
 
-// The install of the LSA of these bytes, with its checksum.
+// Returns the install of the LSA of these bytes, with its checksum.
 fn install(alloc: Global, bytes: &mut [u8]) -> Result<Event, Fail> {
     let [high, low] = sum_of(bytes).ok_or("20 bytes")?.to_be_bytes();
     *bytes.get_mut(16).ok_or("a byte")? = high;
@@ -53,7 +57,11 @@ fn install(alloc: Global, bytes: &mut [u8]) -> Result<Event, Fail> {
     Ok(Event::Install { scope, lsa })
 }
 
-/// The configuration and the events of a recording.
+/// Returns the configuration and the events of a recording.
+///
+/// # Errors
+///
+/// Returns an error if the text is not a valid recording, or if memory runs out.
 pub fn events_of(alloc: Global, text: &str) -> Result<(Config, Vec<Event>), Fail> {
     let Ok(recording) = parse(alloc, text.as_bytes()) else {
         return Err(Fail::from("a recording"));
@@ -73,7 +81,12 @@ fn events_in(alloc: Global, lines: Vec<Line>) -> Result<Vec<Event>, Fail> {
     Ok(events)
 }
 
-/// The core after all events of a recording, each of which it takes.
+/// Returns the core after all events of a recording.
+///
+/// # Errors
+///
+/// Returns an error if the text is not a valid recording, if the core cannot be opened, or if an
+/// event is refused.
 pub fn applied(alloc: Global, hashing: RandomState, text: &str) -> Result<Core, Fail> {
     let (config, events) = events_of(alloc, text)?;
     let mut core = Core::open(alloc, config, hashing)?;
@@ -88,7 +101,7 @@ fn apply_all(core: &mut Core, events: Vec<Event>) -> Result<(), Fail> {
     Ok(())
 }
 
-/// The items of the core's table, and what is due in its areas, printed.
+/// Returns the text of the core's table and due summaries.
 pub fn items(alloc: Global, core: &Core) -> Result<String, Fail> {
     let mut text = String::new(alloc);
     push_items(alloc, core.table(), &mut text)?;
@@ -96,7 +109,7 @@ pub fn items(alloc: Global, core: &Core) -> Result<String, Fail> {
     Ok(text)
 }
 
-/// How many networks the table has.
+/// Returns the number of networks in the table.
 pub fn networks_of(table: &Table) -> usize {
     let mut count: usize = 0;
     for _ in table.items() {

@@ -1,4 +1,4 @@
-//! What an engine answers to one thread.
+//! The answers of an engine to one thread.
 
 use crate::trial::{BACKBONE, BORDER, OWN, ROOT, SUMMARY, is_told, look, opened, taken};
 use engine::{
@@ -14,7 +14,7 @@ use std::sync::Wait;
 use std::test::Fail;
 use test_core::events_of;
 
-// Whether the answer is current, and reply and token have this serial.
+// Returns true if the reply is `Current`, and it and the token have this serial.
 fn is_current<E: Drop>(answer: Result<Answer, E>, serial: u64) -> bool {
     match answer {
         Ok(Answer { reply, told }) => {
@@ -36,7 +36,7 @@ fn bytes_and_a_gated_event_are_current(rt: HostRuntime) -> Result<(), Fail> {
     Ok(())
 }
 
-// Whether this was due after five events.
+// Returns true if this list was due after five events.
 fn was_due(answer: Result<DueList, Refusal>, wanted: &[DueSummary]) -> bool {
     match answer {
         Ok(DueList { serial, list, told }) => {
@@ -46,7 +46,7 @@ fn was_due(answer: Result<DueList, Refusal>, wanted: &[DueSummary]) -> bool {
     }
 }
 
-// Whether five events were taken, and this one is refused as the same as one of them.
+// Returns true if five events were taken, and this one was refused with 23 Same.
 fn is_same(answer: Result<Answer, BytesFault>) -> bool {
     match answer {
         Err(BytesFault::Refused(Refused { refusal, told })) => {
@@ -56,7 +56,8 @@ fn is_same(answer: Result<Answer, BytesFault>) -> bool {
     }
 }
 
-// The route of 10.1.0.0/16 costs 10 to the border router and 10 from there. It is told to the other area alone.
+// Returns true if the summary for 10.1.0.0/16 is due in the other area alone. Its metric is 10 to
+// the border router plus 10 from there.
 fn summaries_follow<R: Wait>(rt: &R, engine: &Engine) -> bool {
     let (kind, metric) = (3, 20);
     let dest = Dest::Net(Prefix::from_mask(0x0a01_0000, 0xffff_0000));
@@ -76,7 +77,7 @@ fn due_summaries_are_those_of_the_last_reply(rt: HostRuntime) -> Result<(), Fail
     Ok(())
 }
 
-// The fault of an engine of this configuration with so many readers.
+// Returns the fault of opening an engine for this configuration with this number of forwarders.
 fn fault_of<R: Wait + RandomSource + AllocGlobal>(
     rt: &R,
     config: Config,

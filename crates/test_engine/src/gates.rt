@@ -1,5 +1,5 @@
-//! Gates: that lists run side by side, that neither a look nor the reading of bytes waits for the lock, and that each event passes
-//! once.
+//! Gates. Lists run side by side, neither lookups nor the reading of bytes wait for the lock, and
+//! each event passes its gate once.
 
 use crate::trial::{BACKBONE, ROOT, SUMMARY, install_of, look, opened, taken};
 use engine::{BytesFault, Engine, Event, Forwarder, Gate, Open, Refusal};
@@ -12,10 +12,10 @@ use std::thread;
 use std::thread::{Threads, join};
 use std::time::{Clock, Duration};
 
-// The lists are shorter.
+// The place of an event that waits under the lock. The lists are shorter.
 const UNDER_THE_LOCK: usize = 99;
 
-// Two flags, and how many who raised one saw the other in time.
+// Two flags, and the number of threads that raised one and saw the other in time.
 #[derive(Drop)]
 struct Flags {
     one: AtomicBool,
@@ -32,7 +32,7 @@ impl Flags {
         }
     }
 
-    // Raises a flag and waits for the other.
+    // Raises one flag, and waits for the other.
     fn meet<R: Clock>(&self, rt: &R, mine: &AtomicBool, other: &AtomicBool) {
         mine.store(true, Ordering::SeqCst);
         if waits(rt, other) {
@@ -45,7 +45,8 @@ impl Flags {
     }
 }
 
-// Waits until the flag is up, for at most 10,000 turns of one millisecond.
+// Waits until the flag is raised, for at most 10,000 times one millisecond. Returns true if it is
+// raised.
 fn waits<R: Clock>(rt: &R, flag: &AtomicBool) -> bool {
     for _ in 0..10_000u32 {
         if flag.load(Ordering::SeqCst) {
@@ -56,7 +57,8 @@ fn waits<R: Clock>(rt: &R, flag: &AtomicBool) -> bool {
     false
 }
 
-// Before its first event each of the first two workers waits for the other. At one place a worker waits under the lock.
+// A gate at which each of the first two workers waits for the other before its first event. At the
+// place `UNDER_THE_LOCK` a worker waits under the lock.
 #[derive(Drop)]
 struct Meeting<'a, R: Clock> {
     rt: &'a R,
@@ -97,7 +99,7 @@ fn list_of(alloc: Global, worker: u8, count: u8) -> Option<Vec<Event>> {
     Some(list)
 }
 
-// A list of installs for each of so many workers.
+// Returns a list of `count` installs for each worker.
 fn lists_of(alloc: Global, workers: u8, count: u8) -> Option<Vec<Vec<Event>>> {
     let mut lists = Vec::new(alloc);
     for worker in 0..workers {
@@ -106,7 +108,7 @@ fn lists_of(alloc: Global, workers: u8, count: u8) -> Option<Vec<Vec<Event>>> {
     Some(lists)
 }
 
-// Submits a list of installs for each of so many workers.
+// Submits a list of `count` installs for each worker, and returns the refusal.
 fn refusal_of<R: Threads + Wait + Sync + AllocGlobal, G: Gate>(
     rt: &R,
     engine: &Engine,
@@ -143,7 +145,7 @@ fn seventeen_lists_are_too_many(rt: HostRuntime) -> Result<(), Fail> {
     Ok(())
 }
 
-// The summary-LSA with another metric and the old checksum.
+// Returns true if the summary-LSA with another metric and the old checksum has a wrong checksum.
 fn is_unsound<R: Wait>(rt: &R, engine: &Engine) -> bool {
     let mut bytes = SUMMARY;
     bytes[27] = 11;
@@ -153,7 +155,7 @@ fn is_unsound<R: Wait>(rt: &R, engine: &Engine) -> bool {
     }
 }
 
-// While another thread has the lock it looks, and submits unsound bytes.
+// Returns true if a lookup and unsound bytes are answered while another thread has the lock.
 fn is_answered<R: Wait + Clock>(
     rt: &R,
     engine: &Engine,
@@ -167,7 +169,7 @@ fn is_answered<R: Wait + Clock>(
     is_locked && seen == Some(0) && is_refused
 }
 
-// Submits an install, which waits under the lock.
+// Submits an install, which waits under the lock. Returns true if it is taken.
 fn is_taken<R: Wait + Clock + Sync + AllocGlobal>(rt: &R, engine: &Engine, flags: &Flags) -> bool {
     let gate = Meeting { rt, flags };
     match install_of(rt.alloc(), 1, 0) {
@@ -201,8 +203,8 @@ fn looks_and_readings_wait_for_no_lock(rt: HostRuntime) -> Result<(), Fail> {
     Ok(())
 }
 
-// How often each event was before, inside and after, in numbers with a digit for each event, and whether one was inside or after
-// out of turn.
+// A gate that counts the calls of `before`, `inside` and `after`, with a digit for each event. It
+// also notes a call of `inside` or `after` out of turn.
 #[derive(Drop)]
 struct Passing {
     before: AtomicU64,
@@ -211,7 +213,7 @@ struct Passing {
     is_astray: AtomicBool,
 }
 
-// The digit of an event, to the base 8.
+// Returns one in the digit of the event, in base 8.
 fn digit(worker: usize, place: usize) -> u64 {
     match (worker, place) {
         (0, 0) => 0o1,
@@ -234,7 +236,7 @@ impl Passing {
         }
     }
 
-    // The event was before, and is not after yet.
+    // Returns true if `before` was called for the event, and `after` was not called yet.
     fn is_between(&self, digit: u64) -> bool {
         let (before, after) = (&self.before, &self.after);
         before.load(Ordering::SeqCst) & digit != 0 && after.load(Ordering::SeqCst) & digit == 0
@@ -247,7 +249,8 @@ impl Passing {
         count.fetch_add(digit, Ordering::SeqCst);
     }
 
-    // Whether each event was before and after once, and each but the last of the first worker inside.
+    // Returns true if `before` and `after` were called once for each event, in turn with `inside`.
+    // `inside` has to be called once for each event but the last of the first worker.
     fn is_right(&self) -> bool {
         self.before.load(Ordering::SeqCst) == 0o111111
             && self.inside.load(Ordering::SeqCst) == 0o111011
@@ -277,7 +280,8 @@ impl Gate for Passing {
     }
 }
 
-// Three installs for each of two workers. The last of the first worker is its second again.
+// Returns three installs for each of two workers. The last install of the first worker repeats its
+// second.
 fn with_a_refused_one(alloc: Global) -> Option<Vec<Vec<Event>>> {
     let mut lists = Vec::new(alloc);
     let mut first = list_of(alloc, 0, 2)?;

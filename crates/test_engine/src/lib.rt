@@ -1,6 +1,8 @@
-//! Trials of the engine, of what no contract says: that workers run side by side, that looks wait for no lock, that calls
-//! succeed with ample memory, and what is told where memory is refused,
-//! how much is published, and that a roll stops none of them.
+//! Tests of the engine, for what no contract says.
+//!
+//! Workers run side by side, lookups do not wait for a lock, and calls succeed with ample memory.
+//! The tests also cover the answers if memory is refused, how much an event publishes, and that a
+//! roll stops neither workers nor lookups.
 #![tactic(auto)]
 
 #[cfg(test)]

@@ -1,4 +1,4 @@
-//! What is told and seen where one request for memory may be refused.
+//! Answers and lookups of an engine for which one request for memory may be refused.
 
 use crate::trial::{BACKBONE, BORDER, SUMMARY, look, taken};
 use engine::{Engine, Event, Forwarder, Refusal, Status};
@@ -9,8 +9,8 @@ use std::sync::Wait;
 use std::test::Fail;
 use test_core::events_of;
 
-// What is known of an engine with one worker: how many events it took and how many it refused for want of memory, whether the
-// table of all that it took is published, and the serial that was seen last.
+// The known state of an engine with one worker: the number of events taken and of events refused
+// for memory, if the table of all taken events is published, and the serial seen last.
 #[derive(Drop)]
 struct Known {
     forwarder: Option<Forwarder>,
@@ -21,7 +21,8 @@ struct Known {
 }
 
 impl Known {
-    // Submits the event. A token is there exactly where the table is published.
+    // Submits the event. Returns true if the answer fits, with a token exactly if the table is
+    // published.
     fn submits<R: Wait>(&mut self, rt: &R, engine: &Engine, event: Event) -> bool {
         match engine.submit(rt, event) {
             Ok(answer) => {
@@ -37,7 +38,8 @@ impl Known {
         }
     }
 
-    // Whether an LSA that is not there can't be flushed, with a token exactly where the table is published.
+    // Returns true if a flush of an LSA that is not in the database is refused, with a token
+    // exactly if the table is published.
     fn is_refused<R: Wait>(&self, rt: &R, engine: &Engine) -> bool {
         let (kind, id, router) = (1, 7, 7);
         let (scope, key) = (BACKBONE, Key { kind, id, router });
@@ -49,8 +51,8 @@ impl Known {
         }
     }
 
-    // Whether a look sees the table of all that was taken exactly where it is published, else an earlier one, and none older
-    // than was seen before.
+    // Returns true if a lookup sees the table of all taken events exactly if it is published, and
+    // no older table than before.
     fn sees(&mut self) -> bool {
         let Some(forwarder) = self.forwarder.take() else {
             return false;
@@ -65,7 +67,8 @@ impl Known {
         fits && (seen == self.taken) == self.is_published
     }
 
-    // Whether what is due follows no more than was taken, with a token exactly where the table that was seen follows as many.
+    // Returns true if the due list has a token exactly if its serial is the one seen last, or if
+    // memory runs out. The serial is at most the number of taken events.
     fn is_due<R: Wait>(&self, rt: &R, engine: &Engine) -> bool {
         match engine.due(rt, 1) {
             Ok(due) => due.serial <= self.taken && due.told.is_some() == (due.serial == self.seen),
@@ -73,7 +76,8 @@ impl Known {
         }
     }
 
-    // Whether a roll answers the last serial exactly where the table of all that was taken is published, if it has memory.
+    // Returns true if a roll is refused with 37 NotCurrent exactly if the table of all taken events
+    // is not published. Otherwise it returns the last serial, or runs out of memory.
     fn rolls<R: Wait>(&self, rt: &R, engine: &Engine) -> bool {
         match engine.roll(rt) {
             Ok(serial) => self.is_published && serial == self.taken,
@@ -89,7 +93,8 @@ impl Known {
             && self.rolls(rt, engine)
     }
 
-    // Catches up, at most twice, since one request at most is refused.
+    // Catches up in at most two calls, because at most one request for memory is refused. Returns
+    // true if the token has the last serial.
     fn catches_up<R: Wait>(&mut self, rt: &R, engine: &Engine) -> bool {
         for _ in 0..2u8 {
             if let Some(told) = engine.catch_up(rt) {
@@ -101,7 +106,7 @@ impl Known {
     }
 }
 
-// Submits the events and catches up.
+// Submits the events, and catches up. Returns true if all answers and lookups fit.
 fn withstands<R: Wait>(rt: &R, engine: &Engine, known: Known, events: Vec<Event>) -> bool {
     let (mut known, mut all) = (known, true);
     for event in events {

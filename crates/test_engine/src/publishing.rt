@@ -1,11 +1,11 @@
-//! How much is published of an event.
+//! How many changes of the published table an event makes.
 
 use crate::trial::{opened, published, taken};
 use engine::Forwarder;
 use std::test::Fail;
 use test_core::{NETWORK, with_stubs};
 
-// How many changes made the table that is seen.
+// Returns the number of changes that made the table that is seen.
 fn changes(forwarder: Forwarder) -> (Forwarder, Option<u64>) {
     match forwarder.lookup(0) {
         Ok(seen) => {
@@ -16,8 +16,8 @@ fn changes(forwarder: Forwarder) -> (Forwarder, Option<u64>) {
     }
 }
 
-// The hundred networks come in the place of one: 101 changes, and the serial. Then one of them gets another cost: it is
-// set, and the serial.
+// A hundred networks replace one, which makes 101 changes and one for the serial. Then one of them
+// gets another cost, which makes one change and one for the serial.
 #[test]
 fn of_a_hundred_networks_one_is_published(rt: HostRuntime) -> Result<(), Fail> {
     let hundred = with_stubs(rt.alloc(), 2, 1)?;

@@ -1,4 +1,5 @@
-//! Engines that are rolled: what they answer, alone and beside workers, and that what a roll makes can be opened again.
+//! Engines that are rolled: their answers, alone and while workers submit events, and an engine
+//! that is opened from the base that a roll makes.
 ghost use Rattle.std.specs.Prelude.{◌≡◌};
 
 use crate::trial::{BACKBONE, BORDER, ROOT, SUMMARY, is_told, look, opened};
@@ -10,7 +11,8 @@ use std::sync::Wait;
 use std::test::Fail;
 use std::thread::{Threads, join};
 
-// Whether the engine, which took four events, is rolled at once, after one more, and twice then; and what is told of that one.
+// Returns true if the engine, which took four events, is rolled at once, and twice after one more
+// event. That event has serial 5, and the due list reflects it.
 fn is_rolled<R: Wait>(rt: &R, engine: &Engine) -> bool {
     let first = engine.roll(rt) == Ok(4);
     let is_taken = match engine.submit_bytes(rt, BACKBONE, &SUMMARY) {
@@ -24,7 +26,8 @@ fn is_rolled<R: Wait>(rt: &R, engine: &Engine) -> bool {
     first && is_taken && is_due && engine.roll(rt) == Ok(5) && engine.roll(rt) == Ok(5)
 }
 
-// The serial that the reader of an engine of this base sees.
+// Returns the serial that the forwarder of an engine from this base sees. Returns `None` unless the
+// engine's core has the serial 5 and three LSAs.
 fn opened_serial<R: Wait + RandomSource + AllocGlobal>(
     rt: &R,
     base: Base,
@@ -53,7 +56,7 @@ fn an_engine_is_rolled_and_opened_again(rt: HostRuntime) -> Result<(), Fail> {
     Ok(())
 }
 
-// Rolls fifty times. A serial is no less than the one before.
+// Rolls 50 times. Returns true if each roll succeeds, and no serial is less than the one before.
 fn rolls<R: Wait>(rt: &R, engine: &Engine) -> bool {
     let (mut last, mut all) = (0, true);
     for _ in 0..50u32 {
@@ -68,7 +71,7 @@ fn rolls<R: Wait>(rt: &R, engine: &Engine) -> bool {
     all
 }
 
-// Two workers with a forwarder each, and beside them one that rolls.
+// Runs two workers with a forwarder each, and at the same time a thread that rolls.
 fn beside<R: Threads + Wait + Sync + AllocGlobal>(
     rt: &R,
     engine: &Engine,

@@ -1,4 +1,4 @@
-//! Engines, events and looks for the trials.
+//! Engines, events and lookups for the tests.
 ghost use Rattle.std.specs.Prelude.{◌≡◌, IfOk, IfSome};
 
 use engine::{Engine, Event, Forwarder, Told};
@@ -13,10 +13,11 @@ use test_core::events_of;
 
 pub const BACKBONE: Scope = Scope::Area(0);
 
-/// A root with one area.
+/// A recording of a root with one area.
 pub const ROOT: &str = "abr 1\nrouter 10.0.0.1\narea 0.0.0.0 normal\n";
 
-/// A root with two areas, whose backbone has a point-to-point link at 10 to the border router 10.0.0.2: four events.
+/// A recording of a root with two areas, with four events. The backbone has a point-to-point link
+/// at 10 to the border router 10.0.0.2.
 pub const BORDER: &str = "abr 1\n\
 router 10.0.0.1\n\
 area 0.0.0.0 normal\n\
@@ -38,7 +39,12 @@ pub const SUMMARY: [u8; 28] = [
     0, 10,
 ];
 
-/// The engine of a copy of a recording's configuration, which was handed the recording's events, and two forwarders.
+/// Opens an engine with two forwarders for a recording's configuration, and submits the recording's
+/// events.
+///
+/// # Errors
+///
+/// Returns an error if the text is not a valid recording, or if the engine cannot be opened.
 pub fn opened<R: Wait + RandomSource + AllocGlobal>(
     rt: &R,
     text: &str,
@@ -57,7 +63,7 @@ pub fn opened<R: Wait + RandomSource + AllocGlobal>(
     }
 }
 
-/// The token of an event that was taken and published.
+/// Submits the event, and returns its token if it was taken and published.
 pub fn published<R: Wait>(rt: &R, engine: &Engine, event: Event) -> Option<Told>
     ensures { IfSome result (λ t. t.name ≡ engine.now) }
 {
@@ -67,7 +73,7 @@ pub fn published<R: Wait>(rt: &R, engine: &Engine, event: Event) -> Option<Told>
     }
 }
 
-/// The serial of the table that is seen.
+/// Looks an address up, and returns the serial of the table that is seen.
 pub fn look(forwarder: Forwarder) -> (Forwarder, Option<u64>)
     ensures { result.0.name ≡ forwarder.name }
 {
@@ -80,7 +86,8 @@ pub fn look(forwarder: Forwarder) -> (Forwarder, Option<u64>)
     }
 }
 
-/// Ends the engine, and counts the events that it took, rolled ones and others.
+/// Closes the engine, and returns the number of events that it took, before its rolls and after
+/// them.
 pub fn taken<R: Wait>(rt: &R, engine: Engine) -> u64 {
     engine.close(rt).serial()
 }
@@ -92,8 +99,9 @@ pub fn is_told(told: Option<Told>, serial: u64) -> bool {
     }
 }
 
-/// A worker's install: of the worker 0 the root's own router-LSA, whose link is dearer now and then, of another one the
-/// border router's summary-LSA for 20.WORKER.NUMBER.0/24.
+/// Returns an install of a worker. Worker 0 installs the root's own router-LSA, whose link costs
+/// more for each hundred numbers. Another worker installs the border router's summary-LSA for
+/// 20.WORKER.NUMBER.0/24.
 pub fn install_of(alloc: Global, worker: u8, number: u8) -> Option<Event> {
     if worker == 0 {
         let mut bytes = OWN;
@@ -110,7 +118,7 @@ pub fn install_of(alloc: Global, worker: u8, number: u8) -> Option<Event> {
     install(alloc, &mut bytes)
 }
 
-// The install of these bytes with their checksum.
+// Returns the install of these bytes, with their checksum.
 fn install(alloc: Global, bytes: &mut [u8]) -> Option<Event> {
     let [high, low] = sum_of(bytes)?.to_be_bytes();
     *bytes.get_mut(16)? = high;

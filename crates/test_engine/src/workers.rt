@@ -1,4 +1,5 @@
-//! Workers on one engine: what they are told, what their forwarders see, and that their journal tells all.
+//! Workers on one engine: the tokens that they get, the tables that their forwarders see, and the
+//! journal of their events.
 ghost use Rattle.std.specs.Prelude.{◌≡◌, IfSome};
 
 use crate::trial::{BORDER, ROOT, install_of, look, opened, published, taken};
@@ -11,14 +12,14 @@ use std::test::Fail;
 use std::thread::{Threads, join};
 use test_core::{items, networks_of};
 
-// A forwarder, with the serials that it was told, and the one that it saw last.
+// A forwarder, the serials of its tokens, and the serial that it saw last.
 pub struct Watch {
     forwarder: Forwarder,
     told: Vec<u64>,
     last: u64,
 }
 
-// proof: one call drops it, in place of a drop of each part wherever one is held.
+// proof: a value is dropped by one call, not part by part at each exit of a function.
 impl Drop for Watch {
     fn drop(self) {
         let Watch {
@@ -30,7 +31,8 @@ impl Drop for Watch {
 }
 
 impl Watch {
-    // Learns a token and looks. It has to see no less than it was told, and no less than before.
+    // Learns a token, and looks an address up. Returns `None` if the table is older than the
+    // token's, or older than the table before.
     fn learn(self, token: Told) -> Option<Watch>
         requires { token.name ≡ self.forwarder.name }
         ensures { IfSome result (λ w. w.forwarder.name ≡ self.forwarder.name) }
@@ -56,7 +58,7 @@ impl Watch {
     }
 }
 
-// Submits copies of so many installs, and looks after each.
+// Submits copies of `count` installs, and looks an address up after each.
 fn watches<R: Wait + AllocGlobal>(
     rt: &R,
     engine: &Engine,
@@ -81,7 +83,7 @@ fn watches<R: Wait + AllocGlobal>(
     Some(watch)
 }
 
-// Submits 250 installs. The token is that of the last one.
+// Submits 250 installs, and returns the token of the last one.
 fn tells<R: Wait + AllocGlobal>(rt: &R, engine: &Engine, worker: u8) -> Option<Told>
     ensures { IfSome result (λ t. t.name ≡ engine.now) }
 {
@@ -93,7 +95,7 @@ fn tells<R: Wait + AllocGlobal>(rt: &R, engine: &Engine, worker: u8) -> Option<T
     last
 }
 
-// The workers 1 and 2, with a forwarder each.
+// Runs the workers 1 and 2, with a forwarder each.
 pub fn two_watch<R: Threads + Wait + Sync + AllocGlobal>(
     rt: &R,
     engine: &Engine,
@@ -112,7 +114,7 @@ pub fn two_watch<R: Threads + Wait + Sync + AllocGlobal>(
     )
 }
 
-// The workers 0 and 3, without.
+// Runs the workers 0 and 3, without forwarders.
 fn two_tell<R: Threads + Wait + Sync + AllocGlobal>(
     rt: &R,
     engine: &Engine,
@@ -127,7 +129,7 @@ fn two_tell<R: Threads + Wait + Sync + AllocGlobal>(
     )
 }
 
-// Whether these are the serials 1 to 200, each once.
+// Returns true if these are the serials 1 to 200, without duplicates.
 fn are_all(serials: &mut Vec<u64>) -> bool {
     serials.sort_unstable();
     let mut all = serials.len() == 200;
@@ -155,7 +157,7 @@ fn two_workers_are_told_each_serial_once(rt: HostRuntime) -> Result<(), Fail> {
     Ok(())
 }
 
-// Whether the forwarder then sees what the token tells.
+// Returns true if the forwarder sees the events of the token after it learns the token.
 fn learns(engine: &Engine, watch: Option<Watch>, token: Option<Told>) -> bool
     requires watch { IfSome watch (λ w. w.forwarder.name ≡ engine.now) }
     requires token { IfSome token (λ t. t.name ≡ engine.now) }
@@ -167,7 +169,8 @@ fn learns(engine: &Engine, watch: Option<Watch>, token: Option<Told>) -> bool
     }
 }
 
-// Four workers submit 250 installs each. Then each forwarder learns the last token of a worker that has none.
+// Runs four workers, each of which submits 250 installs. Then each forwarder learns the last token
+// of a worker without a forwarder.
 fn thousand<R: Threads + Wait + Sync + AllocGlobal>(
     rt: &R,
     engine: &Engine,
@@ -186,7 +189,7 @@ fn thousand<R: Threads + Wait + Sync + AllocGlobal>(
     learns(engine, watches.0, tokens.0) && learns(engine, watches.1, tokens.1)
 }
 
-// A core that took the same events.
+// Returns a core to which the same events were applied.
 fn replayed(alloc: Global, hashing: RandomState, core: &Core) -> Result<Core, Fail> {
     let mut events = Vec::new(alloc);
     for event in core.journal() {
@@ -197,7 +200,7 @@ fn replayed(alloc: Global, hashing: RandomState, core: &Core) -> Result<Core, Fa
     Ok(other)
 }
 
-// Whether the databases are the same.
+// Returns true if the databases are the same.
 fn have_same_lsas(one: &Core, two: &Core) -> Result<bool, Memory> {
     let (one, two) = (one.lsas()?, two.lsas()?);
     let mut all = one.len() == two.len();
@@ -207,7 +210,8 @@ fn have_same_lsas(one: &Core, two: &Core) -> Result<bool, Memory> {
     Ok(all)
 }
 
-// Whether a core that took the same events is the same, with a route for each summary-LSA of three workers.
+// Returns true if a core with the same events has the same items and LSAs, and a network for each
+// summary-LSA of three workers.
 fn is_replayed(alloc: Global, hashing: RandomState, core: &Core) -> Result<bool, Fail> {
     let other = replayed(alloc, hashing, core)?;
     let (one, two) = (items(alloc, core)?, items(alloc, &other)?);
@@ -222,7 +226,7 @@ fn four_workers_and_their_journal_replayed(rt: HostRuntime) -> Result<(), Fail> 
     let core = engine.close(&rt);
     let count = core.journal().len();
     let hashing = RandomState::new(&rt)?;
-    // Four events were taken before those of the workers.
+    // Four events were taken before the events of the workers.
     assert!(rt; right && count == 1004 && is_replayed(rt.alloc(), hashing, &core)?);
     Ok(())
 }

@@ -1,5 +1,5 @@
-//! Prints what became of each offer of networks that contain some addresses, and the traces of those that are taken. The recording
-//! has an offer for each way to be taken and each way to lose.
+//! Prints the verdict of each offer of networks that contain some addresses, and the traces of the
+//! taken offers. The recording has an offer for each verdict.
 mod printing;
 
 use crate::core_after;
@@ -10,9 +10,9 @@ use ospf_types::address::Address;
 use printing::print_candidate;
 
 const ADDRESSES: [u32; 16] = [
-    0xc000_0205, // on a network that two network-LSAs stand for
+    0xc000_0205, // on a network with two network-LSAs
     0xc633_6402, // the other end of a point-to-point link
-    0x0a63_0001, // in a stub network of the root without an interface
+    0x0a63_0001, // in a stub network of the root, with no interface
     0x0a01_0101, // in an active range
     0x0a02_0001,
     0x0a03_0001,

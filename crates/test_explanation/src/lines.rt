@@ -1,6 +1,6 @@
-//! Prints the explanation of an address, in words and as JSON: a transit network that is taken, over a path of three
-//! links, before a stub network that costs more; a summary of an active range; and an AS-external-LSA of a router that is
-//! not reached.
+//! Prints the explanation of an address, as text and as JSON. A transit network is taken, over a
+//! path of three links, before a stub network that costs more. There are also a summary of an
+//! active range, and an AS-external-LSA of a router that is not reached.
 mod samples;
 
 use anyhow::Result;
@@ -10,7 +10,7 @@ use route_table::Table;
 use samples::{all_candidates, fill};
 use std::hash::RandomState;
 
-/// 203.0.113.9.
+/// The address 203.0.113.9.
 const ADDRESS: u32 = 0xcb00_7109;
 
 pub fn run(rt: &HostRuntime) -> Result<()> {

@@ -1,5 +1,5 @@
-//! Prints explanations of addresses and of due summaries: what became of each offer, why a summary is due or is not, and the lines
-//! that tell it.
+//! Prints explanations of addresses and of due summaries: the verdict of each offer, the reason why
+//! a summary is due or is not, and the lines of an explanation.
 #![tactic(auto)]
 
 mod fates;
@@ -20,7 +20,7 @@ fn main(rt: HostRuntime) -> Result<()> {
     lines::run(&rt)
 }
 
-// The core after the recording.
+// Returns the core after the recording.
 fn core_after(rt: &HostRuntime, name: &str) -> Result<Core> {
     let text = fs::read(rt, name)?;
     let (_, base, lines) = parse(rt.alloc(), &text)?.into_parts();

@@ -1,4 +1,5 @@
-//! Explains an address whose network 2,000 AS-external-LSAs advertise by one forwarding address. All of them are taken.
+//! Explains an address whose network 2,000 AS-external-LSAs advertise with one forwarding address.
+//! All of them are taken.
 use crate::core_after;
 use anyhow::{Result, anyhow};
 use event_core::Event;
@@ -7,7 +8,7 @@ use lsa_codec::{Checked, read, sum_of};
 use ospf_types::key::Scope;
 use std::alloc::Global;
 
-/// 10.15.0.1.
+/// The address 10.15.0.1.
 const ADDRESS: u32 = 0x0a0f_0001;
 
 const LSAS: u16 = 2000;
@@ -25,8 +26,8 @@ pub fn run(rt: &HostRuntime) -> Result<()> {
     }
 }
 
-// An AS-external-LSA of 10.0.0.2 with a Link State ID of its own (RFC 2328, E): 10.15.0.0/16 at a metric 1 of type 1, by the
-// forwarding address 10.3.0.9.
+// Returns an AS-external-LSA of 10.0.0.2 with its own Link State ID (RFC 2328, E). It advertises
+// 10.15.0.0/16 at metric 1 of type 1, with the forwarding address 10.3.0.9.
 fn external(alloc: Global, number: u16) -> Result<Checked> {
     let [high, low] = number.to_be_bytes();
     let mut bytes = [

@@ -1,4 +1,5 @@
-//! Prints why summaries are due in areas, or are not. In the recordings each reason decides once, and each verdict befalls a source.
+//! Prints why summaries are due in areas, or are not. In the recordings each reason occurs, and
+//! each verdict of a source.
 mod printing;
 
 use crate::core_after;

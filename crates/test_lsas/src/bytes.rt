@@ -1,4 +1,4 @@
-//! The bytes of LSAs, changed and with a checksum that fits.
+//! Changes to the bytes of LSAs, and their checksum.
 use lsa_codec::sum_of;
 use std::test::Fail;
 
@@ -8,7 +8,7 @@ pub(crate) const STUB: [u8; 36] = [
     2, 0, 255, 255, 255, 0, 3, 0, 0, 10,
 ];
 
-/// Puts the new bytes there.
+/// Writes the new bytes at an index.
 pub(crate) fn put(bytes: &mut [u8], place: usize, new: &[u8]) -> Result<(), Fail> {
     for (n, byte) in new.iter().enumerate() {
         *bytes.get_mut(place.wrapping_add(n)).ok_or("a byte")? = *byte;
@@ -16,7 +16,7 @@ pub(crate) fn put(bytes: &mut [u8], place: usize, new: &[u8]) -> Result<(), Fail
     Ok(())
 }
 
-/// Puts a checksum that fits.
+/// Writes the matching checksum.
 pub(crate) fn seal(bytes: &mut [u8]) -> Result<(), Fail> {
     let sum = sum_of(bytes).ok_or("20 bytes")?;
     put(bytes, 16, &sum.to_be_bytes())

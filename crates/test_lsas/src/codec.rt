@@ -1,4 +1,5 @@
-//! The bytes of LSAs (RFC 2328, A.4): those that come back as they were, and the first fault of others.
+//! The bytes of LSAs (RFC 2328, A.4): reading and writing them back, and the first fault of other
+//! bytes.
 ghost use Rattle.std.specs.Prelude.{◌≤◌};
 
 use crate::bytes::{STUB, put, seal};
@@ -18,7 +19,7 @@ const BORDER: [u8; 36] = [
     1, 198, 51, 100, 2, 1, 0, 0, 10,
 ];
 
-/// The same router as an AS boundary router too, with the next sequence number.
+/// The router-LSA of 10.0.0.2 as an AS boundary router too, with the next sequence number.
 const BOUNDARY: [u8; 36] = [
     0, 1, 2, 1, 10, 0, 0, 2, 10, 0, 0, 2, 0x80, 0, 0, 2, 0xe1, 0xe1, 0, 0x24, 3, 0, 0, 1, 10, 0, 0,
     1, 198, 51, 100, 2, 1, 0, 0, 10,
@@ -42,7 +43,7 @@ const EXTERNAL: [u8; 36] = [
     0x80, 0, 0, 20, 0, 0, 0, 0, 0, 0, 0, 0,
 ];
 
-// Whether the checksum of the bytes is the one that they have, and a copy of what is read of them is
+// Returns true if the bytes have their computed checksum, and a copy of the LSA read from them is
 // written as the same bytes.
 fn comes_back(alloc: Global, bytes: &[u8]) -> Result<bool, Fail> {
     let lsa = read(alloc, bytes)?;
@@ -67,7 +68,7 @@ fn vectors_come_back(rt: HostRuntime) -> Result<(), Fail> {
     Ok(())
 }
 
-// The router-LSA of 10.0.0.1 with so many stub links to 192.0.2.0/24.
+// Returns the router-LSA of 10.0.0.1 with `count` stub links to 192.0.2.0/24.
 fn with_links(alloc: Global, count: u16) -> Result<Vec<u8>, Fail> {
     let mut bytes = Vec::from_slice(alloc, &STUB[..18])?;
     bytes.extend_from_slice(&(24 + count % 5460 * 12).to_be_bytes())?;
@@ -80,7 +81,7 @@ fn with_links(alloc: Global, count: u16) -> Result<Vec<u8>, Fail> {
     Ok(bytes)
 }
 
-// The longest has 65,532 bytes.
+// The longest router-LSA has 65,532 bytes.
 #[test]
 fn large_ones_come_back(rt: HostRuntime) -> Result<(), Fail> {
     let large = with_links(rt.alloc(), 400)?;
@@ -90,7 +91,7 @@ fn large_ones_come_back(rt: HostRuntime) -> Result<(), Fail> {
     Ok(())
 }
 
-// The longest that a length field can tell has three bytes behind its links.
+// At the greatest length, 65,535, three bytes come after the links.
 #[test]
 fn bytes_behind_the_links_are_no_lsa(rt: HostRuntime) -> Result<(), Fail> {
     let mut longest = with_links(rt.alloc(), 5459)?;
@@ -149,7 +150,7 @@ fn readers(rt: HostRuntime) -> Result<(), Fail> {
     Ok(())
 }
 
-// Whether the LSA at this age is read again with it, and has the same contents.
+// Returns true if the LSA, written at this age, is read back with this age and the same contents.
 fn ages(alloc: Global, bytes: &[u8], age: u16) -> Result<bool, Fail>
     requires { age ≤ 3600 }
 {
@@ -168,7 +169,7 @@ fn an_age_is_set(rt: HostRuntime) -> Result<(), Fail> {
     Ok(())
 }
 
-// Whether the bytes with these changes and then a checksum that fits have the fault first.
+// Returns true if the fault is the first of the bytes with these changes and a matching checksum.
 fn has_fault(
     alloc: Global,
     bytes: &[u8],

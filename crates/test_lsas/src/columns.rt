@@ -1,4 +1,4 @@
-//! Columns of the lengths around those of a vector and of two.
+//! Columns with lengths around one vector and two vectors.
 ghost use Rattle.std.specs.Prelude.{ℕ, ◌≤◌, All};
 ghost use Rattle.lanes.specs.Ages.{MaxAge};
 
@@ -8,10 +8,10 @@ use std::test::*;
 
 const ROWS: usize = 65;
 
-// Lengths around those of a vector and of two.
+// Lengths around one vector and two vectors.
 const LENGTHS: [usize; 6] = [0, 1, 31, 32, 33, 65];
 
-// Ages of 10, and 3599 in the last row.
+// Returns ages of 10, with 3599 in the last row.
 fn ages() -> [u16; ROWS]
     ensures { All (λ age. age ≤ MaxAge) result }
 {
@@ -20,7 +20,7 @@ fn ages() -> [u16; ROWS]
     ages
 }
 
-// Whether a second brings a column of this length to 11, and its last row to 3600.
+// Returns true if a second brings a column of this length to 11, and its last row to 3600.
 fn ages_by_one(length: usize) -> bool {
     let mut ages = ages();
     let column = &mut ages[ROWS.saturating_sub(length)..];
@@ -31,7 +31,7 @@ fn ages_by_one(length: usize) -> bool {
     }
 }
 
-// Whether the last row of a column of this length is found, and no other.
+// Returns true if the last row of a column of this length is found, and no other.
 fn finds_last(alloc: Global, length: usize) -> Result<bool, AllocError> {
     let ages = ages();
     let mut rows = vec![in alloc; 7u32]?;

@@ -1,4 +1,4 @@
-//! A link-state database whose LSAs come, age and go (RFC 2328, 12 to 14).
+//! A link-state database in which LSAs are installed, age and are purged (RFC 2328, 12 to 14).
 use crate::bytes::{STUB, put, seal};
 use lsa_codec::{Checked, read};
 use lsdb::{Database, InstallRefusal, NoLsa, PurgeRefusal};
@@ -9,7 +9,7 @@ use std::test::*;
 
 const FIRST: u32 = 0x8000_0001;
 
-// The stub's LSA of another router, with this age, sequence number and metric below 256.
+// Returns the stub's LSA of another router, with this age, sequence number and metric below 256.
 fn lsa(alloc: Global, router: u32, age: u16, seq: u32, metric: u8) -> Result<Checked, Fail> {
     let mut bytes = Vec::from_slice(alloc, &STUB)?;
     put(&mut bytes, 0, &age.to_be_bytes())?;
@@ -30,7 +30,7 @@ fn key(router: u32) -> Key {
     }
 }
 
-// A database with an LSA of each router from 1 on, of these ages.
+// Returns a database with an LSA of each router from 1 up, at these ages.
 fn database(rt: &HostRuntime, limit: u32, ages: &[u16]) -> Result<Database, Fail> {
     let mut database = Database::new(rt.alloc(), limit, RandomState::new(rt)?);
     let mut router = 0u32;
@@ -98,7 +98,7 @@ fn premature_ageing_and_what_is_not_there(rt: HostRuntime) -> Result<(), Fail> {
     Ok(())
 }
 
-// Whether the keys of the LSAs ascend.
+// Returns true if the keys of the LSAs ascend.
 fn ascend(lsas: &[Checked]) -> bool {
     let mut last = None;
     for lsa in lsas {
@@ -122,7 +122,7 @@ fn fill(alloc: Global, database: &mut Database) -> Result<(), Fail> {
     Ok(())
 }
 
-// Whether the database lists the keys of a router and of an age, and then all LSAs in their order.
+// Returns true if the database lists the keys of a router and of an age, and all LSAs in order.
 fn lists_all(alloc: Global, database: &Database) -> Result<bool, Fail> {
     let mut keys = Vec::new(alloc);
     database.by_router(17, &mut keys)?;

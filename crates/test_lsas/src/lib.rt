@@ -1,6 +1,9 @@
-//! Trials of LSAs from their vocabulary to a database of them: printed texts, bytes that come back and the faults of others
-//! (RFC 2328, A.4), which instance is newer (13.1) and whether contents differ (13.2), columns around the lengths at which
-//! their kernels turn, and a link-state database whose LSAs come, age and go (12 to 14).
+//! Tests of LSAs, from the basic types to a link-state database.
+//!
+//! They cover printed texts, bytes that are read and written back, and the faults of other bytes
+//! (RFC 2328, A.4). They also cover which instance is newer (13.1), if contents differ (13.2), and
+//! columns with lengths around a vector. In the database, LSAs are installed, age and are purged
+//! (12 to 14).
 #![tactic(auto)]
 
 #[cfg(test)]

@@ -1,11 +1,11 @@
-//! Which of two instances is newer (RFC 2328, 13.1), and whether their contents differ (13.2).
+//! Which of two instances is newer (RFC 2328, 13.1), and if their contents differ (13.2).
 use crate::bytes::{STUB, put, seal};
 use lsa_codec::read;
 use lsa_order::{Header, Newer, contents_differ, newer};
 use std::alloc::Global;
 use std::test::Fail;
 
-// An instance with this age, sequence number and checksum.
+// Returns a header with this age, sequence number and checksum.
 fn instance((age, seq, sum): (u16, u32, u16)) -> Header {
     Header {
         age,
@@ -29,7 +29,7 @@ fn newer_ones(rt: HostRuntime) {
             (3600, 0x8000_0001, 7),
             Newer::Second,
         ),
-        // the only one at MaxAge is the newer, although the other is the younger
+        // The only instance at MaxAge is the newer, although the other is younger.
         ((3600, 0x8000_0001, 7), (0, 0x8000_0001, 7), Newer::First),
         ((3600, 0x8000_0001, 7), (3600, 0x8000_0001, 7), Newer::Same),
         ((1000, 0x8000_0001, 8), (0, 0x8000_0001, 7), Newer::First),
@@ -39,8 +39,8 @@ fn newer_ones(rt: HostRuntime) {
     }
 }
 
-// Whether the contents of the stub's LSA differ from its own with a byte changed and a checksum that
-// fits, at these ages.
+// Returns true if the contents of the stub's LSA differ from its own with one byte changed and a
+// matching checksum, at these ages.
 fn differs(alloc: Global, ages: (u16, u16), place: usize, byte: u8) -> Result<bool, Fail> {
     let mut bytes = Vec::from_slice(alloc, &STUB)?;
     put(&mut bytes, place, &[byte])?;
@@ -49,7 +49,7 @@ fn differs(alloc: Global, ages: (u16, u16), place: usize, byte: u8) -> Result<bo
     Ok(contents_differ(&first, ages.0, &second, ages.1))
 }
 
-// Options, metric and MaxAge count, and neither the sequence number nor the age below MaxAge.
+// Options, metric and MaxAge count. The sequence number and an age below MaxAge do not.
 #[test]
 fn contents(rt: HostRuntime) -> Result<(), Fail> {
     let options = differs(rt.alloc(), (1, 1), 2, 0)?;

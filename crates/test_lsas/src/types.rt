@@ -1,4 +1,4 @@
-//! The vocabulary: its printed texts, its orders, and a configuration that is copied.
+//! The basic types: their printed texts, their orders, and a copy of a configuration.
 use ospf_types::address::Address;
 use ospf_types::config::{AreaConfig, Areas, Config, Range, Ranges, Stub};
 use ospf_types::entry::{Entry, PathType, Paths};
@@ -12,7 +12,7 @@ use std::alloc::{AllocError, Global};
 use std::cmp::Ordering;
 use std::test::Fail;
 
-// Whether the address is printed as the text, and the text read as the address.
+// Returns true if the address prints as the text, and the text parses as the address.
 fn is_spelled(alloc: Global, address: u32, text: &str) -> Result<bool, AllocError> {
     let printed = format!(in alloc; "{}", Address(address))?;
     Ok(printed.as_str() == text && Address::parse(text) == Some(Address(address)))
@@ -95,7 +95,7 @@ fn ranges(alloc: Global, area: u32) -> Result<Ranges, Memory> {
     Ok(ranges)
 }
 
-// Sixteen areas with 32 ranges each.
+// Returns 16 areas with 32 ranges each.
 fn areas(alloc: Global) -> Result<Areas, Memory> {
     let mut areas = Areas::new(alloc);
     for id in 0..16 {
@@ -136,7 +136,7 @@ fn copies_a_large_configuration(rt: HostRuntime) -> Result<(), Fail> {
     Ok(())
 }
 
-// Whether an item goes in, changes and comes out at its place.
+// Returns true if an item is inserted, replaced and removed at its index.
 fn changes_at_places(alloc: Global) -> Result<bool, Memory> {
     let mut ids = Listed::from_slice(alloc, &[1, 3])?;
     ids.insert(1, 2)?;

@@ -1,5 +1,7 @@
-//! Takes frames, headers, fragments, packets and updates that were written by hand, and prints what comes of them. It ends with an
-//! error where something else comes than is to come.
+//! Tests of frames, headers, fragments, packets and updates that were written by hand.
+//!
+//! The results are printed. A result of a frame, header or fragment that is not the expected one
+//! ends the run with an error.
 #![tactic(auto)]
 
 mod payloads;

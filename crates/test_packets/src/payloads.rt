@@ -1,5 +1,7 @@
-//! Takes frames, headers and fragments that were written by hand, and compares what comes of them with what is to come. It prints
-//! the name of what it has tried, and ends with an error where something else comes.
+//! Tests of frames, headers and fragments that were written by hand.
+//!
+//! Each is compared with the expected result. The name of each test is printed, and the first
+//! difference ends the run with an error.
 mod frames;
 mod headers;
 mod parts;

@@ -1,4 +1,4 @@
-//! Reads packets and their LSAs, and prints what they are or why they are none.
+//! Reads packets and their LSAs, and prints them or their faults.
 mod samples;
 mod texts;
 

@@ -1,4 +1,4 @@
-//! Prints an LSA of each kind in words, and of the longest router-LSA how many lines it has.
+//! Prints an LSA of each kind as text, and the number of lines of the longest router-LSA.
 mod samples;
 
 use anyhow::Result;
@@ -26,7 +26,7 @@ fn in_words(alloc: Global, bytes: &[u8]) -> Result<String> {
     Ok(text)
 }
 
-// The router-LSA with so many stub links.
+// Returns the longest router-LSA, with all its stub links.
 fn longest(alloc: Global) -> Result<Vec<u8>> {
     let mut bytes = Vec::from_slice(alloc, &LONGEST)?;
     for _ in 0..LINKS {

@@ -1,4 +1,4 @@
-//! Prints a JSON object of each kind, and an LSA of each kind in words.
+//! Prints a JSON object of each kind, and an LSA of each kind as text.
 #![tactic(auto)]
 
 mod lsas;

@@ -1,4 +1,4 @@
-//! Prints a JSON object of each kind, a line each.
+//! Prints a JSON object of each kind, one a line.
 mod samples;
 
 use anyhow::Result;

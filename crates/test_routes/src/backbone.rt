@@ -1,4 +1,4 @@
-//! The backbone of a small network, and the routes inside it (RFC 2328, 16.1).
+//! The backbone of a small network, and its intra-area routes (RFC 2328, 16.1).
 ghost use Rattle.std.specs.Prelude.{◌≡◌, OnOk};
 
 use area_trees::AreaTree;
@@ -21,7 +21,7 @@ pub(crate) fn install(alloc: Global, database: &mut Database, bytes: &[u8]) -> R
     Ok(())
 }
 
-/// The routes of the root inside the backbone, with interface 1 up at the address.
+/// Returns the intra-area routes of the root, with interface 1 up at the address (in host order).
 pub(crate) fn inside(
     alloc: Global,
     hashing: RandomState,

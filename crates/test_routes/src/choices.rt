@@ -1,4 +1,4 @@
-//! A choice of the least key, with all that was offered at it.
+//! A choice of the least key, with all items offered at it.
 use path_choice::Best;
 use std::test::Fail;
 

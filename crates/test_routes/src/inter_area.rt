@@ -1,4 +1,4 @@
-//! A summary of a border router that is the root's only neighbour.
+//! A summary-LSA of a border router that is the root's only neighbour.
 ghost use Rattle.std.specs.Prelude.{◌≡◌, IfOk};
 
 use crate::backbone::{ROOT, inside, install};
@@ -12,13 +12,14 @@ use std::alloc::Global;
 use std::hash::RandomState;
 use std::test::Fail;
 
-// The router-LSA of the root, 10.0.0.1: a point-to-point link to 10.0.0.2 at metric 5 (RFC 2328, A.4.2).
+// The router-LSA of the root, 10.0.0.1: a point-to-point link to 10.0.0.2 at metric 5 (RFC 2328,
+// A.4.2).
 const OF_ROOT: [u8; 36] = [
     0, 1, 2, 1, 10, 0, 0, 1, 10, 0, 0, 1, 128, 0, 0, 1, 140, 66, 0, 36, 0, 0, 0, 1, 10, 0, 0, 2,
     198, 51, 100, 1, 1, 0, 0, 5,
 ];
 
-// That of 10.0.0.2, an area border router, with the link back.
+// The router-LSA of 10.0.0.2, an area border router, with the link back.
 const OF_BORDER: [u8; 36] = [
     0, 1, 2, 1, 10, 0, 0, 2, 10, 0, 0, 2, 128, 0, 0, 1, 131, 72, 0, 36, 1, 0, 0, 1, 10, 0, 0, 1,
     198, 51, 100, 2, 1, 0, 0, 5,
@@ -34,7 +35,7 @@ const ADDRESS: u32 = 0xc633_6401;
 
 const PEER: u32 = 0xc633_6402;
 
-// The backbone's database.
+// Returns the backbone's database.
 fn backbone(alloc: Global, hashing: RandomState) -> Result<Database, Fail>
     ensures { IfOk result (λ d. d.limit ≡ 3) }
 {
@@ -45,12 +46,12 @@ fn backbone(alloc: Global, hashing: RandomState) -> Result<Database, Fail>
     Ok(database)
 }
 
-// 10.1.0.0/16.
+// Returns 10.1.0.0/16.
 fn network() -> Dest {
     Dest::Net(Prefix::from_mask(0x0a01_0000, 0xffff_0000))
 }
 
-// What names the network.
+// Returns the change set that contains only the network.
 fn naming(alloc: Global) -> Result<Dirty, Fail> {
     let dests = Vec::from_slice(alloc, &[network()])?;
     Ok(Dirty {
@@ -61,7 +62,8 @@ fn naming(alloc: Global) -> Result<Dirty, Fail> {
     })
 }
 
-// Whether just the network is reached, at cost 15 over one path, and stays so when it is named.
+// Returns true if only the network is reached, at cost 15 over one path, and an update of it
+// changes nothing.
 fn is_reached(alloc: Global, hashing: RandomState, inputs: &InterInputs<'_>) -> Result<bool, Fail> {
     let mut inter = Inter::build(alloc, inputs, hashing)?;
     let dests = inter.dests(alloc)?;

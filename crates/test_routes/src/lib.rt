@@ -1,6 +1,9 @@
-//! Tests of the layers of routes, one by one: a choice, results that are chosen anew, what summary-LSAs and AS-external-LSAs
-//! advertise (RFC 2328, 12.4.3 and 12.4.4), an active range (3.5), and an inter-area route (16.2). Each is built, and
-//! then follows what is named. The example of one more layer is built too.
+//! Tests of the layers of routes, one by one.
+//!
+//! They cover a choice, results that are recomputed, and the destinations that summary-LSAs and
+//! AS-external-LSAs advertise (RFC 2328, 12.4.3 and 12.4.4). They also cover an active range (3.5),
+//! an inter-area route (16.2), and the example of one more layer. Most layers are built, and then
+//! updated.
 #![tactic(auto)]
 
 #[cfg(test)]

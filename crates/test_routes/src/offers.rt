@@ -1,4 +1,4 @@
-//! What a summary-LSA and an AS-external-LSA advertise, and how it is found.
+//! The destinations that a summary-LSA and an AS-external-LSA advertise, and how they are found.
 ghost use Rattle.std.specs.Prelude.{◌≡◌, IfOk};
 ghost use Rattle.std.specs.FinMap as map;
 ghost use Rattle.ospf_types.specs.Lsa.{key_of};
@@ -13,12 +13,13 @@ use std::alloc::Global;
 use std::hash::RandomState;
 use std::test::Fail;
 
-// A summary-LSA for 10.0.0.0/8 by 0.0.0.7, at metric 5.
+// A summary-LSA of 0.0.0.7 for 10.0.0.0/8, at metric 5.
 const SUMMARY: [u8; 28] = [
     0, 1, 2, 3, 10, 0, 0, 0, 0, 0, 0, 7, 128, 0, 0, 1, 240, 86, 0, 28, 255, 0, 0, 0, 0, 0, 0, 5,
 ];
 
-// An AS-external-LSA for the same network, of type 2 at metric 20, which forwards to 192.0.2.1.
+// An AS-external-LSA for the same network, of type 2 at metric 20, with the forwarding address
+// 192.0.2.1.
 const EXTERNAL: [u8; 36] = [
     0, 1, 2, 5, 10, 0, 0, 0, 0, 0, 0, 7, 128, 0, 0, 1, 111, 122, 0, 36, 255, 0, 0, 0, 128, 0, 0,
     20, 192, 0, 2, 1, 0, 0, 0, 0,
@@ -28,7 +29,7 @@ const AREA: Scope = Scope::Area(0);
 
 const GATEWAY: u32 = 0xc000_0201;
 
-// A database of the LSA alone.
+// Returns a database with only this LSA.
 fn database_of(rt: &HostRuntime, lsa: Checked) -> Result<Database, Fail>
     ensures { IfOk result (λ d. d.lsas ≡ map.insert map.empty (key_of lsa) lsa) }
 {
@@ -37,7 +38,7 @@ fn database_of(rt: &HostRuntime, lsa: Checked) -> Result<Database, Fail>
     Ok(database)
 }
 
-// What the summary advertises.
+// Returns the index of the summary-LSA.
 fn summary(rt: &HostRuntime, affected: &mut AffectedDests) -> Result<AdvertisedIndex, Fail> {
     let lsa = lsa_codec::read(rt.alloc(), &SUMMARY)?;
     let key = lsa.key();
@@ -52,7 +53,7 @@ fn summary(rt: &HostRuntime, affected: &mut AffectedDests) -> Result<AdvertisedI
     Ok(index)
 }
 
-// What the external advertises.
+// Returns the index of the AS-external-LSA.
 fn external(rt: &HostRuntime, affected: &mut AffectedDests) -> Result<AdvertisedIndex, Fail> {
     let lsa = lsa_codec::read(rt.alloc(), &EXTERNAL)?;
     let database = database_of(rt, lsa)?;
@@ -83,7 +84,7 @@ fn has_key(index: &AdvertisedIndex, alloc: Global, group: IndexKey, key: Key) ->
     Ok(keys.as_slice() == [key].as_slice())
 }
 
-// Whether the gateway is the one forwarding address in the network.
+// Returns true if the gateway is the only forwarding address in the network.
 fn forwards_into(index: &AdvertisedIndex, alloc: Global, network: Prefix) -> Result<bool, Memory> {
     let mut addresses = Vec::new(alloc);
     index.list_addresses(network, &mut addresses)?;

@@ -1,4 +1,4 @@
-//! A range with the one network of a small area.
+//! A range with the only network of a small area.
 use crate::backbone::{inside, install};
 use active_ranges::{ActiveRanges, RangeMember};
 use intra::Intra;
@@ -19,14 +19,14 @@ const LSA: [u8; 36] = [
 // The address of interface 1, on that network.
 const ADDRESS: u32 = 0xc000_0201;
 
-// The routes of the root, with interface 1 up.
+// Returns the routes of the root, with interface 1 up.
 fn routes(alloc: Global, hashing: RandomState) -> Result<Intra, Fail> {
     let mut database = Database::new(alloc, 3, hashing);
     install(alloc, &mut database, &LSA)?;
     inside(alloc, hashing, &database, ADDRESS, 0)
 }
 
-// The backbone with one range.
+// Returns the backbone with one range.
 fn configured(alloc: Global, prefix: Prefix) -> Result<Areas, Fail> {
     let advertise = true;
     let ranges = Ranges::from_slice(alloc, &[Range { prefix, advertise }])?;
@@ -39,7 +39,7 @@ fn configured(alloc: Global, prefix: Prefix) -> Result<Areas, Fail> {
     Ok(areas)
 }
 
-// Whether just this range is active, and stays so when its network is named.
+// Returns true if only this range is active, and an update of its network changes nothing.
 fn is_active(alloc: Global, range: Prefix, intra: &Intra) -> Result<bool, Fail> {
     let areas = configured(alloc, range)?;
     let areas = areas.as_slice();
@@ -60,7 +60,7 @@ fn a_range_with_a_network_is_active(rt: HostRuntime) -> Result<(), Fail> {
     Ok(())
 }
 
-// Whether a range that is set once more has just its network, and stays active.
+// Returns true if a range that is set again covers only its network, and is still active.
 fn is_reconfigured(alloc: Global, range: Prefix, intra: &Intra) -> Result<bool, Fail> {
     let areas = configured(alloc, range)?;
     let areas = areas.as_slice();

@@ -1,11 +1,11 @@
-//! Results by key, of which all follow what may differ.
+//! Results by key, of which `follow` recomputes those that may be out of date.
 use ospf_types::memory::Memory;
 use result_map::{Choose, ResultMap};
 use std::alloc::Global;
 use std::hash::RandomState;
 use std::test::*;
 
-// Only this key has a result.
+// A choice that gives a result only to this key.
 struct Only {
     key: u32,
     value: u32,

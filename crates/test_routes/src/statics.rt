@@ -4,7 +4,8 @@ use static_routes::{StaticInputs, StaticRoutes};
 use std::hash::RandomState;
 use std::test::*;
 
-// Of two routes to a network that of the lesser metric is used; to a network that another route reaches none is.
+// The route of the lesser metric is used, and a network that another route reaches gets no static
+// route.
 #[test]
 fn the_static_route_of_the_least_metric_is_used(rt: HostRuntime) -> Result<(), Fail> {
     let alloc = rt.alloc();

@@ -1,8 +1,9 @@
-//! An input that comes slowly.
+//! A slow input.
 
 use std::io;
 
-/// Gives at most so many bytes a read. It may interrupt every other read, and a read may fail between its two parts.
+/// An input that gives at most `step` bytes a read. It may interrupt every other read, and a read
+/// may fail between its two parts.
 #[derive(Drop)]
 pub struct SlowInput<'a> {
     left: &'a [u8],
@@ -14,7 +15,7 @@ pub struct SlowInput<'a> {
 }
 
 impl<'a> SlowInput<'a> {
-    /// An input of one part.
+    /// Creates an input of one part.
     pub fn new(bytes: &'a [u8], step: usize) -> SlowInput<'a> {
         SlowInput {
             left: bytes,
@@ -26,7 +27,7 @@ impl<'a> SlowInput<'a> {
         }
     }
 
-    /// The input, every other read of which is interrupted.
+    /// Interrupts every other read of the input.
     pub fn with_interrupts(self) -> SlowInput<'a> {
         SlowInput {
             interrupts: true,
@@ -34,7 +35,7 @@ impl<'a> SlowInput<'a> {
         }
     }
 
-    /// The input, where such an error and then more bytes come behind its own.
+    /// Adds this error and then more bytes after the bytes of the input.
     pub fn with_fault(self, fault: io::ErrorKind, behind: &'a [u8]) -> SlowInput<'a> {
         SlowInput {
             fault: Some(fault),

@@ -1,5 +1,8 @@
-//! Takes lines from an input that gives few bytes a read, with an interrupted read before each, and compares them with those
-//! that are to come. It prints the name of what it has tried, and ends with an error where something else comes.
+//! Tests of lines that are read from an input with few bytes a read, with an interrupted read
+//! before each.
+//!
+//! The name of each test is printed. The first line that is not the expected one ends the run with
+//! an error.
 mod long;
 mod trial;
 
@@ -53,7 +56,7 @@ fn short_lines() -> [Trial<'static>; 3] {
     ]
 }
 
-// A read that fails: what came of the line is lost, and the rest of it comes next.
+// A read that fails: the bytes of the line are lost, and the rest of the line comes next.
 fn try_fault(alloc: Global, kind: io::ErrorKind, fault: ReadFault) -> Result<()> {
     let wanted = [
         Wanted::Line(b"ab"),

@@ -1,5 +1,7 @@
-//! Reads captures and lines from inputs that come slowly, are interrupted or fail. It prints the packets, and the names of the
-//! lines that it has tried, and ends with an error where something else comes.
+//! Tests of captures and lines that are read from slow, interrupted or failing inputs.
+//!
+//! The packets and the names of the lines are printed. The first difference ends the run with an
+//! error.
 #![tactic(auto)]
 
 mod input;

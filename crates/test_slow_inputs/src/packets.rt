@@ -1,5 +1,5 @@
-//! Reads captures from inputs that come slowly, are interrupted or fail, and prints their packets. It ends with an error
-//! where something else comes by another number of bytes a read.
+//! Reads captures from slow, interrupted or failing inputs, and prints their packets. It ends with
+//! an error if the packets depend on the number of bytes a read.
 mod reading;
 mod samples;
 
@@ -10,10 +10,10 @@ use samples::*;
 use std::alloc::Global;
 use std::io;
 
-/// How many bytes come at most by a read.
+/// The greatest numbers of bytes a read.
 const STEPS: [usize; 3] = [1, 7, 1_000];
 
-/// Reads that fail behind 50 bytes of the pcap, which is within its second packet.
+/// Reads that fail after 50 bytes of the pcap, which end within its second packet.
 const FAULTS: [(&str, io::ErrorKind); 2] = [
     ("a read that fails", io::ErrorKind::ConnectionReset),
     (
@@ -65,7 +65,7 @@ fn captures() -> [(&'static str, &'static [u8]); 9] {
     ]
 }
 
-// What is printed of a capture, which is the same however its bytes come.
+// Returns the text of a capture, which is the same however its bytes come.
 fn shown(alloc: Global, name: &str, bytes: &[u8]) -> Result<String> {
     let whole = read_all(alloc, &mut SlowInput::new(bytes, bytes.len()))?;
     for step in STEPS {
@@ -82,7 +82,7 @@ fn shown(alloc: Global, name: &str, bytes: &[u8]) -> Result<String> {
     Ok(whole)
 }
 
-// What is printed of the pcap where a read fails, which is the same however its bytes come.
+// Returns the text of the pcap with a read that fails, which is the same however its bytes come.
 fn shown_with_fault(alloc: Global, name: &str, kind: io::ErrorKind) -> Result<String> {
     let (front, behind) = PCAP.split_at(50);
     let whole = read_all(

@@ -1,4 +1,4 @@
-//! States that are made from bases, and bases that no state can be made from.
+//! States that are made from bases, and bases with a fault.
 
 use crate::events::{BACKBONE, EXTERNAL, OTHER, ROOT, STUB, configured, install, sizes};
 use event_state::{Base, BaseFault, Event, Limits, State, EntryFault, fault_in_base};
@@ -26,7 +26,7 @@ fn interface(area: u32, address: u32, up: bool) -> Interface {
     }
 }
 
-// A base at serial 7, with these interfaces, and in each of these scopes an LSA.
+// Returns a base at serial 7, with these interfaces, and an LSA in each of these scopes.
 fn base(
     alloc: Global,
     interfaces: &[(u8, Interface)],

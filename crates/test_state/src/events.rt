@@ -1,4 +1,4 @@
-//! The state of a router through events: those that it takes, and those that it refuses.
+//! The state of a router through events that are taken, and events that are refused.
 ghost use Rattle.std.specs.Prelude.{◌≡◌};
 
 use event_state::{Event, Limits, Refusal, State};
@@ -16,8 +16,8 @@ pub(crate) const OTHER: u32 = 0x0a00_0002;
 
 pub(crate) const BACKBONE: Scope = Scope::Area(0);
 
-// Router-LSAs with one link, of type 3 to a stub network and of type 1 to another router, a
-// network-LSA, a summary-LSA and an AS-external-LSA (RFC 2328, A.4.2 to A.4.5).
+// LSAs: two router-LSAs with one link, a network-LSA, a summary-LSA and an AS-external-LSA (RFC
+// 2328, A.4.2 to A.4.5). The links are of type 3 to a stub network and of type 1 to another router.
 pub(crate) const STUB: [u8; 36] = [
     0, 0, 2, 1, 0, 0, 0, 0, 0, 0, 0, 0, 0, 0, 0, 0, 0, 0, 0, 36, 0, 0, 0, 1, 192, 0, 2, 0, 255,
     255, 255, 0, 3, 0, 0, 10,
@@ -49,7 +49,8 @@ fn put(bytes: &mut [u8], place: usize, new: &[u8]) -> Result<(), Fail> {
     Ok(())
 }
 
-// Installs the router's LSA of these bytes, of the age and the instance, into the backbone.
+// Returns the event that installs the router's LSA of these bytes, at this age and instance, into
+// the backbone.
 pub(crate) fn install(
     alloc: Global,
     lsa: &[u8],
@@ -68,7 +69,7 @@ pub(crate) fn install(
     Ok(Event::Install { scope, lsa })
 }
 
-// The same event in another scope.
+// Returns the same event in another scope, if it is an install.
 fn moved(event: Event, scope: Scope) -> Event {
     match event {
         Event::Install { lsa, .. } => Event::Install { scope, lsa },
@@ -111,7 +112,7 @@ fn area(alloc: Global, id: u32) -> AreaConfig
     }
 }
 
-// A router with a backbone and an area 1.
+// Returns the configuration of a router with a backbone and an area 1.
 pub(crate) fn configured(alloc: Global) -> Result<Config, Fail> {
     let mut areas = Areas::new(alloc);
     areas.push(area(alloc, 0))?;
@@ -123,7 +124,7 @@ pub(crate) fn configured(alloc: Global) -> Result<Config, Fail> {
     })
 }
 
-// Its state, with the standard limits where none are given.
+// Opens a state for that configuration, with the standard limits if none are given.
 pub(crate) fn opened(rt: &HostRuntime, limits: Option<Limits>) -> Result<State, Fail> {
     let config = configured(rt.alloc())?;
     let (alloc, hashing) = (rt.alloc(), RandomState::new(rt)?);
@@ -133,20 +134,20 @@ pub(crate) fn opened(rt: &HostRuntime, limits: Option<Limits>) -> Result<State, 
     })
 }
 
-// How many events were taken, and how many LSAs and interfaces there are.
+// Returns the numbers of events taken, of LSAs in the backbone, and of interfaces.
 pub(crate) fn sizes(state: &State) -> (usize, usize, usize) {
     let lsas = state.database(BACKBONE).map_or(0, Database::len);
     (state.journal().len(), lsas, state.interfaces().count())
 }
 
-// Whether the event is refused so, and leaves what there is.
+// Returns true if the event gets this refusal, and all counts are unchanged.
 fn refuses(state: &mut State, event: Event, refusal: Refusal) -> bool {
     let before = sizes(state);
     state.step(event) == Err(refusal) && sizes(state) == before
 }
 
-// A state with room for no further LSA and for one event: LSAs of the root and of another router,
-// and an interface that is up.
+// Returns a state with no room for another LSA, and with room for one more event. It has LSAs of
+// the root and of another router, and an interface that is up.
 fn nearly_full(rt: &HostRuntime) -> Result<State, Fail> {
     let limits = Limits {
         area_lsas: 2,
@@ -189,7 +190,7 @@ fn a_refusal_leaves_all_as_it_was(rt: HostRuntime) -> Result<(), Fail> {
     Ok(())
 }
 
-// Whether a copy of the event prints as it does.
+// Returns true if a copy of the event prints as the event does.
 pub(crate) fn copies(alloc: Global, event: &Event) -> Result<bool, Fail> {
     let copy = event.copy(alloc)?;
     let text = format!(in alloc; "{copy:?}")?;

@@ -1,5 +1,7 @@
-//! Trials of what is kept of a router: its state, which takes events one after the other or refuses them and stays as it was,
-//! and its routing table, where the longest match decides (RFC 2328, 11.1).
+//! Tests of the state of a router, and of its routing table.
+//!
+//! The state takes events, or refuses them and is then unchanged. In the table the longest match
+//! decides (RFC 2328, 11.1).
 #![tactic(auto)]
 
 #[cfg(test)]

@@ -7,7 +7,7 @@ use ospf_types::config::Range;
 use ospf_types::prefix::Prefix;
 use std::test::*;
 
-// The network of that length around 10.N.0.0.
+// Returns the network of this length that contains 10.N.0.0.
 fn network(n: u8, length: u8) -> Prefix
     requires { length ≤ 32 }
 {
@@ -25,7 +25,7 @@ fn set_in(area: u32, prefix: Prefix, advertise: bool) -> Event {
     }
 }
 
-// In area 1.
+// Returns the event that sets a range of area 1.
 fn set(n: u8, length: u8, advertise: bool) -> Event
     requires { length ≤ 32 }
 {
@@ -39,7 +39,8 @@ fn dropped(n: u8, length: u8) -> Event
     Event::RangeDrop { area, prefix }
 }
 
-// Whether area 1 has ranges for these networks of 16 bits, in this order, and the backbone has none.
+// Returns true if area 1 has ranges for these networks of 16 bits, in this order, and no other area
+// has a range.
 fn has(state: &State, networks: &[(u8, bool)]) -> bool {
     let mut right = true;
     for area in state.config().areas.as_slice() {
@@ -61,7 +62,7 @@ fn are(ranges: &[Range], networks: &[(u8, bool)]) -> bool {
     same
 }
 
-// How many ranges there are.
+// Returns the number of ranges.
 fn count(state: &State) -> usize {
     let mut count = 0usize;
     for area in state.config().areas.as_slice() {
@@ -70,20 +71,20 @@ fn count(state: &State) -> usize {
     count
 }
 
-// Whether the event is taken, and changes something or not.
+// Returns true if the event is taken, and its reply has this `changed`.
 fn takes(state: &mut State, event: Event, changed: bool) -> bool {
     let next = state.serial().wrapping_add(1);
     state.step(event) == Ok((next, changed))
 }
 
-// Whether the event is refused so, and leaves as many things as there are.
+// Returns true if the event gets this refusal, and all counts are unchanged.
 fn refuses(state: &mut State, event: Event, refusal: Refusal) -> bool {
     let (before, ranges) = (sizes(state), count(state));
     let refused = state.step(event) == Err(refusal);
     refused && sizes(state) == before && count(state) == ranges
 }
 
-// A state whose area 1 has so many ranges: 10.0.0.0/16, 10.2.0.0/16 and so on.
+// Returns a state whose area 1 has `count` ranges: 10.0.0.0/16, 10.2.0.0/16 and so on.
 fn with_ranges(rt: &HostRuntime, count: u8, limits: Option<Limits>) -> Result<State, Fail> {
     let mut state = opened(rt, limits)?;
     for n in 0..count {
@@ -134,7 +135,7 @@ fn an_area_has_at_most_32_ranges(rt: HostRuntime) -> Result<(), Fail> {
     Ok(())
 }
 
-// The area is looked for first, then room in the journal, and then the ranges.
+// The area is checked first, then room in the journal, and then the ranges.
 #[test]
 fn refusals_of_ranges_come_in_order(rt: HostRuntime) -> Result<(), Fail> {
     let events = 32;
@@ -157,7 +158,8 @@ fn refusals_of_ranges_come_in_order(rt: HostRuntime) -> Result<(), Fail> {
     Ok(())
 }
 
-// Where memory is refused all is as it was, and the event is taken afterwards.
+// Returns true if the event is taken. If memory is refused first, the state has to be unchanged,
+// and the event has to be taken afterwards.
 fn withstands(rt: &HostRuntime, event: Event) -> Result<bool, Fail> {
     let mut state = with_ranges(rt, 3, None)?;
     let again = event.copy(rt.alloc())?;

@@ -1,4 +1,4 @@
-//! The routing table: its longest matches, as they are printed, and its changes (RFC 2328, 11.1).
+//! The routing table: its longest matches as printed, and its changes (RFC 2328, 11.1).
 ghost use Rattle.std.specs.Prelude.{◌≡◌, IfOk};
 ghost use Rattle.ospf_types.specs.Masks.{masked};
 
@@ -12,7 +12,7 @@ use std::alloc::Global;
 use std::hash::RandomState;
 use std::test::Fail;
 
-/// A route of that cost over interface 1, or a discard.
+/// Returns a route at this cost over interface 1, or a discard if the cost is `None`.
 fn item(alloc: Global, cost: Option<u32>) -> Result<Item, Memory> {
     let Some(cost) = cost else {
         return Ok(Item::Discard);
@@ -36,7 +36,7 @@ fn network(address: u32, length: u8) -> Result<Prefix, Fail>
     Ok(Prefix::new(address, length).ok_or("a length up to 32")?)
 }
 
-/// Sets a network, by its address and length, to a route of that cost, or to a discard.
+/// Sets a network, by its address and length, to a route at this cost, or to a discard.
 fn set(
     table: &mut Table,
     alloc: Global,
@@ -55,7 +55,7 @@ fn table_of(rt: &HostRuntime, rows: &[(u32, u8, Option<u32>)]) -> Result<Table, 
     Ok(table)
 }
 
-/// Whether the longest match of each address is printed so.
+/// Returns true if the longest match of each address prints as its text.
 fn prints(table: &Table, alloc: Global, rows: &[(u32, &str)]) -> Result<bool, Fail> {
     let mut all = true;
     for &(address, text) in rows {
@@ -115,7 +115,7 @@ fn a_route_under_a_discard_is_used(rt: HostRuntime) -> Result<(), Fail> {
     Ok(())
 }
 
-/// Whether the table has these networks in this order, and the serial number.
+/// Returns true if the table has these networks in this order, and the serial.
 fn lists(table: &Table, serial: u64, networks: &[(u32, u8)]) -> bool {
     let mut left = networks.iter();
     let mut same = table.serial() == serial;
@@ -141,7 +141,7 @@ fn items_ascend(rt: HostRuntime) -> Result<(), Fail> {
     Ok(())
 }
 
-/// The cost of the network's route.
+/// Returns the cost of the route to the network.
 fn cost_of(table: &Table, network: Prefix) -> Option<u32> {
     match table.get(network)? {
         Item::Route(entry) => Some(entry.cost),
@@ -149,7 +149,7 @@ fn cost_of(table: &Table, network: Prefix) -> Option<u32> {
     }
 }
 
-/// Whether the longest match of each `10.0.N.1` is `10.0.N.0/24`, and its route costs N.
+/// Returns true if the longest match of each `10.0.N.1` has a route at cost N.
 fn finds_each(table: &Table) -> bool {
     let mut all = true;
     for index in 0..200_u8 {

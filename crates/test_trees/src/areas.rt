@@ -1,4 +1,4 @@
-//! The tree of a small area, built and kept (RFC 2328, 16.1).
+//! The tree of a small area, built and updated (RFC 2328, 16.1).
 ghost use Rattle.std.specs.Prelude.{◌≡◌, ℕ, List, OnOk};
 ghost use Rattle.vertex_graph.specs.Up.{Up as UpValue};
 ghost use Rattle.area_trees.specs.Areas.{IsAreaTree, IsTreeOfSome};
@@ -16,7 +16,7 @@ use std::hash::RandomState;
 use std::test::Fail;
 use vertex_graph::Up;
 
-// A broadcast network, by its Designated Router's address.
+// A broadcast network, by the address of its Designated Router.
 const LAN: u32 = 0xc000_0202;
 
 const N: Vertex = Vertex::Network(LAN);
@@ -31,7 +31,8 @@ const GREATEST: Key = Key {
     router: 3,
 };
 
-// The root, a leaf and the network, which has two network-LSAs: that of the greater router does not list the leaf.
+// Installs LSAs of the root, of a leaf and of the network. The network has two network-LSAs. The
+// LSA of the router with the greater ID does not list the leaf.
 fn fill(alloc: Global, database: &mut Database) -> Result<(), Fail>
     ensures { OnOk result (database.new.limit ≡ database.old.limit) }
 {
@@ -41,14 +42,14 @@ fn fill(alloc: Global, database: &mut Database) -> Result<(), Fail>
     install_network(alloc, database, 3)
 }
 
-// A router that lies on the network at metric 10.
+// Installs the LSA of a router on the network, at metric 10.
 fn install_router(alloc: Global, database: &mut Database, id: u32) -> Result<(), Fail>
     ensures { OnOk result (database.new.limit ≡ database.old.limit) }
 {
     install(database, router(alloc, id, &[(N, id, 10)])?)
 }
 
-// The network, by that router and the root.
+// Installs the network-LSA of the router `by`, which lists this router and the root.
 fn install_network(alloc: Global, database: &mut Database, by: u32) -> Result<(), Fail>
     ensures { OnOk result (database.new.limit ≡ database.old.limit) }
 {
@@ -62,19 +63,19 @@ fn install(database: &mut Database, lsa: Checked) -> Result<(), Fail>
     Ok(())
 }
 
-// Who made the LSA.
+// Returns the Advertising Router of the LSA.
 fn maker(lsa: Option<&Checked>) -> Option<u32> {
     Some(lsa?.key().router)
 }
 
-// Whether the greater of two network-LSAs stands for the network, and the leaf is not reached.
+// Returns true if the network-LSA of router 3 is used for the network, and the leaf is not reached.
 fn stands(tree: &AreaTree, database: &Database) -> bool
     requires { (root : ℕ) × (ups : List UpValue) × IsAreaTree root database.now.lsas ups tree.now }
 {
     maker(tree.standing(database, N)) == Some(3) && tree.distance(LEAF).is_none()
 }
 
-// The greater one goes.
+// Flushes the network-LSA of router 3, and updates the tree.
 fn lose(alloc: Global, tree: &mut AreaTree, database: &mut Database) -> Result<(), Fail>
     requires limit { database.old.limit ≡ 8 }
     requires tree { (root : ℕ) × (ups : List UpValue) × IsAreaTree root database.old.lsas ups tree.old }
@@ -85,12 +86,12 @@ fn lose(alloc: Global, tree: &mut AreaTree, database: &mut Database) -> Result<(
     Ok(())
 }
 
-// Whether the leaf is reached.
+// Returns true if the leaf is reached at cost 10 over one next hop.
 fn reaches(tree: &AreaTree) -> bool {
     tree.distance(LEAF) == Some(10) && tree.hops(LEAF).len() == 1
 }
 
-// Whether the path to the leaf leads to the network, and from there to the leaf.
+// Returns true if the path leads to the network, and from there to the leaf.
 fn leads_over(alloc: Global, tree: &AreaTree) -> Result<bool, Fail>
     requires { IsTreeOfSome tree.now }
 {
@@ -98,7 +99,8 @@ fn leads_over(alloc: Global, tree: &AreaTree) -> Result<bool, Fail>
     Ok(leads(&links, &[(N, 10), (LEAF, 0)]))
 }
 
-// Whether one stands and then the other, and both the leaf and the network go with the interface.
+// Returns true if first one network-LSA is used and then the other, and the loss of the interface
+// changes the leaf and the network.
 fn follows(alloc: Global, tree: &mut AreaTree, database: &mut Database) -> Result<bool, Fail>
     requires limit { database.old.limit ≡ 8 }
     requires tree { (root : ℕ) × (ups : List UpValue) × IsAreaTree root database.old.lsas ups tree.old }
@@ -110,7 +112,7 @@ fn follows(alloc: Global, tree: &mut AreaTree, database: &mut Database) -> Resul
     Ok(greatest && reached && tree.changed() == [LEAF, N].as_slice())
 }
 
-// Whether the tree that is built of the database follows it.
+// Returns true if a tree that is built from the database follows its changes.
 fn is_followed(rt: &HostRuntime, database: &mut Database) -> Result<bool, Fail>
     requires { database.old.limit ≡ 8 }
 {
@@ -120,8 +122,8 @@ fn is_followed(rt: &HostRuntime, database: &mut Database) -> Result<bool, Fail>
     follows(alloc, &mut tree, database)
 }
 
-// When the greater of two network-LSAs goes the other one stands for the network, and its leaf is reached, as long
-// as there is an interface.
+// After the greater of two network-LSAs is flushed, the other is used for the network. The leaf is
+// then reached, as long as there is an interface.
 #[test]
 fn the_greatest_network_lsa_stands(rt: HostRuntime) -> Result<(), Fail> {
     let hashing = RandomState::new(&rt)?;

@@ -1,4 +1,4 @@
-//! Sets of more next hops than stand inline.
+//! Sets with more next hops than fit inline.
 use hop_sets::HopSet;
 use ospf_types::hop::NextHop;
 use ospf_types::memory::Memory;

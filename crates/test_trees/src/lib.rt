@@ -1,12 +1,16 @@
-//! Trials of the graph of an area and its shortest-path tree together (RFC 2328, 16.1 and 16.1.1).
+//! Tests of an area's graph together with its shortest-path tree (RFC 2328, 16.1 and 16.1.1).
 //!
-//! A trial hands a graph router-LSAs, network-LSAs and interfaces, and its tree the links that went and
-//! came by them. The tests take a broadcast network and a point-to-point link over which two paths cost
-//! the same, parallel links, a link that only one end has, one LSA in the place of another, and a repair
-//! that is refused memory. A walk of 400 changes compares each repaired tree with the one that is built.
-//! What a tree stands on has small tests too: sets of next hops, the queue of a search, the links of a
-//! graph alone; and so has the tree of an area that follows its database. Paths are found link by link in the
-//! first network, and through a line of 600 routers.
+//! A `Trial` passes router-LSAs, network-LSAs and interfaces to a graph. Its tree is repaired with
+//! the links that were removed and added.
+//!
+//! - A broadcast network and a point-to-point link, over which two paths have equal cost.
+//! - Parallel links, and a link that only one end lists.
+//! - One network-LSA after another for the same network.
+//! - A repair that is refused memory.
+//! - A walk of 400 changes that compares each repaired tree with a tree that is built.
+//! - The layers under a tree: sets of next hops, the queue of a search, and the links of a graph.
+//! - The tree of an area that follows its database.
+//! - Paths link by link, in the first network and in a line of 600 routers.
 #![tactic(auto)]
 
 #[cfg(test)]

@@ -1,4 +1,4 @@
-//! The links of a graph come with LSAs and interfaces, and go.
+//! The links of a graph, which LSAs and interfaces add and remove.
 use crate::network::{network, router};
 use crate::trial::{hand_in, test_size};
 use ospf_types::entry::Vertex;
@@ -17,7 +17,7 @@ const ROOT: Vertex = Vertex::Router(ROUTER);
 
 const N: Vertex = Vertex::Network(ADDRESS);
 
-// Whether there is one link, and it leads over that interface or to those addresses.
+// Returns true if there is one link, over this interface or to these addresses.
 fn is_one(links: &[Link], interface: u8, addresses: &[u32]) -> bool {
     match links {
         [link] => match link.label.interface() {
@@ -28,7 +28,8 @@ fn is_one(links: &[Link], interface: u8, addresses: &[u32]) -> bool {
     }
 }
 
-// Whether the links come: 10.0.0.1 lies on the transit network 192.0.2.1 at metric 10, its address there 192.0.2.1.
+// Returns true if the link from the network is added: 10.0.0.1 has the address 192.0.2.1 on the
+// transit network 192.0.2.1, at metric 10.
 fn comes(alloc: Global, graph: &mut Graph) -> Result<bool, Fail> {
     let own = router(alloc, ROUTER, &[(N, ADDRESS, 10)])?;
     let other = network(alloc, ADDRESS, &[ROUTER])?;
@@ -36,7 +37,7 @@ fn comes(alloc: Global, graph: &mut Graph) -> Result<bool, Fail> {
     Ok(changes.gone.is_empty() && is_one(&changes.came, 0, &[ADDRESS]))
 }
 
-// Whether the link back leads to both addresses, of which 192.0.2.9 comes.
+// Returns true if the link from the network leads to both addresses after 192.0.2.9 is added.
 fn comes_at_two(alloc: Global, graph: &mut Graph) -> Result<bool, Fail> {
     let own = router(alloc, ROUTER, &[(N, ADDRESS, 10), (N, SECOND, 10)])?;
     let changes = hand_in(graph, &[(ROOT, Some(&own))])?;
@@ -45,7 +46,7 @@ fn comes_at_two(alloc: Global, graph: &mut Graph) -> Result<bool, Fail> {
     Ok(back && came && is_one(&changes.gone, 0, &[ADDRESS]))
 }
 
-// Whether the link to the network leads over the interface once that is up.
+// Returns true if the link to the network leads over the interface once it is up.
 fn goes_over(graph: &mut Graph) -> Result<bool, Fail> {
     let changes = graph.interfaces(&[Up {
         id: 7,
@@ -56,7 +57,7 @@ fn goes_over(graph: &mut Graph) -> Result<bool, Fail> {
     Ok(changes.gone.is_empty() && is_one(&changes.came, 7, &[]) && links && back)
 }
 
-// Whether both links go with the network.
+// Returns true if both links are removed with the network.
 fn goes(graph: &mut Graph) -> Result<bool, Fail> {
     test_size(graph, &[(N, None)])?;
     let changes = graph.replace(N, None)?;

@@ -4,7 +4,7 @@ use ospf_types::entry::Vertex;
 use std::alloc::Global;
 use std::test::Fail;
 
-/// A point-to-point link, or one to a transit network: where to, its Link Data and its metric.
+/// A point-to-point link, or a link to a transit network: its other end, Link Data and metric.
 pub(crate) type Way = (Vertex, u32, u16);
 
 pub(crate) fn router(alloc: Global, id: u32, ways: &[Way]) -> Result<Checked, Fail> {
@@ -16,7 +16,7 @@ pub(crate) fn router(alloc: Global, id: u32, ways: &[Way]) -> Result<Checked, Fa
     lsa(alloc, 1, id, id, &body)
 }
 
-// The bytes of a link.
+// Returns the bytes of a link.
 fn link((to, detail, metric): Way) -> [u8; 12] {
     let (kind, id) = match to {
         Vertex::Router(id) => (1, id),
@@ -28,7 +28,7 @@ fn link((to, detail, metric): Way) -> [u8; 12] {
     [a, b, c, d, e, f, g, h, kind, 0, high, low]
 }
 
-/// The network-LSA by the first of its routers.
+/// Returns the network-LSA of the first of these routers.
 pub(crate) fn network(alloc: Global, id: u32, routers: &[u32]) -> Result<Checked, Fail> {
     let mut body = Vec::from_slice(alloc, &[255, 255, 255, 0])?;
     for router in routers {
@@ -38,7 +38,7 @@ pub(crate) fn network(alloc: Global, id: u32, routers: &[u32]) -> Result<Checked
     lsa(alloc, 2, id, advertiser, &body)
 }
 
-// An LSA with its checksum.
+// Returns an LSA with its checksum.
 fn lsa(alloc: Global, kind: u8, id: u32, router: u32, body: &[u8]) -> Result<Checked, Fail> {
     let length = u16::try_from(body.len())?.wrapping_add(20);
     let mut bytes = Vec::from_slice(alloc, &header(kind, id, router, length))?;
@@ -47,7 +47,7 @@ fn lsa(alloc: Global, kind: u8, id: u32, router: u32, body: &[u8]) -> Result<Che
     Ok(lsa_codec::read(alloc, &bytes)?)
 }
 
-// The header of an LSA of age 1, without a checksum.
+// Returns the header of an LSA at age 1, with checksum 0.
 fn header(kind: u8, id: u32, router: u32, length: u16) -> [u8; 20] {
     let [a, b, c, d] = id.to_be_bytes();
     let [e, f, g, h] = router.to_be_bytes();
@@ -57,7 +57,7 @@ fn header(kind: u8, id: u32, router: u32, length: u16) -> [u8; 20] {
     ]
 }
 
-// Puts a checksum that fits.
+// Writes the matching checksum.
 fn seal(bytes: &mut [u8]) -> Result<(), Fail> {
     let [high, low] = lsa_codec::sum_of(bytes).ok_or("20 bytes")?.to_be_bytes();
     *bytes.get_mut(16).ok_or("a byte")? = high;

@@ -9,7 +9,7 @@ use std::hash::RandomState;
 use std::test::Fail;
 use vertex_graph::{Link, Up};
 
-/// Whether the links lead to these vertices one after the other, at these costs.
+/// Returns true if the links lead to these vertices in this order, at these metrics.
 pub(crate) fn leads(links: &[&Link], to: &[(Vertex, u16)]) -> bool {
     let mut all = links.len() == to.len();
     for (link, (vertex, cost)) in links.iter().zip(to) {
@@ -18,7 +18,8 @@ pub(crate) fn leads(links: &[&Link], to: &[(Vertex, u16)]) -> bool {
     all
 }
 
-// Whether the leaf is reached over N alone by one next hop, by the peer and N by the other, and by no third one.
+// Returns true if two next hops of the leaf have their paths, and a third one has no path. The
+// paths lead over N alone, and over the peer and N.
 fn are_both(alloc: Global, trial: &mut Trial) -> Result<bool, Fail> {
     connect(alloc, trial)?;
     let direct = trial.path(alloc, LEAF, AT_LEAF)?;
@@ -42,14 +43,15 @@ fn each_next_hop_has_its_path(rt: HostRuntime) -> Result<(), Fail> {
 
 const LAST: u32 = 600;
 
-// The links of a router in a line, each at the metric 3, and at its own number as address.
+// Returns the links of a router in a line, each at metric 3 and with the router's number as its
+// Link Data.
 fn ways_of(router: u32) -> [Way; 2] {
     let before = Vertex::Router(router.wrapping_sub(1));
     let after = Vertex::Router(router.wrapping_add(1));
     [(before, router, 3), (after, router, 3)]
 }
 
-// How many links the path to the last router of the line has, and what they cost.
+// Returns the number of links on the path to the last router of the line, and their cost.
 fn through_line(alloc: Global, trial: &mut Trial) -> Result<(usize, u32), Fail> {
     trial.interfaces(alloc, &[Up { id: 7, address: 1 }])?;
     for router in 1..=LAST {

@@ -1,4 +1,4 @@
-//! Values by vertex, looked for at places that are right and at others.
+//! Values by vertex, looked up with right and wrong hints.
 ghost use Rattle.std.specs.Prelude.{◌<◌};
 
 use ospf_types::entry::Vertex;
@@ -8,7 +8,7 @@ use std::test::Fail;
 use vertex_map::{HintedVertex, VertexMap};
 use word_hash::WordHash;
 
-// A hundred vertices, the last place first.
+// Inserts 100 routers, with descending hints.
 fn fill(map: &mut VertexMap<u32>) -> Result<(), Memory> {
     for number in 0..100u32 {
         map.insert(&HintedVertex::new(Vertex::Router(number), 99 - number), number)?;
@@ -20,7 +20,8 @@ fn at(map: &VertexMap<u32>, vertex: &HintedVertex) -> Option<u32> {
     map.get(vertex).copied()
 }
 
-// Whether the vertex has its number, wherever it is looked for.
+// Returns true if the router's number is found with each of three hints, and the network with the
+// same number has no value.
 fn is_there(map: &VertexMap<u32>, number: u32) -> bool
     requires { number < 100 }
 {
@@ -47,8 +48,8 @@ fn a_vertex_is_found_wherever_it_is_looked_for(rt: HostRuntime) -> Result<(), Fa
     Ok(())
 }
 
-// Whether only the first ten and a new vertex are left, once ninety went, their places were given up,
-// and it came.
+// Returns true if only the first 10 routers and a new network are left, after 90 were removed and
+// the map was trimmed.
 fn most_go(map: &mut VertexMap<u32>) -> Result<bool, Memory> {
     fill(map)?;
     for number in 10..100u32 {

@@ -1,4 +1,4 @@
-//! The queue of a search.
+//! The queue of a shortest-path search.
 use ospf_types::entry::Vertex;
 use ospf_types::memory::Memory;
 use std::hash::RandomState;
@@ -11,7 +11,7 @@ fn put(queue: &mut Queue, vertex: Vertex, distance: u32) -> Result<(), Memory> {
     queue.put(&HintedVertex::nowhere(vertex), distance)
 }
 
-// Whether the vertex leaves next, at the distance.
+// Returns true if the vertex is taken next, at this distance.
 fn leaves(queue: &mut Queue, vertex: Vertex, distance: u32) -> bool {
     match queue.take() {
         Some((first, at)) => first.vertex() == vertex && at == distance,
@@ -28,7 +28,7 @@ fn fill(queue: &mut Queue) -> Result<(), Memory> {
     put(queue, Vertex::Network(7), 10)
 }
 
-// Whether they leave in turn.
+// Returns true if all vertices are taken in order.
 fn leave(queue: &mut Queue) -> bool {
     let nearest = leaves(queue, Vertex::Router(2), 5);
     let networks = leaves(queue, Vertex::Network(7), 10) && leaves(queue, Vertex::Network(9), 10);

@@ -12,7 +12,7 @@ use vertex_graph::{Graph, Up};
 
 const ROOT: Vertex = Vertex::Router(1);
 
-// The router that lies on N alone.
+// The router on N alone.
 pub(crate) const LEAF: Vertex = Vertex::Router(2);
 
 // The neighbour at the other end of the root's point-to-point link.
@@ -50,8 +50,9 @@ const OF_LEAF: [Way; 1] = [(N, 0xc000_0202, 1)];
 
 const OF_PEER: [Way; 2] = [(ROOT, 0xc633_6402, 5), (N, 0xc000_0203, 5)];
 
-// The root reaches the broadcast network N at 10 over interface 1, and the peer at 5 over interface 2,
-// which is point-to-point; the peer reaches N at 5, and the leaf lies on N.
+// Connects the root, the peer, the leaf and the broadcast network N. The root reaches N at 10 over
+// interface 1, and the peer at 5 over the point-to-point interface 2. The peer reaches N at 5, and
+// the leaf is on N.
 pub(crate) fn connect(alloc: Global, trial: &mut Trial) -> Result<(), Fail> {
     trial.interfaces(alloc, &UPS)?;
     put(alloc, trial, 1, &OF_ROOT)?;
@@ -60,7 +61,7 @@ pub(crate) fn connect(alloc: Global, trial: &mut Trial) -> Result<(), Fail> {
     list(alloc, trial, &[2, 1, 3])
 }
 
-// Hands in the router's LSA with these links, and answers the work of the repair.
+// Replaces the router's LSA by one with these links. Returns the work of the repair.
 pub(crate) fn put(
     alloc: Global,
     trial: &mut Trial,
@@ -71,14 +72,14 @@ pub(crate) fn put(
     Ok(trial.replace(alloc, &[(Vertex::Router(id), Some(&lsa))])?)
 }
 
-// Hands in N's LSA by the first of these routers.
+// Replaces the network-LSA of N by one of the first of these routers.
 fn list(alloc: Global, trial: &mut Trial, routers: &[u32]) -> Result<(), Fail> {
     let lsa = network(alloc, LAN, routers)?;
     trial.replace(alloc, &[(N, Some(&lsa))])?;
     Ok(())
 }
 
-// A vertex that is reached, its distance and its next hops.
+// A reached vertex, its distance and its next hops.
 type Reached = (Vertex, u32, &'static [NextHop]);
 
 fn has(tree: &Tree, (vertex, distance, hops): Reached) -> bool {
@@ -93,15 +94,19 @@ fn has_all(tree: &Tree, reached: &[Reached]) -> bool {
     all
 }
 
-// Whether the work is within the bound: twice the vertices that differ between the links before and those
-// that stay, those that differ between these and the links after, and the heads of the links that went or
-// came; and once the links out of the vertices that differ.
+// Returns true if the work is within the bound: twice `vertices`, plus `links`.
+//
+// `vertices` is a sum of three counts. The first counts the vertices that differ between the old
+// links and the links that stay. The second counts the vertices that differ between these and the
+// new links. The third counts the heads of the removed and added links. `links` counts the links
+// out of the vertices that differ.
 fn is_within(touched: Touched, (vertices, links): (usize, usize)) -> bool {
     let most = vertices.saturating_mul(2).saturating_add(links);
     touched.taken <= most && touched.hop_sets <= most
 }
 
-// Links that a router gets in the network, what is reached then, the vertices that differ, and the bound of the work.
+// New links of a router in the network, some vertices as they are reached then, the vertices that
+// differ, and the bound of the work.
 #[derive(Drop)]
 struct Change<'a> {
     router: u32,
@@ -111,7 +116,8 @@ struct Change<'a> {
     bound: (usize, usize),
 }
 
-// How many sets of next hops are written by the change, where all is as it says.
+// Returns the number of next-hop sets that the change writes, or `None` if the tree or the work is
+// not right.
 fn hop_sets(rt: &HostRuntime, change: &Change<'_>) -> Result<Option<usize>, Fail> {
     let mut trial = Trial::new(rt.alloc(), 1, RandomState::new(rt)?)?;
     written(rt.alloc(), &mut trial, change)
@@ -128,7 +134,7 @@ fn is_right(tree: &Tree, change: &Change<'_>) -> bool {
     has_all(tree, change.reached) && tree.changed() == change.differ
 }
 
-// N costs as much directly as by the peer, and so does the leaf, which lies on it.
+// N has the same cost directly and over the peer, and so does the leaf, which is on N.
 const AT_FIRST: [Reached; 4] = [
     (N, 10, &[BY_N, BY_PEER]),
     (LEAF, 10, &[BY_PEER, AT_LEAF]),
@@ -152,8 +158,8 @@ fn equal_cost_paths_unite(rt: HostRuntime) -> Result<(), Fail> {
     Ok(())
 }
 
-// Without the peer's link to N the next hops of N and the leaf differ, and the new link changes no more. N is
-// the head of both, and four links lead out of N and the leaf.
+// N and the leaf lose next hops with the peer's old link to N, and the new link changes nothing
+// more. N is the head of both links, and four links lead out of N and the leaf.
 const DEARER: Change<'static> = Change {
     router: 3,
     ways: &[(ROOT, 0xc633_6402, 5), (N, 0xc000_0203, 6)],
@@ -172,8 +178,8 @@ fn a_dearer_link_takes_a_path_away(rt: HostRuntime) -> Result<(), Fail> {
     Ok(())
 }
 
-// The leaf is the head of the link with its old address and of that with the new one, and is not reached
-// without them; one link leads out of it, both times.
+// The leaf is the head of the link with its old address and of the link with the new one. Without
+// them it is not reached. One link leads out of it, before and after.
 const MOVED: Change<'static> = Change {
     router: 2,
     ways: &[(N, 0xc000_0204, 1)],
@@ -188,8 +194,8 @@ fn another_address_is_another_hop(rt: HostRuntime) -> Result<(), Fail> {
     Ok(())
 }
 
-// The links between the root and the peer go, both ways. N, the leaf and the peer differ, and five links lead
-// out of them.
+// The links between the root and the peer are removed, in both directions. N, the leaf and the peer
+// differ, and five links lead out of them.
 const CUT: Change<'static> = Change {
     router: 3,
     ways: &[(N, 0xc000_0203, 5)],
@@ -208,8 +214,8 @@ fn a_link_that_goes_leaves_the_longer_way(rt: HostRuntime) -> Result<(), Fail> {
     Ok(())
 }
 
-// N and the leaf differ without the peer's link to N, and once more by the new one. N is the head of both,
-// and four links lead out of N and the leaf, both times.
+// N and the leaf differ without the peer's link to N, and again with the new link. N is the head of
+// both links. Four links lead out of N and the leaf, before and after.
 const CHEAPER: Change<'static> = Change {
     router: 3,
     ways: &[(ROOT, 0xc633_6402, 5), (N, 0xc000_0203, 4)],
@@ -230,7 +236,7 @@ fn a_cheaper_link_takes_all(rt: HostRuntime) -> Result<(), Fail> {
 
 const PAIR_UPS: [Up; 2] = [Up { id: 1, address: 7 }, Up { id: 2, address: 8 }];
 
-// The root and the peer, where these are the links of the two.
+// Connects the root and the peer by these links.
 fn join(alloc: Global, trial: &mut Trial, ways: &[Way], back: &[Way]) -> Result<(), Fail> {
     trial.interfaces(alloc, &PAIR_UPS)?;
     put(alloc, trial, 1, ways)?;
@@ -238,7 +244,7 @@ fn join(alloc: Global, trial: &mut Trial, ways: &[Way], back: &[Way]) -> Result<
     Ok(())
 }
 
-// The distance of the peer with these links back, and how many links lead out of it.
+// Returns the distance of the peer with these links back, and the number of links out of it.
 fn with_links_back(rt: &HostRuntime, back: &[Way]) -> Result<(Option<u32>, usize), Fail> {
     let mut trial = Trial::new(rt.alloc(), 1, RandomState::new(rt)?)?;
     joined(rt.alloc(), &mut trial, back)
@@ -250,7 +256,7 @@ fn joined(alloc: Global, trial: &mut Trial, back: &[Way]) -> Result<(Option<u32>
     Ok((trial.tree().distance(PEER), links))
 }
 
-// The link back counts at any metric; at metric 0 it leads nowhere itself.
+// The link back counts at any metric. At metric 0 it is not a link of the graph itself.
 #[test]
 fn a_link_counts_with_its_link_back(rt: HostRuntime) -> Result<(), Fail> {
     let (away, _) = with_links_back(&rt, &[])?;
@@ -261,14 +267,15 @@ fn a_link_counts_with_its_link_back(rt: HostRuntime) -> Result<(), Fail> {
 
 const PARALLEL: Reached = (PEER, 5, &[NextHop::Peer(1), NextHop::Peer(2)]);
 
-// Whether a tree that is built of the graph has the peers, and one set of next hops was written for it.
+// Returns true if a tree built from the graph has both next hops to the peer, and one next-hop set
+// was written for it.
 fn has_built(rt: &HostRuntime, graph: &Graph) -> Result<bool, Fail> {
     let (tree, touched) = Tree::build(rt.alloc(), graph, RandomState::new(rt)?)?;
     let work = touched.taken >= 1 && touched.hop_sets == 1;
     Ok(work && has(&tree, PARALLEL) && !tree.spent())
 }
 
-// Whether both trees have the peers.
+// Returns true if the built tree and the repaired tree have both next hops to the peer.
 fn are_peers(rt: &HostRuntime, trial: &mut Trial) -> Result<bool, Fail> {
     let ways = [(PEER, 7, 5), (PEER, 8, 5)];
     join(rt.alloc(), trial, &ways, &[(ROOT, 9, 65535)])?;
@@ -288,7 +295,7 @@ fn parallel_links_are_two_peers(rt: HostRuntime) -> Result<(), Fail> {
 
 const WITH_LEAF: Reached = (LEAF, 10, &[BY_PEER, AT_LEAF]);
 
-// Whether the leaf goes with another network-LSA, and comes again with the first one.
+// Returns true if the leaf is lost with another network-LSA, and reached again with the first one.
 fn goes_and_comes(alloc: Global, trial: &mut Trial) -> Result<bool, Fail> {
     connect(alloc, trial)?;
     list(alloc, trial, &[3, 1])?;
@@ -303,8 +310,8 @@ fn leaf_goes_and_comes(rt: &HostRuntime) -> Result<bool, Fail> {
     goes_and_comes(rt.alloc(), &mut trial)
 }
 
-// Another router's network-LSA comes to stand for N, and does not list the leaf; then the first one does
-// again.
+// A network-LSA of another router replaces that of N, and does not list the leaf. Then the first
+// one is used again.
 #[test]
 fn another_network_lsa_stands_for_a_network(rt: HostRuntime) -> Result<(), Fail> {
     assert!(rt; leaf_goes_and_comes(&rt)?);
@@ -313,7 +320,7 @@ fn another_network_lsa_stands_for_a_network(rt: HostRuntime) -> Result<(), Fail>
 
 const LONGER: Reached = (PEER, 10, &[AT_PEER]);
 
-// Whether the tree is spent and answers nothing, and a build makes another.
+// Returns true if the tree is spent and reports nothing, and a built tree has the longer path.
 fn is_rebuilt(rt: &HostRuntime, trial: &Trial) -> Result<bool, Fail> {
     let tree = trial.tree();
     let blank = tree.distance(N).is_none() && tree.hops(LEAF).is_empty();
@@ -322,13 +329,14 @@ fn is_rebuilt(rt: &HostRuntime, trial: &Trial) -> Result<bool, Fail> {
     Ok(blank && has(&built, LONGER) && !built.spent())
 }
 
-// The peer's link to the root goes.
+// Removes the peer's link to the root.
 fn cut(alloc: Global, trial: &mut Trial) -> Result<Result<Touched, Memory>, Fail> {
     let lsa = router(alloc, 3, CUT.ways)?;
     Ok(trial.replace(alloc, &[(PEER, Some(&lsa))]))
 }
 
-// Whether the tree is that of the longer way, or is spent. A graph that is refused memory stays as it was.
+// Returns true if the tree has the longer path, or is spent. If the graph is refused memory, it is
+// unchanged, and the error is returned.
 fn is_cut(rt: &HostRuntime, trial: &mut Trial) -> Result<bool, Fail> {
     connect(rt.alloc(), trial)?;
     let touched = cut(rt.alloc(), trial)?;
@@ -346,7 +354,8 @@ fn link_is_cut(rt: &HostRuntime) -> Result<bool, Fail> {
     is_cut(rt, &mut trial)
 }
 
-// A repair that is refused memory leaves a spent tree, which answers nothing; a build makes another.
+// A repair that is refused memory spends the tree. A spent tree reports nothing, and building makes
+// another.
 #[test]
 fn a_refused_repair_spends_the_tree(rt: HostRuntime) -> Result<(), Fail> {
     assert!(rt; link_is_cut(&rt)?);

@@ -1,4 +1,4 @@
-//! A graph and its tree, which stay together through each change.
+//! A graph and its tree, which agree after each change.
 ghost use Rattle.std.specs.Prelude.{◌≡◌, ◌<◌, IfOk, OnOk, OnErr};
 ghost use Rattle.std.specs.FinMap as map;
 ghost use Rattle.vertex_graph.specs.Graphs.{HasEnds, AreApartHanded, AreFewAfter, handed_of};
@@ -15,7 +15,7 @@ use std::marker::Model;
 use tree_paths::links_of_path;
 use vertex_graph::{Graph, Link, LinkChanges, Up};
 
-/// A graph and the tree of its links.
+/// A graph, and the shortest-path tree of its links.
 #[derive(Drop)]
 pub(crate) struct Trial {
     graph: Graph,
@@ -34,7 +34,7 @@ impl Model for Trial {
 }
 
 impl Trial {
-    /// The trial of a router, with no vertex and no interface.
+    /// Creates the trial of a router, with no vertex and no interface.
     pub(crate) fn new(alloc: Global, root: u32, hashing: RandomState) -> Result<Trial, Memory> {
         let graph = Graph::new(alloc, root, hashing);
         let (tree, _) = Tree::build(alloc, &graph, hashing)?;
@@ -49,8 +49,13 @@ impl Trial {
         &self.tree
     }
 
-    /// Hands in another LSA of one vertex or of two, or none, and answers the work of the repair. Where the graph is
-    /// refused memory it stays as it was; where the repair is, the tree is spent. A graph of a thousand vertices gets none.
+    /// Replaces or removes the LSA of one vertex, or of two. Returns the work of the repair.
+    ///
+    /// # Errors
+    ///
+    /// Returns `Memory` if memory runs out. A graph that is refused memory is unchanged, and a
+    /// repair that is refused memory spends the tree. A graph of 1000 vertices gets no memory, and
+    /// a spent tree is not repaired.
     pub(crate) fn replace(
         &mut self,
         alloc: Global,
@@ -59,7 +64,12 @@ impl Trial {
         replace(alloc, &mut self.graph, &mut self.tree, lsas)
     }
 
-    /// The links of a path to the vertex by this next hop; none where it has no such next hop. A spent tree has no memory.
+    /// Returns the links of a path to the vertex by this next hop, or an empty list if the vertex
+    /// has no such next hop.
+    ///
+    /// # Errors
+    ///
+    /// Returns `Memory` if memory runs out, or if the tree is spent.
     pub(crate) fn path(
         &self,
         alloc: Global,
@@ -72,7 +82,7 @@ impl Trial {
         links_of_path(alloc, &self.graph, &self.tree, to, hop)
     }
 
-    /// Takes these as the interfaces that are up.
+    /// Sets the interfaces that are up. Returns the work of the repair.
     pub(crate) fn interfaces(&mut self, alloc: Global, ups: &[Up]) -> Result<Touched, Memory> {
         interfaces(alloc, &mut self.graph, &mut self.tree, ups)
     }
@@ -104,7 +114,7 @@ fn interfaces(
     repair(alloc, graph, tree, &changes)
 }
 
-/// Hands in LSAs of one or two vertices of a small graph.
+/// Replaces or removes the LSAs of one or two vertices of a small graph.
 pub(crate) fn hand_in(
     graph: &mut Graph,
     lsas: &[(Vertex, Option<&Checked>)],
@@ -125,7 +135,7 @@ fn put_up(graph: &mut Graph, ups: &[Up]) -> Result<LinkChanges, Memory>
     graph.interfaces(ups)
 }
 
-// Memory for LSAs of one vertex or of two.
+// Returns `Memory` unless there is one LSA, or two of different vertices.
 fn test_apart(lsas: &[(Vertex, Option<&Checked>)]) -> Result<(), Memory>
     ensures { OnOk result (AreApartHanded (handed_of lsas.now)) }
 {
@@ -136,7 +146,7 @@ fn test_apart(lsas: &[(Vertex, Option<&Checked>)]) -> Result<(), Memory>
     }
 }
 
-// Memory for a small graph.
+// Returns `Memory` unless the graph and the list are small.
 pub(crate) fn test_size(graph: &Graph, lsas: &[(Vertex, Option<&Checked>)]) -> Result<(), Memory>
     ensures few { OnOk result (AreFewAfter graph.now (handed_of lsas.now)) }
     ensures ends { OnOk result (HasEnds graph.now) }

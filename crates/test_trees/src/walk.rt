@@ -1,5 +1,5 @@
-//! A graph and a tree through many changes at random: LSAs come, change and go, interfaces come up and go
-//! down. After each change the repaired tree is the one that is built.
+//! A graph and a tree through many random changes of LSAs and interfaces. After each change the
+//! repaired tree equals a tree that is built from the graph.
 use crate::network::{Way, network, router};
 use crate::trial::Trial;
 use lsa_codec::Checked;
@@ -10,7 +10,7 @@ use std::hash::RandomState;
 use std::test::Fail;
 use vertex_graph::Up;
 
-// Numbers that look random (xorshift).
+// Pseudo-random numbers (xorshift).
 #[derive(Drop)]
 struct Numbers(u64);
 
@@ -28,7 +28,8 @@ impl Numbers {
     }
 }
 
-// Six routers, the first of which is the root, and four networks.
+// Returns the vertex with this number: one of six routers, the first of which is the root, or of
+// four networks.
 fn vertex_at(place: u32) -> Vertex {
     if place < 6 {
         Vertex::Router(place + 1)
@@ -37,7 +38,7 @@ fn vertex_at(place: u32) -> Vertex {
     }
 }
 
-// The LSA of a vertex with some of the links that it may have.
+// Returns an LSA of the vertex, with some of the links that it may have.
 fn lsa(alloc: Global, numbers: &mut Numbers, vertex: Vertex) -> Result<Checked, Fail> {
     match vertex {
         Vertex::Router(id) => router_lsa(alloc, numbers, id),
@@ -45,12 +46,12 @@ fn lsa(alloc: Global, numbers: &mut Numbers, vertex: Vertex) -> Result<Checked, 
     }
 }
 
-// The address of a router on its link to the neighbour at a place.
+// Returns the address of a router on its link to the neighbour with this number.
 fn address(router: u32, place: u32) -> u32 {
     router.wrapping_mul(256).wrapping_add(place)
 }
 
-// A link at a metric from 0 to 3.
+// Returns a link at a metric from 0 to 3.
 fn link_from(numbers: &mut Numbers, id: u32, place: u32) -> Way {
     let metric = u16::try_from(numbers.below(4)).unwrap_or(1);
     (vertex_at(place), address(id, place), metric)
@@ -77,7 +78,7 @@ fn network_lsa(alloc: Global, numbers: &mut Numbers, id: u32) -> Result<Checked,
     network(alloc, id, &routers)
 }
 
-// One or two vertices get another LSA, or one gets none, or the interfaces change.
+// Replaces the LSAs of one or two vertices, removes one, or changes the interfaces.
 fn change(alloc: Global, numbers: &mut Numbers, trial: &mut Trial) -> Result<(), Fail> {
     if numbers.one_in(8) {
         interfaces(alloc, numbers, trial)
@@ -105,7 +106,7 @@ fn replace_both(alloc: Global, numbers: &mut Numbers, trial: &mut Trial) -> Resu
     Ok(())
 }
 
-// Most interfaces of the root are up, each with the place of the neighbour that it leads to.
+// Sets most interfaces of the root up. Each has the number of the neighbour that it leads to.
 fn interfaces(alloc: Global, numbers: &mut Numbers, trial: &mut Trial) -> Result<(), Fail> {
     let mut ups = Vec::new(alloc);
     for id in 0..10 {
@@ -118,13 +119,13 @@ fn interfaces(alloc: Global, numbers: &mut Numbers, trial: &mut Trial) -> Result
     Ok(())
 }
 
-// Whether both trees have the same distance and next hops for the vertex.
+// Returns true if both trees have the same distance and next hops for the vertex.
 fn same(tree: &Tree, other: &Tree, vertex: Vertex) -> bool {
     tree.distance(vertex) == other.distance(vertex) && tree.hops(vertex) == other.hops(vertex)
 }
 
-// Whether the repaired tree is the one that was built, and its changes are the vertices that differ from
-// the tree before.
+// Returns true if the repaired tree equals the built one, and its changes are the vertices that
+// differ from the tree before.
 fn is_right(alloc: Global, repaired: &Tree, built: &Tree, before: &Tree) -> Result<bool, Fail> {
     let mut all = true;
     let mut differ = Vec::new(alloc);
@@ -138,7 +139,8 @@ fn is_right(alloc: Global, repaired: &Tree, built: &Tree, before: &Tree) -> Resu
     Ok(all && repaired.changed() == differ.as_slice())
 }
 
-// How many vertices a change changed, where the tree that is built then is the repaired one.
+// Returns the number of vertices that the change changed. It is an error if the repaired tree is
+// not the one that is built.
 fn changed(
     alloc: Global,
     hashing: RandomState,
@@ -156,7 +158,7 @@ fn differing(alloc: Global, repaired: &Tree, built: &Tree, before: &Tree) -> Res
     Err(Fail::from("another tree"))
 }
 
-// A step of the walk, from the tree that is built before it.
+// Takes one step of the walk, and compares with the tree that is built before it.
 fn step(
     alloc: Global,
     hashing: RandomState,
@@ -178,7 +180,7 @@ fn step_from(
     changed(alloc, hashing, trial, before)
 }
 
-// How often a vertex differs in 400 steps.
+// Returns the number of changed vertices, summed over 400 steps.
 fn walk(alloc: Global, hashing: RandomState, trial: &mut Trial) -> Result<usize, Fail> {
     let mut numbers = Numbers(0x9e37_79b9_7f4a_7c15);
     let mut differed = 0usize;

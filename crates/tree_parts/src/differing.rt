@@ -1,4 +1,4 @@
-//! Which vertices a repair changed.
+//! The vertices that a repair of a tree changed.
 ghost use Rattle.std.specs.Prelude.{◌≡◌, ◌++◌, ◌∷◌, OnOk};
 ghost use Rattle.std.specs.List.Sorted.{IsStrictlySortedBy};
 ghost use Rattle.ospf_types.specs.Vertices.{vertex_cmp};
@@ -12,8 +12,12 @@ use ospf_types::entry::Vertex;
 use ospf_types::memory::Memory;
 use vertex_map::HintedVertex;
 
-/// The root and what is lost, each with its distance, to be compared once the distances after are known. They
-/// take the place of what was remembered.
+/// Makes `remembered` the list of the root and the lost vertices, with their distances before the
+/// repair. `Repaired` compares these with the distances after it.
+///
+/// # Errors
+///
+/// Returns `Memory` if memory runs out. The list is then incomplete.
 pub fn remember(
     distances: &Distances,
     root: &HintedVertex,
@@ -31,24 +35,31 @@ pub fn remember(
     Ok(())
 }
 
-/// What tells which vertices a repair changed, once it is carried out.
+/// The record of a finished repair, from which the changed vertices are found.
 #[derive(Clone, Copy)]
 pub struct Repaired<'a> {
-    /// The root and what was lost, each with its distance before.
+    /// The root and the lost vertices, with their distances before the repair.
     pub remembered: &'a [(HintedVertex, Option<u32>)],
-    /// The distances now.
+    /// The distances after the repair.
     pub distances: &'a Distances,
-    /// The vertices that had lost their distance.
+    /// The vertices that lost their distance.
     pub lost: &'a VertexSet,
-    /// The vertices that came nearer, and those that got a distance again.
+    /// The vertices that got a lower distance, or a distance again.
     pub moved: &'a VertexList,
     /// The vertices whose next hops were written.
     pub written: &'a VertexList,
 }
 
 impl<'a> Repaired<'a> {
-    /// Lists the vertices that the repair changed, ascending, each once: those remembered that have another distance
-    /// now, those that moved and were not lost, and those whose next hops were written.
+    /// Makes `changed` the list of vertices that the repair changed, in ascending order without
+    /// duplicates.
+    ///
+    /// These are the vertices whose next hops were written, the remembered ones whose distance
+    /// differs, and the moved ones that were not lost.
+    ///
+    /// # Errors
+    ///
+    /// Returns `Memory` if memory runs out. The list may then be incomplete.
     pub fn list_differing(
         self,
         listing: &mut SortedVertices,
@@ -67,7 +78,7 @@ impl<'a> Repaired<'a> {
     }
 }
 
-// Adds all of these.
+// Appends all vertices.
 fn add_all(listing: &mut SortedVertices, vertices: &[HintedVertex]) -> Result<(), Memory>
     ensures { OnOk result (listing.new ≡ listing.old ++ vertices.now) }
 {
@@ -77,7 +88,7 @@ fn add_all(listing: &mut SortedVertices, vertices: &[HintedVertex]) -> Result<()
     Ok(())
 }
 
-// Adds those remembered that have another distance now.
+// Appends the remembered vertices whose distance differs now.
 fn add_farther(
     listing: &mut SortedVertices,
     remembered: &[(HintedVertex, Option<u32>)],
@@ -94,7 +105,7 @@ fn add_farther(
     Ok(())
 }
 
-// Adds those that moved and were not lost.
+// Appends the moved vertices that were not lost.
 fn add_nearer(listing: &mut SortedVertices, moved: &[HintedVertex], lost: &VertexSet) -> Result<(), Memory>
     ensures { OnOk result (IsGrown listing.new listing.old (IsNearer moved.now lost.now)) }
 {

@@ -1,4 +1,4 @@
-//! The distances of vertices.
+//! The distances of the vertices of a tree.
 ghost use Rattle.std.specs.Prelude.{◌≡◌, ◌<◌, ◌^◌, IfSome, IfOk, OnOk, OnErr};
 ghost use Rattle.std.specs.FinMap as map;
 ghost use Rattle.tree_parts.specs.Maps.{most_distance};
@@ -10,12 +10,12 @@ use std::marker::Model;
 use vertex_map::{HintedVertex, VertexMap};
 use word_hash::WordHash;
 
-/// The vertices that are reached, each at its distance: a sum of metrics below 2^30.
+/// The distance of each vertex that is reached: a sum of metrics, below 2^30.
 pub struct Distances {
     by_vertex: VertexMap<u32>,
 }
 
-// proof: one call drops it, in place of a drop of each part wherever one is held.
+// proof: a value is dropped by one call, not part by part at each exit of a function.
 impl Drop for Distances {
     fn drop(self) {
         let Distances {
@@ -40,7 +40,7 @@ impl Model for Distances {
 }
 
 impl Distances {
-    /// None, with room for so many vertices.
+    /// Creates an empty map with room for `room` vertices.
     pub fn with_room(alloc: Global, hashing: WordHash, room: usize) -> Result<Distances, Memory>
         ensures { IfOk result (λ none. none ≡ map.empty) }
     {
@@ -48,7 +48,7 @@ impl Distances {
         Ok(Distances { by_vertex })
     }
 
-    /// The distance of a vertex; none where it is not reached.
+    /// Returns the distance of the vertex, or `None` if it is not reached.
     #[inline]
     pub fn get(&self, vertex: &HintedVertex) -> Option<u32>
         ensures value { result ≡ map.get self.now vertex.now }
@@ -57,7 +57,7 @@ impl Distances {
         self.by_vertex.get(vertex).copied()
     }
 
-    /// The distance of a vertex whose place is not known: it is looked up by its hash.
+    /// Returns the distance of a vertex without a hint, which is hashed.
     pub fn find(&self, vertex: Vertex) -> Option<u32>
         ensures value { result ≡ map.get self.now vertex }
         ensures bounded { IfSome result (λ distance. distance < most_distance) }
@@ -65,7 +65,7 @@ impl Distances {
         self.get(&HintedVertex::nowhere(vertex))
     }
 
-    /// How many vertices are reached.
+    /// Returns the number of vertices that are reached.
     pub fn len(&self) -> usize
         ensures value { result ≡ map.len self.now }
         ensures small { result < 2 ^ 63 }
@@ -73,7 +73,7 @@ impl Distances {
         self.by_vertex.len()
     }
 
-    /// Gives the vertex this distance.
+    /// Sets the distance of the vertex.
     pub fn set(&mut self, vertex: &HintedVertex, distance: u32) -> Result<(), Memory>
         requires { distance < most_distance }
         ensures set { OnOk result (self.new ≡ map.insert self.old vertex.now distance) }
@@ -83,21 +83,21 @@ impl Distances {
         Ok(())
     }
 
-    /// Takes the distance of a vertex out.
+    /// Removes the distance of the vertex.
     pub fn remove(&mut self, vertex: &HintedVertex)
         ensures { self.new ≡ map.remove self.old vertex.now }
     {
         self.by_vertex.remove(vertex);
     }
 
-    /// Takes all distances out.
+    /// Removes all distances.
     pub fn clear(&mut self)
         ensures { self.new ≡ map.empty }
     {
         self.by_vertex.clear();
     }
 
-    /// Gives up the places of vertices that have no distance, where there are more than so many.
+    /// Drops the places kept for vertices without a distance, if more than `most` places are kept.
     pub fn trim(&mut self, most: usize)
         ensures { self.new ≡ self.old }
     {

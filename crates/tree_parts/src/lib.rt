@@ -1,5 +1,5 @@
-//! What a shortest-path tree is made of, with no need of the graph: the distances of its vertices, their
-//! next hops, sets of vertices, its work counted, and which vertices a repair changed, in order.
+//! The parts of a shortest-path tree that do not need the graph: distances, next hops, sets of
+//! vertices, the count of its work, and the list of vertices that a repair changed.
 #![tactic(auto)]
 
 pub mod differing;

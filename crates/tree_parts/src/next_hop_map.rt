@@ -1,4 +1,4 @@
-//! The next hops of vertices.
+//! The next hops of the vertices of a tree.
 ghost use Rattle.std.specs.Prelude.{◌≡◌, IfOk, OnOk, OnErr, option_copied};
 ghost use Rattle.std.specs.FinMap as map;
 ghost use Rattle.tree_parts.specs.Maps.{AreHopsInOrder};
@@ -11,12 +11,12 @@ use std::marker::Model;
 use vertex_map::{HintedVertex, VertexMap};
 use word_hash::WordHash;
 
-/// The next hops of each vertex that has some, ascending, each once.
+/// The next hops of each vertex that has a set of them.
 pub struct NextHopMap {
     by_vertex: VertexMap<HopSet>,
 }
 
-// proof: one call drops it, in place of a drop of each part wherever one is held.
+// proof: a value is dropped by one call, not part by part at each exit of a function.
 impl Drop for NextHopMap {
     fn drop(self) {
         let NextHopMap {
@@ -41,7 +41,7 @@ impl Model for NextHopMap {
 }
 
 impl NextHopMap {
-    /// None, with room for so many vertices.
+    /// Creates an empty map with room for `room` vertices.
     pub fn with_room(alloc: Global, hashing: WordHash, room: usize) -> Result<NextHopMap, Memory>
         ensures { IfOk result (λ none. none ≡ map.empty) }
     {
@@ -49,7 +49,7 @@ impl NextHopMap {
         Ok(NextHopMap { by_vertex })
     }
 
-    /// Lends the next hops of a vertex; none where it has none.
+    /// Returns the next hops of the vertex, or `None` if it has none.
     #[inline]
     pub fn get(&self, vertex: &HintedVertex) -> Option<&HopSet>
         ensures { option_copied result ≡ map.get self.now vertex.now }
@@ -57,14 +57,14 @@ impl NextHopMap {
         self.by_vertex.get(vertex)
     }
 
-    /// Lends the next hops of a vertex whose place is not known: it is looked up by its hash.
+    /// Returns the next hops of a vertex without a hint, which is hashed.
     pub fn find(&self, vertex: Vertex) -> Option<&HopSet>
         ensures { option_copied result ≡ map.get self.now vertex }
     {
         self.get(&HintedVertex::nowhere(vertex))
     }
 
-    /// How many vertices have next hops.
+    /// Returns the number of vertices with next hops.
     pub fn len(&self) -> usize
         ensures value { result ≡ map.len self.now }
         ensures in_order { AreHopsInOrder self.now }
@@ -72,31 +72,32 @@ impl NextHopMap {
         self.by_vertex.len()
     }
 
-    /// Gives the vertex these next hops.
+    /// Sets the next hops of the vertex.
     pub fn set(&mut self, vertex: &HintedVertex, hops: HopSet) -> Result<(), Memory>
         ensures set { OnOk result (self.new ≡ map.insert self.old vertex.now hops) }
         ensures unchanged { OnErr result (self.new ≡ self.old) }
     {
+        // proof: the set's invariant, that its hops are in order, is known by this call.
         let _ = hops.as_slice();
         self.by_vertex.insert(vertex, hops)?;
         Ok(())
     }
 
-    /// Takes the next hops of a vertex out.
+    /// Removes the next hops of the vertex.
     pub fn remove(&mut self, vertex: &HintedVertex)
         ensures { self.new ≡ map.remove self.old vertex.now }
     {
         self.by_vertex.remove(vertex);
     }
 
-    /// Takes all next hops out.
+    /// Removes all next hops.
     pub fn clear(&mut self)
         ensures { self.new ≡ map.empty }
     {
         self.by_vertex.clear();
     }
 
-    /// Gives up the places of vertices that have no next hops, where there are more than so many.
+    /// Drops the places kept for vertices without next hops, if more than `most` places are kept.
     pub fn trim(&mut self, most: usize)
         ensures { self.new ≡ self.old }
     {

@@ -1,4 +1,4 @@
-//! Vertices that are put in order.
+//! A list of vertices that is sorted at the end.
 ghost use Rattle.std.specs.Prelude.{◌≡◌, ◌<◌, ◌^◌, ◌++◌, ◌∷◌, [], ℕ, OnOk, OnErr, Contains};
 ghost use Rattle.std.specs.List.Sorted.{IsStrictlySortedBy};
 ghost use Rattle.ospf_types.specs.Vertices.{vertex_cmp};
@@ -10,15 +10,15 @@ use ospf_types::memory::Memory;
 use std::alloc::Global;
 use std::marker::Model;
 
-// Above the keys of routers.
+// The offset of the keys of networks, above all keys of routers.
 const NETWORKS: u64 = 1 << 32;
 
-/// Vertices that are to be put in order. One number of each is compared.
+/// A list of vertices to be sorted. Each vertex is kept as one number, which is fast to compare.
 pub struct SortedVertices {
     keys: Vec<u64>,
 }
 
-// proof: one call drops it, in place of a drop of each part wherever one is held.
+// proof: a value is dropped by one call, not part by part at each exit of a function.
 impl Drop for SortedVertices {
     fn drop(self) {
         let SortedVertices { keys: _keys } = self;
@@ -38,7 +38,7 @@ impl Model for SortedVertices {
 }
 
 impl SortedVertices {
-    /// No vertices.
+    /// Creates an empty list.
     pub fn new(alloc: Global) -> SortedVertices
         ensures { result ≡ [] }
     {
@@ -47,7 +47,7 @@ impl SortedVertices {
         }
     }
 
-    /// Adds the vertex at the end.
+    /// Appends the vertex.
     pub fn push(&mut self, vertex: Vertex) -> Result<(), Memory>
         ensures pushed { OnOk result (self.new ≡ self.old ++ vertex ∷ []) }
         ensures unchanged { OnErr result (self.new ≡ self.old) }
@@ -56,14 +56,18 @@ impl SortedVertices {
         Ok(())
     }
 
-    /// Takes all vertices out. What memory they have taken stays.
+    /// Removes all vertices. The list keeps its memory.
     pub fn clear(&mut self)
         ensures { self.new ≡ [] }
     {
         self.keys.clear();
     }
 
-    /// Puts the vertices, ascending, each once, in the place of what a list has.
+    /// Makes `vertices` the list of these vertices, in ascending order without duplicates.
+    ///
+    /// # Errors
+    ///
+    /// Returns `Memory` if memory runs out. `vertices` then has only the first ones.
     pub fn list(&mut self, vertices: &mut Vec<Vertex>) -> Result<(), Memory>
         ensures in_order { OnOk result (IsStrictlySortedBy vertex_cmp vertices.new.items) }
         ensures same { OnOk result (HaveSameVertices vertices.new.items self.old) }
@@ -75,7 +79,7 @@ impl SortedVertices {
     }
 }
 
-// Adds the vertices that have these keys.
+// Appends the vertices with these keys.
 fn push_vertices(keys: &[u64], vertices: &mut Vec<Vertex>) -> Result<(), Memory>
     requires { (k : ℕ) → Contains keys.now k → k < 2 ^ 33 }
     ensures { OnOk result (vertices.new.items ≡ with_keys vertices.old.items keys.now) }
@@ -86,7 +90,7 @@ fn push_vertices(keys: &[u64], vertices: &mut Vec<Vertex>) -> Result<(), Memory>
     Ok(())
 }
 
-// A number for each vertex, in the order of vertices.
+// Returns the key of the vertex. Keys have the order of vertices.
 fn key_of(vertex: Vertex) -> u64
     ensures vertex { vertex_at result ≡ vertex }
     ensures small { result < 2 ^ 33 }
@@ -97,7 +101,7 @@ fn key_of(vertex: Vertex) -> u64
     }
 }
 
-// The vertex that has the key.
+// Returns the vertex with the key.
 fn vertex_of(key: u64) -> Vertex
     requires { key < 2 ^ 33 }
     ensures { result ≡ vertex_at key }

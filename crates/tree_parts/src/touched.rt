@@ -1,4 +1,4 @@
-//! The work of a tree, counted.
+//! The work of a tree, and the functions that count it.
 ghost use Rattle.std.specs.Prelude.{◌≡◌, ◌+◌, ◌^◌, ◌<◌, IfSome, IfNone, OnOk, OnErr};
 ghost use Rattle.std.specs.FinMap as map;
 ghost use Rattle.tree_parts.specs.Counts.{no_work, with_hop_sets, with_taken};
@@ -11,17 +11,17 @@ use ospf_types::memory::Memory;
 use vertex_map::HintedVertex;
 use vertex_queue::Queue;
 
-/// The work of building or repairing a tree.
+/// The work of building or repairing a shortest-path tree.
 #[derive(Clone, Copy, Debug, PartialEq, Eq)]
 pub struct Touched {
-    /// How many vertices were taken from the queue.
+    /// The number of vertices taken from the queue.
     pub taken: usize,
-    /// How many sets of next hops were written.
+    /// The number of next-hop sets written.
     pub hop_sets: usize,
 }
 
 impl Touched {
-    /// No work.
+    /// Returns the value for no work.
     pub fn none() -> Touched
         ensures { result ≡ no_work }
     {
@@ -31,7 +31,8 @@ impl Touched {
         }
     }
 
-    /// Takes the first vertex from the queue. Nothing else takes one.
+    /// Takes the first vertex from the queue, and counts it. Vertices are taken only by this
+    /// function.
     pub fn take(&mut self, queue: &mut Queue) -> Option<(HintedVertex, u32)>
         requires { self.old.taken + 1 < 2 ^ 64 }
         ensures none { IfNone result (queue.old ≡ map.empty) }
@@ -46,7 +47,8 @@ impl Touched {
         Some(first)
     }
 
-    /// Writes the next hops of a vertex. Nothing else writes them.
+    /// Writes or removes the next hops of the vertex, and counts it. Next hops are written only by
+    /// this function.
     pub fn write(
         &mut self,
         sets: &mut NextHopMap,

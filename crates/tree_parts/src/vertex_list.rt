@@ -1,4 +1,4 @@
-//! Vertices, each once, none of which is looked for.
+//! A list of different vertices without lookup.
 ghost use Rattle.std.specs.Prelude.{◌≡◌, ◌<◌, ◌^◌, ◌++◌, ◌∷◌, [], OnOk, OnErr, Contains, length};
 ghost use Rattle.tree_parts.specs.VertexSet.{HasNoDoubles};
 
@@ -7,13 +7,13 @@ use std::alloc::Global;
 use std::marker::Model;
 use vertex_map::HintedVertex;
 
-/// A list of vertices that has each vertex once, in the order in which they were added. `VertexSet` also says whether
-/// a vertex is there; this list does not, and takes less memory and less work.
+/// A list of different vertices, in the order in which they were added. Unlike `VertexSet` it
+/// cannot be searched, so it takes less memory and time.
 pub struct VertexList {
     list: Vec<HintedVertex>,
 }
 
-// proof: one call drops it, in place of a drop of each part wherever one is held.
+// proof: a value is dropped by one call, not part by part at each exit of a function.
 impl Drop for VertexList {
     fn drop(self) {
         let VertexList { list: _list } = self;
@@ -33,7 +33,7 @@ impl Model for VertexList {
 }
 
 impl VertexList {
-    /// No vertices.
+    /// Creates an empty list.
     pub fn new(alloc: Global) -> VertexList
         ensures { result ≡ [] }
     {
@@ -42,7 +42,7 @@ impl VertexList {
         }
     }
 
-    /// How many vertices are there.
+    /// Returns the number of vertices.
     pub fn len(&self) -> usize
         ensures value { result ≡ length self.now }
         ensures small { result < 2 ^ 63 }
@@ -50,7 +50,7 @@ impl VertexList {
         self.list.len()
     }
 
-    /// Lends the vertices, in the order in which they were added.
+    /// Returns the vertices, in the order in which they were added.
     pub fn as_slice(&self) -> &[HintedVertex]
         ensures value { result.now ≡ self.now }
         ensures apart { HasNoDoubles self.now }
@@ -58,7 +58,7 @@ impl VertexList {
         self.list.as_slice()
     }
 
-    /// Adds a vertex that is not there at the end.
+    /// Appends a vertex that the list does not have.
     pub fn push(&mut self, vertex: &HintedVertex) -> Result<(), Memory>
         requires { Contains self.old vertex.now → ⊥ }
         ensures pushed { OnOk result (self.new ≡ self.old ++ vertex.now ∷ []) }
@@ -68,7 +68,7 @@ impl VertexList {
         Ok(())
     }
 
-    /// Takes all vertices out. What memory they have taken stays.
+    /// Removes all vertices. The list keeps its memory.
     pub fn clear(&mut self)
         ensures { self.new ≡ [] }
     {

@@ -1,4 +1,4 @@
-//! Vertices, each once, in the order in which they were added.
+//! A set of vertices that keeps the order in which they were added.
 ghost use Rattle.std.specs.Prelude.{◌≡◌, ◌↔◌, ◌<◌, ◌≤◌, ◌^◌, ◌++◌, ◌∷◌, [], IfNone, IfSome, IsTrue, OnOk, OnErr, IfOk, Contains, Some, length, slice_get};
 ghost use Rattle.tree_parts.specs.VertexSet.{HasNoDoubles, IsAdded, IsWithMember};
 ghost use Rattle.tree_parts.specs.Marks.{IsMarked, AreMarked, AreFound};
@@ -10,15 +10,16 @@ use std::marker::Model;
 use vertex_map::{HintedVertex, VertexMap};
 use word_hash::WordHash;
 
-/// A list of vertices has each vertex once, in the order in which they were added. Up to sixteen take no memory.
+/// A set of vertices, in the order in which they were added. Up to sixteen allocate no memory.
 pub struct VertexSet {
     list: SmallVec<HintedVertex, 16>,
-    // Of more than sixteen vertices, at which index of the list each stands. Others may be marked too, and one that is
-    // marked at an index where the list has another is not there. So the list is cleared, and no mark.
+    // The index in `list` of each vertex, if there are more than sixteen. Other vertices may have a
+    // mark too. A mark counts only if the list has the vertex at its index, so `clear` can leave
+    // marks.
     marks: VertexMap<usize>,
 }
 
-// proof: one call drops it, in place of a drop of each part wherever one is held.
+// proof: a value is dropped by one call, not part by part at each exit of a function.
 impl Drop for VertexSet {
     fn drop(self) {
         let VertexSet {
@@ -42,7 +43,7 @@ impl Model for VertexSet {
 }
 
 impl VertexSet {
-    /// No vertices.
+    /// Creates an empty set.
     pub fn new(alloc: Global, hashing: WordHash) -> VertexSet
         ensures { result ≡ [] }
     {
@@ -52,7 +53,7 @@ impl VertexSet {
         }
     }
 
-    /// Whether the vertex is there.
+    /// Returns true if the set has the vertex.
     pub fn has(&self, vertex: &HintedVertex) -> bool
         ensures { IsTrue result ↔ Contains self.now vertex.now }
     {
@@ -63,17 +64,17 @@ impl VertexSet {
         is_among(list, vertex)
     }
 
-    /// How many vertices are there.
+    /// Returns the number of vertices.
     pub fn len(&self) -> usize
         ensures value { result ≡ length self.now }
         ensures small { result < 2 ^ 63 }
     {
-        // proof: of more than sixteen each has its mark.
+        // proof: a set of more than sixteen has a mark for each, so their number bounds it.
         let _ = self.marks.len();
         self.list.len()
     }
 
-    /// Lends the vertices, in the order in which they were added.
+    /// Returns the vertices, in the order in which they were added.
     pub fn as_slice(&self) -> &[HintedVertex]
         ensures value { result.now ≡ self.now }
         ensures apart { HasNoDoubles self.now }
@@ -81,7 +82,7 @@ impl VertexSet {
         self.list.as_slice()
     }
 
-    /// Adds the vertex at the end, unless it is there. The answer is whether it was not.
+    /// Appends the vertex, unless the set has it. Returns true if it was appended.
     pub fn add(&mut self, vertex: &HintedVertex) -> Result<bool, Memory>
         ensures end { IfOk result (λ fresh. IsWithMember self.old self.new vertex.now fresh) }
         ensures added { OnOk result (IsAdded self.old self.new vertex.now) }
@@ -94,7 +95,7 @@ impl VertexSet {
         Ok(true)
     }
 
-    /// Adds a vertex that is not there at the end.
+    /// Appends a vertex that the set does not have.
     pub fn push(&mut self, vertex: &HintedVertex) -> Result<(), Memory>
         requires { Contains self.old vertex.now → ⊥ }
         ensures pushed { OnOk result (self.new ≡ self.old ++ vertex.now ∷ []) }
@@ -105,7 +106,7 @@ impl VertexSet {
         Ok(())
     }
 
-    /// Takes the last vertex out.
+    /// Removes the last vertex, and returns it.
     pub fn pop(&mut self) -> Option<HintedVertex>
         ensures none { IfNone result (self.old ≡ []) }
         ensures still_none { IfNone result (self.new ≡ []) }
@@ -114,7 +115,8 @@ impl VertexSet {
         self.list.pop()
     }
 
-    /// Takes all vertices out. What memory they have taken stays. Marks stay too, unless there are more than so many.
+    /// Removes all vertices. The set keeps its memory, and its marks unless there are more than
+    /// `most`.
     pub fn clear(&mut self, most: usize)
         ensures { self.new ≡ [] }
     {
@@ -125,7 +127,7 @@ impl VertexSet {
     }
 }
 
-// Whether the vertex is one of these. All are compared.
+// Returns true if the list has the vertex, comparing all of them.
 fn is_among(list: &[HintedVertex], vertex: &HintedVertex) -> bool
     ensures { IsTrue result ↔ Contains list.now vertex.now }
 {
@@ -137,7 +139,7 @@ fn is_among(list: &[HintedVertex], vertex: &HintedVertex) -> bool
     false
 }
 
-// Whether the list has the vertex where it is marked.
+// Returns true if the list has the vertex at the index of its mark.
 fn is_marked(marks: &VertexMap<usize>, list: &[HintedVertex], vertex: &HintedVertex) -> bool
     ensures { IsTrue result ↔ IsMarked marks.now list.now vertex.now }
 {
@@ -156,14 +158,15 @@ fn stands_at(list: &[HintedVertex], index: usize, vertex: &HintedVertex) -> bool
     }
 }
 
-// Whether both are one vertex, whatever their places are.
+// Returns true if both are the same vertex. Hints are not compared.
 fn is_same(one: &HintedVertex, other: &HintedVertex) -> bool
     ensures { IsTrue result ↔ (one.now ≡ other.now) }
 {
     one.vertex() == other.vertex()
 }
 
-// Marks a vertex that is to follow these, if they are sixteen or more, and with the next one the sixteen before it.
+// Marks the vertex that is appended next, if the list has sixteen or more. The seventeenth vertex
+// gets its mark together with the sixteen before it.
 fn mark(marks: &mut VertexMap<usize>, list: &[HintedVertex], vertex: &HintedVertex) -> Result<(), Memory>
     requires apart { HasNoDoubles list.now }
     requires fresh { Contains list.now vertex.now → ⊥ }
@@ -181,7 +184,7 @@ fn mark(marks: &mut VertexMap<usize>, list: &[HintedVertex], vertex: &HintedVert
     mark_next(marks, list, vertex)
 }
 
-// Marks a vertex that is to follow these.
+// Marks the vertex that is appended next.
 fn mark_next(marks: &mut VertexMap<usize>, list: &[HintedVertex], vertex: &HintedVertex) -> Result<(), Memory>
     requires fresh { Contains list.now vertex.now → ⊥ }
     requires marked { AreMarked marks.old list.now }
@@ -192,7 +195,7 @@ fn mark_next(marks: &mut VertexMap<usize>, list: &[HintedVertex], vertex: &Hinte
     Ok(())
 }
 
-// Marks each of these with its index.
+// Marks each vertex with its index.
 fn mark_all(marks: &mut VertexMap<usize>, list: &[HintedVertex]) -> Result<(), Memory>
     requires { HasNoDoubles list.now }
     ensures { OnOk result (AreMarked marks.new list.now) }

@@ -1,4 +1,4 @@
-//! The last link of a path of least cost.
+//! The last link of a shortest path.
 ghost use Rattle.std.specs.Prelude.{◌≡◌, ◌↔◌, IsTrue, IfSome, IfNone, Some, Contains};
 ghost use Rattle.std.specs.FinMap as map;
 ghost use Rattle.ospf_types.specs.Distances.{FirstOnly};
@@ -19,31 +19,32 @@ pub(crate) struct TreeOf<'g, 't> {
     pub(crate) tree: &'t Tree,
 }
 
-/// The last link of a path, and what comes before it.
+/// The last link of a path, and the path before it.
 #[derive(Clone, Copy)]
 pub(crate) struct LastLink<'g> {
     pub(crate) link: &'g Link,
     pub(crate) before: Before,
 }
 
-/// What comes before the last link of a path.
+/// The part of a path before its last link.
 #[derive(Clone, Copy)]
 pub(crate) enum Before {
-    /// The root alone.
+    /// The root only.
     Root,
-    /// A path to the tail of the link, by which that has this next hop.
+    /// A path to the tail of the link, over which the tail gets this next hop.
     Path(NextHop),
 }
 
 impl<'g> TreeOf<'g, '_> {
-    /// The next hop, if the vertex has it.
+    /// Returns the next hop, if the vertex has it.
     pub(crate) fn hop_at(self, vertex: Vertex, hop: NextHop) -> Option<NextHop>
         ensures { IsHopIfSome self.entry.tree.now vertex hop result }
     {
         self.has_hop(vertex, hop).then_some(hop)
     }
 
-    /// The last link of a path of least cost to a vertex, by which that has this next hop.
+    /// Returns the last link of a shortest path to the vertex, over which the vertex gets this next
+    /// hop.
     pub(crate) fn last_link(self, to: Vertex, hop: NextHop) -> LastLink<'g>
         requires tree { IsTreeOf self.graph.now self.tree.now }
         requires hop { HasHop self.graph.now to hop }
@@ -57,7 +58,7 @@ impl<'g> TreeOf<'g, '_> {
         unreachable!()
     }
 
-    // What comes before a link on a path of least cost by which its head has this next hop, if it is on such a path.
+    // Returns the path before the link, if the link's head gets this next hop over the link.
     fn before(self, link: &Link, hop: NextHop) -> Option<Before>
         ensures some { IfSome result (IsBefore self.entry.graph.now self.entry.tree.now link.now hop) }
         ensures none { IfNone result (IsNotBefore self.entry.graph.now self.entry.tree.now link.now hop) }
@@ -65,14 +66,15 @@ impl<'g> TreeOf<'g, '_> {
         if !self.is_least(link) {
             return None;
         }
-        // 16.1.1: out of the root the interface of the link, else what the tail has.
+        // 16.1.1: for the root, the interface of the link; else the next hops of the tail.
         if link.from.vertex() == Vertex::Router(self.graph.root()) {
             return is_first(link, hop).then_some(Before::Root);
         }
         Some(Before::Path(self.handed_on(link, hop)?))
     }
 
-    // Whether a link is a least link: its head is as far as tail and link together.
+    // Returns true if the link is a least link: the head is as far from the root as the tail and
+    // the link's cost.
     fn is_least(self, link: &Link) -> bool
         ensures { IsTrue result ↔ IsLeastLink (map.get self.entry.tree.now.distances) link.now }
     {
@@ -85,7 +87,7 @@ impl<'g> TreeOf<'g, '_> {
         }
     }
 
-    // The next hop of the link's tail that becomes this one over the link.
+    // Returns the next hop of the link's tail that becomes this next hop over the link.
     fn handed_on(self, link: &Link, hop: NextHop) -> Option<NextHop>
         ensures some { IfSome result (λ tail. IsHandedBy self.entry.tree.now link.now hop tail) }
         ensures none { IfNone result ((tail : NextHop) → IsHandedBy self.entry.tree.now link.now hop tail → ⊥) }
@@ -93,7 +95,7 @@ impl<'g> TreeOf<'g, '_> {
         let tail = link.from.vertex();
         match hop {
             NextHop::Peer(_) => self.hop_at(tail, hop),
-            // 16.1.1: behind a network that is attached to the root, the router's address on that network.
+            // 16.1.1: after a network attached to the root, the router's address on that network.
             NextHop::Router(interface, address) if has_address(link, address) => self
                 .hop_at(tail, hop)
                 .or(self.hop_at(tail, NextHop::Direct(interface))),
@@ -109,7 +111,7 @@ impl<'g> TreeOf<'g, '_> {
     }
 }
 
-// Whether a path of this link alone has the next hop.
+// Returns true if the path that consists of this link has the next hop.
 fn is_first(link: &Link, hop: NextHop) -> bool
     ensures { IsTrue result ↔ FirstOnly link.now.to link.now.label hop }
 {
@@ -122,7 +124,8 @@ fn is_first(link: &Link, hop: NextHop) -> bool
     }
 }
 
-// Whether the address is one on the network that the link is out of.
+// Returns true if the link's label has the address: the router at its head has it on the network at
+// its tail.
 fn has_address(link: &Link, address: u32) -> bool
     ensures { IsTrue result ↔ Contains (addresses_of link.now.label) address }
 {

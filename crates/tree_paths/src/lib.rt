@@ -1,4 +1,4 @@
-//! Paths in a shortest-path tree (RFC 2328, 16.1): over which links a vertex has a next hop.
+//! Paths in a shortest-path tree (RFC 2328, 16.1): the links over which a vertex gets a next hop.
 #![tactic(auto)]
 
 mod last_link;

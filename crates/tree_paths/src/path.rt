@@ -1,4 +1,4 @@
-//! Paths of least cost, link by link.
+//! Shortest paths, link by link.
 ghost use Rattle.std.specs.Prelude.{IfOk};
 ghost use Rattle.spf.specs.TreeValues.{IsTreeOf};
 ghost use Rattle.tree_paths.specs.LeastPaths.{IsPathOver, links_at};
@@ -11,9 +11,12 @@ use spf::Tree;
 use std::alloc::Global;
 use vertex_graph::{Graph, Link};
 
-/// The links of a path of least cost from the root to a vertex, in their order, by which the vertex has this next hop (RFC
-/// 2328, 16.1 and 16.1.1). Where it has no such next hop, there are none. Of several such paths it is one, and always the
-/// same for one history of the graph.
+/// Returns the links of a shortest path from the root to the vertex, in order, over which the
+/// vertex gets this next hop (RFC 2328, 16.1 and 16.1.1). The list is empty if the vertex does not
+/// have the next hop.
+///
+/// If there are several such paths, it is one of them. It is the same for the same history of the
+/// graph.
 pub fn links_of_path<'a>(
     alloc: Global,
     graph: &'a Graph,

@@ -1,4 +1,4 @@
-//! A change of a graph's rows.
+//! A change of the rows of a graph.
 ghost use Rattle.std.specs.Prelude.{◌≡◌, ◌≢◌, ℕ, List, OnOk, OnErr, IfOk};
 ghost use Rattle.std.specs.List.{AllPairs};
 ghost use Rattle.graph_links.specs.Pairs.{AreApart};
@@ -11,7 +11,7 @@ use graph_links::{LinkChanges, RootInterfaces, RowPool, Rows, GraphView, changed
 use ospf_types::memory::Memory;
 use std::alloc::Global;
 
-/// What rows are changed to: the root and its interfaces after the change, and what is staged.
+/// A change of rows: the root and its interfaces after the change, and the staged ends.
 #[derive(Clone, Copy)]
 pub(crate) struct Change<'a> {
     pub(crate) local: RootInterfaces<'a>,
@@ -19,8 +19,9 @@ pub(crate) struct Change<'a> {
 }
 
 impl<'a> Change<'a> {
-    /// Puts the rows of the touched vertices as they are with what is staged, and answers the links that went and
-    /// came. All that takes memory comes before the first row changes.
+    /// Updates the rows of the touched vertices, and returns the links that were removed and added.
+    ///
+    /// All memory is allocated before the first row changes.
     pub(crate) fn make(
         &self,
         alloc: Global,
@@ -50,7 +51,7 @@ impl<'a> Change<'a> {
     }
 }
 
-// Puts each row in the place of what its vertex had, once there is room for all.
+// Reserves room for all new rows, and then places them.
 fn commit(rows: &mut Rows, room: &mut RowPool) -> Result<(), Memory>
     ensures placed { OnOk result (IsPlaced room.old.fresh.items rows.old.entries rows.new.entries) }
     ensures unchanged { OnErr result (rows.new.entries ≡ rows.old.entries) }

@@ -1,4 +1,4 @@
-//! What the graph keeps of an LSA: where its links lead.
+//! The link ends in an LSA.
 ghost use Rattle.std.specs.Prelude.{◌≡◌, ◌≢◌, ◌↔◌, ◌≤◌, map as list_map, length, IsTrue, IfOk, Contains};
 ghost use Rattle.std.specs.List.{filter_map};
 ghost use Rattle.std.specs.List.Sorted.{IsStrictlySortedBy, IsPartitionPoint};
@@ -16,10 +16,10 @@ use ospf_types::memory::Memory;
 use std::alloc::Global;
 use std::cmp::Ordering;
 
-// So many links of an LSA, or routers, are usual.
+// A usual number of links or routers in an LSA.
 const USUAL: usize = 16;
 
-/// Where the links of the vertex's LSA lead, in order, each once.
+/// Returns the link ends of the vertex's LSA, in order and without duplicates.
 pub(crate) fn ends_of(alloc: Global, vertex: Vertex, lsa: &Checked) -> Result<Vec<LinkEnd>, Memory>
     ensures { IfOk result (λ ends. AreEnds vertex lsa.now.body ends.items) }
 {
@@ -32,7 +32,7 @@ pub(crate) fn ends_of(alloc: Global, vertex: Vertex, lsa: &Checked) -> Result<Ve
     Ok(ends)
 }
 
-/// Where the links of a router-LSA lead, in their order.
+/// Returns the link ends of a router-LSA, in the order of the LSA.
 fn router_ends(alloc: Global, lsa: &Checked) -> Result<Vec<LinkEnd>, Memory>
     ensures { IfOk result (λ ends. ends.items ≡ filter_map end_of_listed (links_of lsa.now.body)) }
 {
@@ -45,7 +45,7 @@ fn router_ends(alloc: Global, lsa: &Checked) -> Result<Vec<LinkEnd>, Memory>
     Ok(ends)
 }
 
-/// Where a link leads; `None` for a stub link and one of type 4.
+/// Returns the end of a link, or `None` for a link to a stub network and for a virtual link.
 fn end_of(link: Link) -> Option<LinkEnd>
     ensures { result ≡ end_of_link link }
 {
@@ -62,7 +62,7 @@ fn end_of(link: Link) -> Option<LinkEnd>
     })
 }
 
-/// The routers of a network-LSA, in their order.
+/// Returns the routers of a network-LSA as link ends, in the order of the LSA.
 fn network_ends(alloc: Global, lsa: &Checked) -> Result<Vec<LinkEnd>, Memory>
     ensures { IfOk result (λ ends. ends.items ≡ list_map listed_end (routers_of lsa.now.body)) }
 {

@@ -1,4 +1,4 @@
-//! The graph of an area: the vertices that are there, and their links.
+//! The graph of an area: its vertices and links.
 ghost use Rattle.std.specs.Prelude.{◌≡◌, ◌≢◌, ◌↔◌, [], IsTrue, OnOk, OnErr, IfOk, option_copied};
 ghost use Rattle.std.specs.List.{AllPairs};
 ghost use Rattle.std.specs.FinMap as map;
@@ -19,7 +19,10 @@ use std::marker::Model;
 use vertex_map::HintedVertex;
 use word_hash::WordHash;
 
-/// The graph of an area, as far as LSAs and interfaces were handed in, with memory that one change leaves to the next.
+/// The graph of an area. Its vertices are the routers and transit networks with an LSA, and its
+/// links are listed by both sides (RFC 2328, 16.1 (2b)).
+///
+/// It keeps memory from one change for the next.
 pub struct Graph {
     root: u32,
     rows: Rows,
@@ -28,7 +31,7 @@ pub struct Graph {
     room: RowPool,
 }
 
-// proof: one call drops it, in place of a drop of each part wherever one is held.
+// proof: a value is dropped by one call, not part by part at each exit of a function.
 impl Drop for Graph {
     fn drop(self) {
         let Graph {
@@ -59,7 +62,8 @@ impl Model for Graph {
 }
 
 impl Graph {
-    /// The graph of the router with this Router ID, with no vertex and no interface.
+    /// Creates a graph without vertices and interfaces. `root` is the Router ID of the calculating
+    /// router.
     pub fn new(alloc: Global, root: u32, hashing: RandomState) -> Graph
         ensures { result ≡ record { root = root; ends = map.empty; interfaces = [] } }
     {
@@ -73,7 +77,7 @@ impl Graph {
         }
     }
 
-    /// The Router ID of the router whose graph it is.
+    /// Returns the Router ID of the root.
     pub fn root(&self) -> u32
         ensures value { result ≡ self.now.root }
         ensures few { HasFewRouters self.now }
@@ -83,21 +87,22 @@ impl Graph {
         self.root
     }
 
-    /// How many vertices there are.
+    /// Returns the number of vertices.
     pub fn len(&self) -> usize
         ensures { result ≡ map.len self.now.ends }
     {
         self.rows.len()
     }
 
-    /// Whether the root is a vertex.
+    /// Returns true if the root is a vertex.
     pub fn has_root(&self) -> bool
         ensures { IsTrue result ↔ HasRoot self.now }
     {
         self.rows.contains_key(&Vertex::Router(self.root))
     }
 
-    /// The links out of a vertex, each once, none if it is not there.
+    /// Returns the links from the vertex, without duplicates. The slice is empty if the graph does
+    /// not have the vertex.
     pub fn links_from(&self, vertex: Vertex) -> &[Link]
         ensures exact { AreLinksFrom self.now vertex result.now }
         ensures each_once { AllPairs (λ k l. k ≢ l) result.now }
@@ -109,7 +114,8 @@ impl Graph {
         }
     }
 
-    /// The links into a vertex, each once, none if it is not there.
+    /// Returns the links to the vertex, without duplicates. The slice is empty if the graph does
+    /// not have the vertex.
     pub fn links_to(&self, vertex: Vertex) -> &[Link]
         ensures exact { AreLinksTo self.now vertex result.now }
         ensures each_once { AllPairs (λ k l. k ≢ l) result.now }
@@ -121,7 +127,8 @@ impl Graph {
         }
     }
 
-    /// The links out of a vertex that comes with its place, each once. Mostly nothing is hashed.
+    /// Returns the links from the vertex, as `links_from` does. The vertex is hashed only if its
+    /// hint is wrong.
     pub fn links_from_at(&self, vertex: &HintedVertex) -> &[Link]
         ensures exact { AreLinksFrom self.now vertex.now result.now }
         ensures each_once { AllPairs (λ k l. k ≢ l) result.now }
@@ -133,7 +140,8 @@ impl Graph {
         }
     }
 
-    /// The links into a vertex that comes with its place, each once. Mostly nothing is hashed.
+    /// Returns the links to the vertex, as `links_to` does. The vertex is hashed only if its hint
+    /// is wrong.
     pub fn links_to_at(&self, vertex: &HintedVertex) -> &[Link]
         ensures exact { AreLinksTo self.now vertex.now result.now }
         ensures each_once { AllPairs (λ k l. k ≢ l) result.now }
@@ -145,7 +153,7 @@ impl Graph {
         }
     }
 
-    /// The vertex with the place of its row. Then `links_from_at` and `links_to_at` find it without a hash.
+    /// Returns the vertex with a hint to its row, for `links_from_at` and `links_to_at`.
     pub fn placed(&self, vertex: Vertex) -> HintedVertex
         ensures { result ≡ vertex }
     {
@@ -155,9 +163,15 @@ impl Graph {
         }
     }
 
-    /// Puts the LSA of each vertex in the place of what it had, and takes out the vertices without one.
-    /// Answers the links that went and came. They are usable LSAs (below MaxAge), and for a network that of the
-    /// greatest Advertising Router. If memory runs out, the graph stays as it was.
+    /// Replaces the LSA of each vertex, or removes the vertex if it has none, and returns the links
+    /// that were removed and added.
+    ///
+    /// No vertex is listed twice. The caller passes usable LSAs (below MaxAge), and for a network
+    /// the network-LSA with the greatest Advertising Router.
+    ///
+    /// # Errors
+    ///
+    /// Returns `Memory` if memory runs out. The graph is then unchanged.
     pub fn replace_all(
         &mut self,
         lsas: &[(Vertex, Option<&Checked>)],
@@ -181,8 +195,12 @@ impl Graph {
         Ok(changes)
     }
 
-    /// Puts the LSA in the place of what the vertex had, or takes out the vertex without one. Answers the links
-    /// that went and came. If memory runs out, the graph stays as it was.
+    /// Replaces the LSA of the vertex, or removes the vertex if it has none. Returns the links that
+    /// were removed and added.
+    ///
+    /// # Errors
+    ///
+    /// Returns `Memory` if memory runs out. The graph is then unchanged.
     pub fn replace(&mut self, vertex: Vertex, lsa: Option<&Checked>) -> Result<LinkChanges, Memory>
         requires few { AreFewAfter self.old (handed_in vertex lsa) }
         ensures replaced { OnOk result (IsReplaced self.old self.new (handed_in vertex lsa.entry)) }
@@ -192,8 +210,12 @@ impl Graph {
         self.replace_all(&[(vertex, lsa)])
     }
 
-    /// Takes these as the area's interfaces that are up, in the place of all before. Answers the links
-    /// that went and came. If memory runs out, the graph stays as it was.
+    /// Sets the interfaces of the area that are up, and returns the links that were removed and
+    /// added.
+    ///
+    /// # Errors
+    ///
+    /// Returns `Memory` if memory runs out. The graph is then unchanged.
     pub fn interfaces(&mut self, interfaces: &[Up]) -> Result<LinkChanges, Memory>
         ensures root { self.new.root ≡ self.old.root }
         ensures ends { self.new.ends ≡ self.old.ends }
@@ -217,7 +239,7 @@ impl Graph {
     }
 }
 
-// The vertex's row. If another's is at the vertex's place, it is looked up by its hash.
+// Returns the vertex's row. The vertex is hashed only if its hint is wrong.
 fn row_at<'a>(rows: &'a Rows, vertex: &HintedVertex) -> Option<&'a Row>
     ensures { option_copied result ≡ map.find vertex_cmp vertex.now rows.now.entries }
 {

@@ -1,6 +1,6 @@
-//! The graph of an area (RFC 2328, 16.1): routers and transit networks, and the links between them that
-//! both ends have. It is handed LSAs and interfaces one after the other, and answers what links went and
-//! came by them.
+//! The graph of an area (RFC 2328, 16.1): routers and transit networks, and the links that both
+//! sides list. It is updated with LSAs and interfaces, and returns the links that were removed and
+//! added.
 #![tactic(auto)]
 
 mod change;

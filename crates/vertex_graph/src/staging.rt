@@ -1,4 +1,4 @@
-//! What is handed in, before anything changes.
+//! The staging of a change, before any row changes.
 ghost use Rattle.std.specs.Prelude.{◌≡◌, ◌≢◌, ◌↔◌, None, [], IsTrue, OnOk, IfOk, Contains};
 ghost use Rattle.std.specs.List.{AllPairs};
 ghost use Rattle.std.specs.FinMap.{find};
@@ -21,15 +21,19 @@ use std::alloc::Global;
 use vertex_map::HintedVertex;
 use word_hash::WordHash;
 
-/// Where the vertices lead that are handed in and lead elsewhere than before, and the vertices whose rows may
-/// change by that: those, and what they cease or begin to lead to, or lead to otherwise. It is filled anew by each
-/// change.
+/// The staged part of a change: the vertices with other link ends than before, and the vertices
+/// whose rows may change.
+///
+/// Touched are the staged vertices, and the vertices at ends that they lose or gain. A changed end
+/// is lost and gained.
 pub(crate) struct Staging {
+    /// The new link ends of the staged vertices.
     pub(crate) ends: StagedEnds,
+    /// The vertices whose rows may change.
     pub(crate) touched: Vec<HintedVertex>,
 }
 
-// proof: one call drops it, in place of a drop of each part wherever one is held.
+// proof: a value is dropped by one call, not part by part at each exit of a function.
 impl Drop for Staging {
     fn drop(self) {
         let Staging {
@@ -39,11 +43,11 @@ impl Drop for Staging {
     }
 }
 
-// So many vertices are searched one by one, and the memory for them is kept.
+// The maximum number of vertices that are searched one by one, and whose memory is kept.
 const FEW: usize = 8;
 
 impl Staging {
-    /// Nothing handed in.
+    /// Creates an empty staging.
     pub(crate) fn new(alloc: Global, hashing: WordHash) -> Staging
         ensures ends { result.ends.entries ≡ [] }
         ensures touched { result.touched.items ≡ [] }
@@ -54,7 +58,7 @@ impl Staging {
         }
     }
 
-    // Takes out what was handed in before, and gives back the memory of many.
+    // Clears the staging, and gives back the memory if many vertices were staged.
     fn clear(&mut self, alloc: Global)
         ensures ends { self.new.ends.entries ≡ [] }
         ensures touched { self.new.touched.items ≡ [] }
@@ -68,7 +72,8 @@ impl Staging {
     }
 }
 
-/// Stages where the vertices lead that are handed in, each with its LSA or with none, and what that touches, each once.
+/// Stages the vertices whose link ends change by these LSAs, and lists the touched vertices without
+/// duplicates. A vertex without an LSA is removed.
 pub(crate) fn stage(
     alloc: Global,
     rows: &Rows,
@@ -89,7 +94,7 @@ pub(crate) fn stage(
     Ok(())
 }
 
-// Keeps each vertex once.
+// Sorts the vertices and removes duplicates.
 fn keep_once(touched: &mut Vec<HintedVertex>)
     ensures same { (v : VertexValue) → Contains touched.new.items v ↔ Contains touched.old.items v }
     ensures once { AllPairs (λ v w. v ≢ w) touched.new.items }
@@ -98,7 +103,7 @@ fn keep_once(touched: &mut Vec<HintedVertex>)
     touched.dedup_by_key(|one| one.vertex());
 }
 
-// Where the vertex leads by its LSA, none if the LSA goes.
+// Returns the link ends of the LSA, or `None` if the LSA is removed.
 fn given_ends(
     alloc: Global,
     vertex: Vertex,
@@ -115,7 +120,7 @@ fn given_ends(
     }
 }
 
-// Stages where a vertex leads and what that touches, unless it leads there already.
+// Stages the vertex and what it touches, unless its link ends are the same as before.
 fn stage_one(
     rows: &Rows,
     vertex: Vertex,
@@ -138,7 +143,7 @@ fn stage_one(
     Ok(())
 }
 
-// Whether a vertex leads where it did.
+// Returns true if the link ends are the same.
 fn is_same(before: Option<&[LinkEnd]>, after: Option<&[LinkEnd]>) -> bool
     ensures { IsTrue result → LeadsAlike before.entry after.entry }
 {
@@ -149,14 +154,15 @@ fn is_same(before: Option<&[LinkEnd]>, after: Option<&[LinkEnd]>) -> bool
     }
 }
 
-// Ends that a vertex leads to as well, and the links out of it, which know places.
+// Ends that are compared with other ends of the same vertex, and the links from the vertex, which
+// have hints.
 #[derive(Clone, Copy)]
 struct Others<'a> {
     ends: &'a [LinkEnd],
     links: &'a [Link],
 }
 
-// Touches a vertex, and what it leads to either before, by its row, or after.
+// Touches the vertex, and the vertices at ends that are only in its row or only in `after`.
 fn touch_both(
     vertex: &HintedVertex,
     before: Option<&Row>,
@@ -176,7 +182,7 @@ fn touch_both(
     Ok(())
 }
 
-// Touches the vertices at those ends that are not among others.
+// Touches the vertices at the ends that are not among the others.
 fn touch(ends: &[LinkEnd], others: Others<'_>, touched: &mut Vec<HintedVertex>) -> Result<(), Memory>
     ensures kept { OnOk result (IsWithin touched.old.items touched.new.items) }
     ensures others { OnOk result (TouchesOthers ends.now others.entry.ends.now touched.new.items) }
@@ -187,7 +193,8 @@ fn touch(ends: &[LinkEnd], others: Others<'_>, touched: &mut Vec<HintedVertex>) 
     Ok(())
 }
 
-// Touches the vertex at the end, unless the end is among others, where it mostly has the place that it has here.
+// Touches the vertex at the end, unless the end is among the others. There it usually has the same
+// index.
 fn touch_end(
     end: LinkEnd,
     place: usize,
@@ -203,7 +210,7 @@ fn touch_end(
     touch_vertex(&hinted_by(others.links, place, end.to), touched)
 }
 
-// Touches the vertex. Of many some may be touched again, and are left out in the end.
+// Touches the vertex. If there are many, duplicates are left to `keep_once`.
 fn touch_vertex(vertex: &HintedVertex, touched: &mut Vec<HintedVertex>) -> Result<(), Memory>
     ensures own { OnOk result (Contains touched.new.items vertex.now) }
     ensures kept { OnOk result (IsWithin touched.old.items touched.new.items) }
@@ -215,7 +222,7 @@ fn touch_vertex(vertex: &HintedVertex, touched: &mut Vec<HintedVertex>) -> Resul
     Ok(())
 }
 
-// Whether the vertex is touched.
+// Returns true if the vertex is already touched.
 fn is_touched(vertex: &HintedVertex, touched: &[HintedVertex]) -> bool
     ensures { IsTrue result → Contains touched.now vertex.now }
 {
@@ -227,7 +234,7 @@ fn is_touched(vertex: &HintedVertex, touched: &[HintedVertex]) -> bool
     false
 }
 
-// Whether the end has this place among ends.
+// Returns true if the end has this index among the ends.
 fn has_at(ends: &[LinkEnd], place: usize, end: LinkEnd) -> bool
     ensures { IsTrue result → Contains ends.now end }
 {
@@ -237,21 +244,23 @@ fn has_at(ends: &[LinkEnd], place: usize, end: LinkEnd) -> bool
     }
 }
 
-// Whether two ends are the same.
+// Returns true if the ends are equal.
 fn is_same_end(one: LinkEnd, other: LinkEnd) -> bool
     ensures { IsTrue result ↔ (one ≡ other) }
 {
     one.to == other.to && one.detail == other.detail && one.metric == other.metric
 }
 
-// Whether the end is among ends that are in order.
+// Returns true if the end is among the ends. They should be in order: if they are not, an end may
+// be missed.
 fn has_end(ends: &[LinkEnd], end: LinkEnd) -> bool
     ensures { IsTrue result → Contains ends.now end }
 {
     ends.binary_search(&end).is_ok()
 }
 
-/// Stages nothing but the root and what it leads to as touched: what the area's interfaces touch.
+/// Touches the root and the vertices at its link ends, whose links depend on the area's interfaces.
+/// No ends are staged.
 pub(crate) fn stage_root(
     alloc: Global,
     rows: &Rows,

@@ -1,4 +1,4 @@
-//! Vertices, each with the place where it is looked for first.
+//! Vertices with a hint: the index at which a vertex is looked for before it is hashed.
 ghost use Rattle.std.specs.Prelude.{◌≡◌};
 
 use ospf_types::entry::Vertex;
@@ -7,10 +7,11 @@ use std::fmt;
 use std::fmt::{Debug, Formatter};
 use std::marker::Model;
 
-/// Where no entry stands.
+/// The hint of a vertex whose place is not known.
 pub(crate) const NOWHERE: u32 = u32::MAX;
 
-/// A vertex, and the place where it is looked for first.
+/// A vertex with a hint: the index at which a map looks for it before it is hashed. Contracts see
+/// only the vertex.
 #[derive(Drop)]
 pub struct HintedVertex {
     vertex: Vertex,
@@ -29,7 +30,7 @@ impl Model for HintedVertex {
 }
 
 impl HintedVertex {
-    /// The vertex, to be looked for at the place.
+    /// Creates a vertex with the given hint.
     #[inline]
     pub fn new(vertex: Vertex, place: u32) -> HintedVertex
         ensures { result ≡ vertex }
@@ -37,7 +38,7 @@ impl HintedVertex {
         HintedVertex { vertex, place }
     }
 
-    /// The vertex, to be looked up by its hash.
+    /// Creates a vertex without a hint, so that it is found by its hash.
     #[inline]
     pub fn nowhere(vertex: Vertex) -> HintedVertex
         ensures { result ≡ vertex }
@@ -48,7 +49,7 @@ impl HintedVertex {
         }
     }
 
-    /// Another with this vertex and this place.
+    /// Returns a copy, with the same hint.
     #[inline]
     pub fn copy(&self) -> HintedVertex
         ensures { result ≡ self.now }
@@ -59,7 +60,7 @@ impl HintedVertex {
         }
     }
 
-    /// A vertex at the same place.
+    /// Returns another vertex with the same hint.
     #[inline]
     pub fn with_vertex(&self, vertex: Vertex) -> HintedVertex
         ensures { result ≡ vertex }
@@ -70,7 +71,7 @@ impl HintedVertex {
         }
     }
 
-    /// The vertex itself.
+    /// Returns the vertex.
     #[inline]
     pub fn vertex(&self) -> Vertex
         ensures { result ≡ self.now }
@@ -78,27 +79,27 @@ impl HintedVertex {
         self.vertex
     }
 
-    /// The number of its place, which it was made with.
+    /// Returns the hint, as it was given.
     #[inline]
     pub fn number(&self) -> u32 {
         self.place
     }
 
-    /// Where it is looked for first.
+    /// Returns the hint as an index.
     #[inline]
     pub fn place(&self) -> usize {
         self.place as usize
     }
 }
 
-/// Fills the places of a collection that hold no vertex.
+/// Fills the unused slots of a collection.
 impl<A: Drop> MadeWith<A> for HintedVertex {
     fn made_with(_alloc: A) -> HintedVertex {
         HintedVertex::nowhere(Vertex::Router(0))
     }
 }
 
-// It prints as the vertex does.
+// Prints the vertex, without the hint.
 impl Debug for HintedVertex {
     fn fmt<W: fmt::Write>(&self, f: &mut Formatter<W>) -> fmt::Result {
         self.vertex.fmt(f)

@@ -1,5 +1,7 @@
-//! Values by vertex. A vertex comes with the place where its entry mostly stands, and is looked up by
-//! its hash if another stands there.
+//! A map from vertices to values.
+//!
+//! A vertex comes with a hint, the index of its entry. If another vertex has that entry, the vertex
+//! is found by its hash.
 #![tactic(auto)]
 
 mod hinted_vertex;

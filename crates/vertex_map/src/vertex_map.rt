@@ -1,4 +1,4 @@
-//! The map.
+//! The map from vertices to values.
 ghost use Rattle.std.specs.Prelude.{◌≡◌, ◌↔◌, ◌<◌, ◌+◌, ◌^◌, cond, length, is_some, IfOk, IfSome, OnOk, OnErr, IsTrue, option_copied};
 ghost use Rattle.std.specs.FinMap as map;
 ghost use Rattle.vertex_map.specs.Values.{IsAt, TakesOut, WritesAt, inner, is_valued, values_of};
@@ -11,17 +11,19 @@ use std::alloc::Global;
 use std::marker::Model;
 use word_hash::WordHash;
 
-/// Values by vertex. A look-up reads the entry at the vertex's place. If that is another's, the
-/// vertex is looked up by its hash.
+/// A map from vertices to values.
+///
+/// A lookup first reads the entry at the vertex's hint. If that entry is of another vertex, the
+/// vertex is hashed.
 pub struct VertexMap<V> {
-    // Each vertex with the place that it has or waits for, and its value. A vertex whose value was taken
-    // out keeps its place.
+    // Each vertex with the place that it has or waits for, and its value. A vertex whose value was
+    // removed keeps its entry.
     entries: IndexMap<Vertex, (u32, Option<V>), WordHash>,
-    // How many have a value.
+    // The number of vertices that have a value.
     len: usize,
 }
 
-// proof: one call drops it, in place of a drop of each part wherever one is held.
+// proof: a value is dropped by one call, not part by part at each exit of a function.
 impl<V: Drop> Drop for VertexMap<V> {
     fn drop(self) {
         let VertexMap {
@@ -47,18 +49,18 @@ impl<V> Model for VertexMap<V> {
 }
 
 impl<V> VertexMap<V> {
-    /// How many vertices have a value.
+    /// Returns the number of vertices that have a value.
     #[inline]
     pub fn len(&self) -> usize
         ensures value { result ≡ map.len self.now }
         ensures small { result < 2 ^ 63 }
     {
-        // proof: there are no more values than entries.
+        // proof: there are at most as many values as entries.
         let _ = self.entries.len();
         self.len
     }
 
-    /// Whether no vertex has a value.
+    /// Returns true if no vertex has a value.
     #[inline]
     pub fn is_empty(&self) -> bool
         ensures { IsTrue result ↔ (map.len self.now ≡ 0) }
@@ -66,7 +68,7 @@ impl<V> VertexMap<V> {
         self.len == 0
     }
 
-    /// The vertex's value. It takes no memory.
+    /// Returns the vertex's value. It takes no memory.
     #[inline]
     pub fn get(&self, vertex: &HintedVertex) -> Option<&V>
         ensures { option_copied result ≡ map.get self.now vertex.now }
@@ -77,7 +79,7 @@ impl<V> VertexMap<V> {
         }
     }
 
-    // The vertex's value, looked up by its hash.
+    // Returns the vertex's value. It is found by the vertex's hash.
     #[inline(never)]
     fn find(&self, vertex: Vertex) -> Option<&V>
         ensures { option_copied result ≡ map.get self.now vertex }
@@ -90,7 +92,7 @@ impl<V> VertexMap<V> {
 }
 
 impl<V: Drop> VertexMap<V> {
-    /// No values. It takes no memory yet.
+    /// Creates an empty map. It takes no memory until a value is inserted.
     pub fn new(alloc: Global, hashing: WordHash) -> VertexMap<V>
         ensures { result ≡ map.empty }
     {
@@ -100,7 +102,7 @@ impl<V: Drop> VertexMap<V> {
         }
     }
 
-    /// No values, with room for so many vertices.
+    /// Creates an empty map with room for `room` vertices.
     pub fn with_room(alloc: Global, hashing: WordHash, room: usize) -> Result<VertexMap<V>, Memory>
         ensures { IfOk result (λ none. none ≡ map.empty) }
     {
@@ -108,7 +110,11 @@ impl<V: Drop> VertexMap<V> {
         Ok(VertexMap { entries, len: 0 })
     }
 
-    /// Gives the vertex the value, in place of the one that it had. If memory runs out, nothing changes.
+    /// Sets the vertex's value, and drops the old value if there is one.
+    ///
+    /// # Errors
+    ///
+    /// Returns `Memory` if memory runs out. Nothing changes then.
     pub fn insert(&mut self, vertex: &HintedVertex, value: V) -> Result<(), Memory>
         ensures ok { OnOk result (self.new ≡ map.insert self.old vertex.now value) }
         ensures err { OnErr result (self.new ≡ self.old) }
@@ -124,7 +130,7 @@ impl<V: Drop> VertexMap<V> {
         }
     }
 
-    /// Takes the vertex's value out.
+    /// Removes the vertex's value.
     pub fn remove(&mut self, vertex: &HintedVertex)
         ensures { self.new ≡ map.remove self.old vertex.now }
     {
@@ -133,7 +139,7 @@ impl<V: Drop> VertexMap<V> {
         }
     }
 
-    /// Takes all values out.
+    /// Removes all values.
     pub fn clear(&mut self)
         ensures { self.new ≡ map.empty }
     {
@@ -141,21 +147,22 @@ impl<V: Drop> VertexMap<V> {
         self.len = 0;
     }
 
-    /// Gives up the entries that have no value, if there are more than so many entries. They are kept
-    /// for their places, so whoever owns the map calls this now and then with the number of vertices
-    /// that there may be.
+    /// Removes the entries without a value if there are more than `most` entries.
+    ///
+    /// Such entries are kept for their places. The owner of the map calls this from time to time
+    /// with the number of vertices that there may be.
     pub fn trim(&mut self, most: usize)
         ensures { self.new ≡ self.old }
     {
-        // If all have a value, there is nothing to give up.
+        // If all entries have a value, no entry can be removed.
         if self.entries.len() > most.max(self.len) {
             tidy(&mut self.entries);
             settle_all(&mut self.entries);
         }
     }
 
-    // Gives the vertex the value; its entry is looked up by the vertex's hash. The entry has the place from
-    // then on, or waits for it if it is beyond all entries.
+    // Sets the vertex's value, and finds its entry by the vertex's hash. The entry moves to the
+    // index `number`, or waits for that index if it is past the end.
     fn put(&mut self, vertex: Vertex, number: u32, value: V) -> Result<(), Memory>
         ensures ok { OnOk result (self.new ≡ map.insert self.old vertex value) }
         ensures err { OnErr result (self.new ≡ self.old) }
@@ -169,7 +176,7 @@ impl<V: Drop> VertexMap<V> {
     }
 }
 
-// The number, or if it is that of no place, the one that the vertex's entry has.
+// Returns `number`, or the hint in the vertex's entry if `number` is `NOWHERE`.
 fn known_number<V>(
     entries: &IndexMap<Vertex, (u32, Option<V>), WordHash>,
     vertex: Vertex,
@@ -184,7 +191,8 @@ fn known_number<V>(
     }
 }
 
-// Where the vertex's entry stands, if it is at the vertex's place, and whether it has a value.
+// Returns the index of the vertex's entry and whether it has a value, if the entry is at the
+// vertex's hint.
 #[inline]
 fn standing<V>(
     entries: &IndexMap<Vertex, (u32, Option<V>), WordHash>,
@@ -200,7 +208,7 @@ fn standing<V>(
     }
 }
 
-// The entry at the place keeps this from now on.
+// Replaces the contents of the entry at the index.
 #[inline]
 fn write_at<V: Drop>(
     entries: &mut IndexMap<Vertex, (u32, Option<V>), WordHash>,
@@ -215,7 +223,7 @@ fn write_at<V: Drop>(
     entries[place] = kept;
 }
 
-// Takes the vertex's value out, and says whether it had one. The entry keeps its place.
+// Removes the vertex's value, and returns true if it had one. The entry stays.
 fn take<V: Drop>(
     entries: &mut IndexMap<Vertex, (u32, Option<V>), WordHash>,
     vertex: &HintedVertex,
@@ -232,7 +240,8 @@ fn take<V: Drop>(
     }
 }
 
-// Takes the vertex's value out, and says whether it had one; its entry is looked up by the vertex's hash.
+// Removes the vertex's value, and returns true if it had one. Its entry is found by the vertex's
+// hash.
 fn take_by_hash<V: Drop>(
     entries: &mut IndexMap<Vertex, (u32, Option<V>), WordHash>,
     vertex: Vertex,
@@ -249,8 +258,8 @@ fn take_by_hash<V: Drop>(
     had
 }
 
-// The entry at the index goes to the place, the one that was there to its own, and so on. It ends at an
-// entry that waits for a place beyond all entries, or whose place another has by right.
+// Moves the entry at the index to the place, the entry from there to its own place, and so on. The
+// last entry waits for a place past the end, or for one that another entry has by right.
 fn settle<V>(entries: &mut IndexMap<Vertex, (u32, Option<V>), WordHash>, index: usize, place: usize)
     requires { index < length entries.old.entries }
     ensures same { values_of entries.new.entries ≡ values_of entries.old.entries }
@@ -265,8 +274,8 @@ fn settle<V>(entries: &mut IndexMap<Vertex, (u32, Option<V>), WordHash>, index: 
     }
 }
 
-// The entry at the index goes to the place, and the one that was there to the index. The answer is the
-// place of the one that is at the index then.
+// Exchanges the entry at the index with the one at the place, and returns the place of the entry
+// that is at the index afterwards.
 fn exchange<V>(
     entries: &mut IndexMap<Vertex, (u32, Option<V>), WordHash>,
     index: usize,
@@ -280,7 +289,7 @@ fn exchange<V>(
     entries[index].0 as usize
 }
 
-// The entry at the index changes places with the one at the place, if there is one.
+// Exchanges the entries at the index and at the place, if there is an entry at the place.
 fn swap_with<V>(
     entries: &mut IndexMap<Vertex, (u32, Option<V>), WordHash>,
     index: usize,
@@ -295,7 +304,8 @@ fn swap_with<V>(
     }
 }
 
-// Whether no other entry is to go to the place: it is beyond all, or that of a vertex with a value.
+// Returns true if no entry should move to the place: it is past the end, or its entry is in its own
+// place and has a value.
 fn is_home<V>(entries: &IndexMap<Vertex, (u32, Option<V>), WordHash>, place: usize) -> bool {
     match entries.get_index(place) {
         Some((_, kept)) => kept.0 as usize == place && kept.1.is_some(),
@@ -303,7 +313,7 @@ fn is_home<V>(entries: &IndexMap<Vertex, (u32, Option<V>), WordHash>, place: usi
     }
 }
 
-// Each entry goes to its place.
+// Moves each entry to its place.
 fn settle_all<V>(entries: &mut IndexMap<Vertex, (u32, Option<V>), WordHash>)
     ensures { values_of entries.new.entries ≡ values_of entries.old.entries }
 {
@@ -313,7 +323,7 @@ fn settle_all<V>(entries: &mut IndexMap<Vertex, (u32, Option<V>), WordHash>)
     }
 }
 
-// Gives up the entries that have no value.
+// Removes the entries without a value.
 fn tidy<V: Drop>(entries: &mut IndexMap<Vertex, (u32, Option<V>), WordHash>)
     ensures { values_of entries.new.entries ≡ values_of entries.old.entries }
 {
@@ -328,7 +338,7 @@ fn is_value<V>(was: &Option<(u32, Option<V>)>) -> bool
     matches!(was, Some((_, Some(_))))
 }
 
-// How many have a value once one more is given one.
+// Returns the number of values after one is set.
 fn counted(values: usize, had: bool) -> usize
     requires { values < 2 ^ 63 }
     ensures { result ≡ cond had values (values + 1) }

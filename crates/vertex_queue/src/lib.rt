@@ -1,5 +1,5 @@
-//! The queue of a shortest-path search (RFC 2328, 16.1, step (3)): the vertices that wait, each at a
-//! distance from the root. The nearest comes first, of equal distances networks before routers.
+//! The queue of a shortest-path search (RFC 2328, 16.1 (3)): vertices, each at a distance from the
+//! root. The nearest vertex comes first, and at equal distances networks come before routers.
 #![tactic(auto)]
 
 mod queue;

@@ -1,3 +1,4 @@
+//! The queue: a heap, and a map of the distances that count.
 ghost use Rattle.std.specs.Prelude.{◌≡◌, ◌↔◌, Some, IfNone, IfSome, OnErr, OnOk, IsTrue, option_copied};
 ghost use Rattle.std.specs.FinMap as map;
 ghost use Rattle.std.specs.BinaryHeap.{heap_items};
@@ -14,14 +15,15 @@ use std::marker::Model;
 use vertex_map::{HintedVertex, VertexMap};
 use word_hash::WordHash;
 
-/// The vertices that wait, each at its distance, a sum of metrics.
+/// A priority queue of vertices, each at its distance from the root. Distances are sums of metrics.
 pub struct Queue {
     distances: VertexMap<u32>,
-    // Each vertex that waits, at its distance, and others that no longer do.
+    // An entry for each queued vertex at its distance, and stale entries, which `pop_waiting`
+    // drops.
     order: BinaryHeap<Reverse<Waiting>>,
 }
 
-// proof: one call drops it, in place of a drop of each part wherever one is held.
+// proof: a value is dropped by one call, not part by part at each exit of a function.
 impl Drop for Queue {
     fn drop(self) {
         let Queue {
@@ -50,7 +52,7 @@ impl Model for Queue {
 }
 
 impl Queue {
-    /// No vertices.
+    /// Creates an empty queue.
     pub fn new(alloc: Global, hashing: WordHash) -> Queue
         ensures { result ≡ map.empty }
     {
@@ -60,28 +62,33 @@ impl Queue {
         }
     }
 
-    /// How many vertices wait.
+    /// Returns the number of queued vertices.
     pub fn len(&self) -> usize
         ensures { result ≡ map.len self.now }
     {
         self.distances.len()
     }
 
-    /// Whether none waits.
+    /// Returns true if no vertex is queued.
     pub fn is_empty(&self) -> bool
         ensures { IsTrue result ↔ (self.now ≡ map.empty) }
     {
         self.distances.is_empty()
     }
 
-    /// At what distance the vertex waits, if it does.
+    /// Returns the distance at which the vertex is queued, or `None` if it is not queued.
     pub fn get(&self, vertex: &HintedVertex) -> Option<u32>
         ensures { result ≡ map.get self.now vertex.now }
     {
         self.distances.get(vertex).copied()
     }
 
-    /// Lets the vertex wait at the distance, unless it waits at that or less already.
+    /// Queues the vertex at the distance, or lowers its distance. A vertex that is queued at this
+    /// or a lower distance is unchanged.
+    ///
+    /// # Errors
+    ///
+    /// Returns `Memory` if memory runs out. The queued vertices and distances are then unchanged.
     pub fn put(&mut self, vertex: &HintedVertex, distance: u32) -> Result<(), Memory>
         ensures put { OnOk result (self.new ≡ lessened self.old vertex.now distance) }
         ensures unchanged { OnErr result (self.new ≡ self.old) }
@@ -94,8 +101,10 @@ impl Queue {
         Ok(())
     }
 
-    /// Takes out the vertex that is first: the nearest, of equal distances networks before routers,
-    /// each kind by number. The answer is the vertex, with its place, and its distance.
+    /// Removes the first vertex, and returns it with its distance, or `None` if the queue is empty.
+    ///
+    /// The nearest vertex is first. At equal distances networks come before routers, and each kind
+    /// is in the order of its numbers (Link State IDs or Router IDs).
     pub fn take(&mut self) -> Option<(HintedVertex, u32)>
         ensures none { IfNone result (self.old ≡ map.empty) }
         ensures first { IfSome result (λ p. IsFirst self.old p.0 p.1) }
@@ -107,7 +116,7 @@ impl Queue {
         Some((vertex, distance))
     }
 
-    /// Takes all vertices out.
+    /// Removes all vertices.
     pub fn clear(&mut self)
         ensures { self.new ≡ map.empty }
     {
@@ -115,8 +124,11 @@ impl Queue {
         self.order.clear();
     }
 
-    /// Forgets the places of vertices that wait no longer, where there are more than so many. Whoever
-    /// owns the queue calls this now and then with the number of vertices that there may be.
+    /// Drops the places kept for vertices that are no longer queued, if more than `most` places are
+    /// kept.
+    ///
+    /// The owner of the queue calls this from time to time, with the number of vertices that may be
+    /// queued.
     pub fn trim(&mut self, most: usize)
         ensures { self.new ≡ self.old }
     {
@@ -124,7 +136,8 @@ impl Queue {
     }
 }
 
-// Whether a vertex that waits at this distance, or at none, waits within another.
+// Returns true if the vertex is queued at this or a lower distance. `least` is its distance in the
+// queue.
 fn is_within(least: Option<&u32>, distance: u32) -> bool
     ensures { result ≡ waits_within (option_copied least.entry) distance }
 {
@@ -134,8 +147,8 @@ fn is_within(least: Option<&u32>, distance: u32) -> bool
     }
 }
 
-// Takes the first vertex that waits off the heap, and what comes before it, which waits no longer.
-// The answer is the vertex and its distance.
+// Removes the first entry that is not stale from the heap, and the stale ones before it. Returns
+// its vertex and distance.
 fn pop_waiting(
     order: &mut BinaryHeap<Reverse<Waiting>>,
     distances: &VertexMap<u32>,
@@ -158,7 +171,7 @@ fn pop_waiting(
     None
 }
 
-// The vertex of the entry and its distance, if it waits at that of the entry.
+// Returns the vertex and distance of the entry, or `None` if the entry is stale.
 fn waits(distances: &VertexMap<u32>, entry: Waiting) -> Option<(HintedVertex, u32)>
     ensures at { IfSome result (λ p. IsAt entry p.0 p.1) }
     ensures waits { IfSome result (λ p. map.get distances.now p.0 ≡ Some p.1) }

@@ -1,3 +1,4 @@
+//! Entries of the queue's heap.
 ghost use Rattle.std.specs.Prelude.{◌≡◌, ◌↔◌, IsTrue};
 ghost use Rattle.vertex_queue.specs.Heaps.{IsAt, waiting_vertex};
 ghost use Rattle.vertex_queue.specs.Queues.{rank};
@@ -5,13 +6,14 @@ ghost use Rattle.vertex_queue.specs.Queues.{rank};
 use ospf_types::entry::Vertex;
 use vertex_map::HintedVertex;
 
-// A vertex at a distance, with its place. The derived order is that of the queue.
+// An entry of the heap: a vertex at a distance, with a hint. The derived order is the order of the
+// queue.
 #[derive(Clone, Copy, PartialEq, Eq, PartialOrd, Ord)]
 pub(crate) struct Waiting {
-    // It rises with the distance, and of equal distances from networks to routers.
+    // Twice the distance, plus 1 for a router, so that networks come first at equal distances.
     rank: u64,
     number: u32,
-    // Where the vertex is looked for first. It decides nothing, so it is compared last.
+    // The vertex's hint. No result depends on it, so it is compared last.
     place: u32,
 }
 
@@ -31,7 +33,7 @@ impl Waiting {
         }
     }
 
-    // The vertex, with its place.
+    // Returns the vertex with its hint.
     pub(crate) fn vertex(&self) -> HintedVertex
         ensures { result ≡ waiting_vertex self.now }
     {
@@ -43,7 +45,7 @@ impl Waiting {
         HintedVertex::new(vertex, self.place)
     }
 
-    // Whether the distance is that at which the vertex was put there.
+    // Returns true if this is the distance of the entry.
     pub(crate) fn is_at(&self, distance: u32) -> bool
         ensures { IsTrue result ↔ (self.now.rank ≡ rank (waiting_vertex self.now) distance) }
     {

@@ -1,4 +1,4 @@
-//! Words of a command line that write a number or a network.
+//! The numbers and networks that words of a command line write.
 #![tactic(auto)]
 
 mod reading;

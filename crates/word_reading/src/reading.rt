@@ -1,4 +1,4 @@
-//! A number or a network has one spelling. Any other word writes none.
+//! The numbers and networks that words write. Each has one spelling, and no other word writes it.
 ghost use Rattle.std.specs.Prelude.{ℕ, ◌≡◌, ◌↔◌, IfSome, IsNone, IsTrue};
 ghost use Rattle.ospf_types.specs.declared.prefix.Prefix.{Prefix};
 ghost use Rattle.word_reading.specs.Writing.{IsNetwork, IsNetworkOf, IsUnpadded, WritesNetwork, WritesNumber, network_at};
@@ -6,8 +6,8 @@ ghost use Rattle.word_reading.specs.Writing.{IsNetwork, IsNetworkOf, IsUnpadded,
 use ospf_types::address::Address;
 use ospf_types::prefix::Prefix;
 
-/// The number that the word writes: decimal digits without leading zeros and without a sign, at most
-/// 4294967295.
+/// Returns the number that the word writes: decimal digits without a sign or leading zeros, at most
+/// 4294967295. Returns `None` for any other word.
 pub fn number_of(word: &str) -> Option<u32>
     ensures some { IfSome result (WritesNumber word.now) }
     ensures none { IsNone result → (n : ℕ) → ¬ WritesNumber word.now n }
@@ -18,8 +18,8 @@ pub fn number_of(word: &str) -> Option<u32>
     word.parse().ok()
 }
 
-/// The network that the word writes: an address, `/` and a length of 0 to 32, with no bit set past
-/// the length, as `203.0.113.0/25`.
+/// Returns the network that the word writes: an address, `/` and a length of 0 to 32, with no bit
+/// set past the length, as in `203.0.113.0/25`. Returns `None` for any other word.
 pub fn network_of(word: &str) -> Option<Prefix>
     ensures some { IfSome result (WritesNetwork word.now) }
     ensures none { IsNone result → (p : Prefix) → ¬ WritesNetwork word.now p }
@@ -30,7 +30,7 @@ pub fn network_of(word: &str) -> Option<Prefix>
     prefix_of(address.0, length)
 }
 
-// The network with this address and length, if it is one.
+// Returns the network with this address and length, or `None` if there is no such network.
 fn prefix_of(address: u32, length: u32) -> Option<Prefix>
     ensures some { IfSome result (IsNetworkOf address length) }
     ensures none { IsNone result → ¬ IsNetwork (network_at address length) }
@@ -46,7 +46,7 @@ fn prefix_of(address: u32, length: u32) -> Option<Prefix>
     }
 }
 
-// Whether no sign and no zero stands before a digit.
+// Returns true if the word is not empty and has no plus sign or zero before its other digits.
 fn is_unpadded(word: &[u8]) -> bool
     ensures { IsTrue result ↔ IsUnpadded word.now }
 {

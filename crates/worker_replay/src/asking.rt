@@ -1,4 +1,4 @@
-//! The lines of a recording: the events apart, and what each line asks.
+//! The lines of a recording, taken apart: the events, and the output that each line asks for.
 ghost use Rattle.std.specs.Prelude.{◌≡◌, ◌++◌, ◌||◌, ◌∷◌, [], IfOk, OnOk, reverse};
 ghost use Rattle.worker_replay.specs.Runs.{events_of, has_roll};
 ghost use Rattle.worker_replay.specs.Parts.{ask_of, asks_of, is_roll};
@@ -9,7 +9,7 @@ use ospf_types::memory::Memory;
 use recording::Line;
 use std::alloc::Global;
 
-/// What a line asks to be printed.
+/// The output that a line asks for.
 #[derive(Clone, Copy)]
 pub(crate) enum Ask {
     /// The answer to the next event.
@@ -20,18 +20,20 @@ pub(crate) enum Ask {
     Roll { is_last: bool },
 }
 
-/// The lines of a recording, set apart.
+/// The lines of a recording, taken apart.
 #[derive(Drop)]
 pub(crate) struct Apart {
-    /// The events, in their order.
+    /// The events, in order.
     pub(crate) events: Vec<Event>,
-    /// What each line asks.
+    /// The output that each line asks for.
     pub(crate) asks: Vec<Ask>,
-    /// Whether one of the lines is a roll.
+    /// True if one of the lines is a roll.
     pub(crate) rolls: bool,
 }
 
-/// The events of the lines, and what each line asks. It goes from the last line to the first, so that the last roll is known.
+/// Returns the events of the lines, and the output that each line asks for.
+///
+/// It takes the lines from the last to the first, so that it knows the last roll.
 pub(crate) fn set_all_apart(alloc: Global, lines: Vec<Line>) -> Result<Apart, Memory>
     ensures events { IfOk result (λ apart. apart.events.items ≡ events_of lines.items) }
     ensures asks { IfOk result (λ apart. apart.asks.items ≡ asks_of lines.items) }
@@ -51,8 +53,9 @@ pub(crate) fn set_all_apart(alloc: Global, lines: Vec<Line>) -> Result<Apart, Me
     })
 }
 
-// Sets a line apart that stands before all that were. Events and what is asked are kept backwards. Whether one of the lines
-// is a roll is handed in, and handed back.
+// Takes apart the line before those that were taken apart already. Both lists are in reverse order.
+// `rolls` is true if one of those later lines is a roll. Returns true if this line or a later one
+// is.
 fn set_apart(
     line: Line,
     rolls: bool,

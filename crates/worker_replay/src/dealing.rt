@@ -1,4 +1,4 @@
-//! Events are dealt to lists in turn, and their answers are collected again.
+//! Events are dealt to lists in turn, and their answers are collected in order.
 ghost use Rattle.std.specs.Prelude.{◌≡◌, ◌<◌, List, [], ◌∷◌, length, map, reverse, IfOk, OnOk};
 ghost use Rattle.event_state.specs.declared.event.Event.{Event as EventValue};
 ghost use Rattle.publication.specs.Names.{Name};
@@ -9,10 +9,10 @@ use engine::{Answer, Event, Refused};
 use ospf_types::memory::Memory;
 use std::alloc::Global;
 
-/// The answers to a list of events, each at the place of its event.
+/// The answers to a list of events, in the order of the events.
 pub(crate) type Answers = Vec<Result<Answer, Refused>>;
 
-/// Deals the events to so many lists in turn. The first event is the first of the first list.
+/// Deals the events to `count` lists in turn. The first event is the first of the first list.
 pub(crate) fn deal(
     alloc: Global,
     events: Vec<Event>,
@@ -43,8 +43,8 @@ fn empty_lists(alloc: Global, count: usize) -> Result<Vec<Vec<Event>>, Memory>
     Ok(lists)
 }
 
-// Deals an event that comes before all that were dealt: these go to the list behind then, those of the last list to the first.
-// Each list is kept backwards.
+// Deals an event that comes before all dealt ones. Each list moves up by one, the last one to the
+// front, and the event is added to the first. Each list is in reverse order.
 fn deal_before(lists: &mut Vec<Vec<Event>>, event: Event) -> Result<(), Memory>
     requires { 0 < length lists.old.items }
     ensures dealt { (events : List EventValue)
@@ -58,7 +58,8 @@ fn deal_before(lists: &mut Vec<Vec<Event>>, event: Event) -> Result<(), Memory>
     Ok(())
 }
 
-/// The answers to so many events, in the order of the events, whose lists had been dealt in turn.
+/// Returns the answers to `count` events in the order of the events, which were dealt to the lists
+/// in turn.
 pub(crate) fn collect(alloc: Global, lists: Vec<Answers>, count: usize) -> Result<Answers, Memory>
     ensures { IfOk result (λ answers. (name : Name) (events : List EventValue) → length events
         ≡ count → AreAnsweredDealt name events (map (λ list. list.items) lists.items)
@@ -75,7 +76,8 @@ pub(crate) fn collect(alloc: Global, lists: Vec<Answers>, count: usize) -> Resul
     Ok(answers)
 }
 
-// Takes the first answer of the first list, which is the last list then. Each list is kept backwards.
+// Removes the first answer of the first list, which then becomes the last list. Each list is in
+// reverse order.
 fn take_next(lists: &mut Vec<Answers>) -> Option<Result<Answer, Refused>>
     ensures { (name : Name) (events : List EventValue)
         → AreAnsweredDealt name events (map (λ list. reverse list.items) lists.old.items)

@@ -6,16 +6,16 @@ use replay::ReplayFault;
 use std::fmt;
 use thiserror::Error;
 
-/// Why a replay over several workers ended early.
+/// The reason why a replay over several workers ended early.
 #[derive(Clone, Copy, Debug, PartialEq, Eq, Error)]
 pub enum WorkerReplayFault {
-    /// What ends a replay on one thread too.
+    /// A reason that ends a replay on one thread too.
     Replay(ReplayFault),
-    /// A worker's thread could not be started.
+    /// A worker's thread that could not be started.
     Spawn,
-    /// There was no place for a reader of the published table.
+    /// A reader for which there was no slot at the published table.
     Place,
-    /// A look-up got no entry to the published table.
+    /// A lookup that could not enter the published table.
     NoEntry,
 }
 

@@ -1,4 +1,4 @@
-//! A forwarder learns the tokens that came with answers.
+//! The tokens of answers, which a forwarder learns.
 ghost use Rattle.std.specs.Prelude.{◌≡◌, All, IfOk, IfSome, map};
 ghost use mathlib.Core.List.{IsPrefix};
 ghost use Rattle.worker_replay.specs.Runs.{IsAfter, reply_of, told_of};
@@ -9,10 +9,10 @@ use engine::{Answer, Forwarder, Refusal, Refused, Reply, Told};
 use ospf_types::memory::Memory;
 use std::alloc::Global;
 
-/// What is printed of answers: the reply or the refusal of each.
+/// The reply or the refusal of each answer.
 pub(crate) type Replies = Vec<Result<Reply, Refusal>>;
 
-/// Learns the tokens of the answers, and keeps what is printed of them.
+/// Learns the tokens of the answers. Returns the forwarder, and the replies and refusals.
 pub(crate) fn learn_all(
     alloc: Global,
     mut forwarder: Forwarder,
@@ -32,7 +32,7 @@ pub(crate) fn learn_all(
     Ok((forwarder, replies))
 }
 
-// The token, and the reply or the refusal.
+// Returns the token, and the reply or the refusal.
 fn parts(answer: Result<Answer, Refused>) -> (Option<Told>, Result<Reply, Refusal>)
     ensures told { result.0 ≡ told_of answer }
     ensures reply { result.1 ≡ reply_of answer }

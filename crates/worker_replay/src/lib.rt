@@ -1,5 +1,7 @@
-//! Replays over several workers: the events of a recording are dealt to the threads of an engine, and what came of them is
-//! printed in the order of its lines.
+//! Replays over several workers.
+//!
+//! The events of a recording are dealt in turn to the threads of an engine, and the outcome is
+//! printed in the order of the lines.
 #![tactic(auto)]
 
 mod asking;

@@ -1,4 +1,4 @@
-//! The output, written: what the lines printed, and what is shown behind it.
+//! The output of a run: the printed lines, and the state that is shown after them.
 ghost use Rattle.std.specs.Prelude.{◌≡◌, ◌⊎◌, [], OnOk, IfErr, string_bytes};
 ghost use Rattle.engine.specs.Cores.{state_of};
 ghost use Rattle.engine.specs.Listings.{AreLsas};
@@ -19,7 +19,7 @@ use replay::{
 };
 use std::io;
 
-/// The core that a run left, and the version in which its journal is written.
+/// The core after a run, and the version in which its journal is written.
 #[derive(Clone, Copy)]
 pub(crate) struct RunEnd<'a> {
     pub(crate) version: Version,
@@ -27,7 +27,8 @@ pub(crate) struct RunEnd<'a> {
 }
 
 impl RunEnd<'_> {
-    /// Writes what `show` names of the core, and before it what was printed of the lines.
+    /// Writes the printed lines, and then the state of the core that `printing.show` names. A
+    /// journal is written without the lines.
     pub(crate) fn write<W: io::Write>(
         self,
         printed: String,
@@ -125,7 +126,7 @@ fn write_lsdb<W: io::Write>(
     Ok(())
 }
 
-// On an empty buffer.
+// Writes the journal, from an empty buffer.
 fn write_journal<W: io::Write>(
     format: Format,
     version: Version,

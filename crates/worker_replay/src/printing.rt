@@ -1,4 +1,4 @@
-//! The lines of a run, printed in their order.
+//! The lines of a run, printed in order.
 ghost use Rattle.std.specs.Prelude.{◌≡◌, ◌++◌, ◌+◌, ◌<◌, ◌^◌, [], ◌∷◌, length, OnOk, IfOk, string_bytes};
 ghost use Rattle.route_table.specs.declared.table.Match.{Match};
 ghost use Rattle.route_table.specs.Tables.{IsMatch};
@@ -14,10 +14,10 @@ use output_format::Format;
 use replay::{put_answer, put_found, put_roll};
 use route_table::Match;
 
-/// What a roll was answered: the serial, or its refusal. `None` where there was none.
+/// The answer to a roll: the serial, or its refusal. `None` if there was no roll.
 pub(crate) type Rolled = Option<Result<u64, Refusal>>;
 
-/// What the lines of a run print from, beside the replies: the answer to the roll, and the table that is seen.
+/// The outcome of a run, except for its replies: the answer to the roll, and the published table.
 #[derive(Clone, Copy)]
 pub(crate) struct Outcome<'a> {
     pub(crate) rolled: Rolled,
@@ -27,8 +27,10 @@ pub(crate) struct Outcome<'a> {
 }
 
 impl Outcome<'_> {
-    /// Appends what comes of each line: the match of its address in the table that is seen; the answer to the roll, in the place
-    /// of the last line that asks for it; or, for an event, the next of the replies. The lines are numbered from `first` on.
+    /// Appends the output of each line. The lines are numbered from `first` on.
+    ///
+    /// A lookup prints its match in the table that is seen. The last roll prints the answer to the
+    /// roll, and an event prints the next of the replies.
     pub(crate) fn put_lines(
         self,
         first: usize,
@@ -51,7 +53,7 @@ impl Outcome<'_> {
         Ok(())
     }
 
-    // Appends what one line prints. The replies that are left are handed back.
+    // Appends the output of one line. Returns the replies that are left.
     fn put_line<'a>(
         self,
         number: usize,
@@ -84,7 +86,7 @@ impl Outcome<'_> {
     }
 }
 
-// The match of the address in the table that is seen.
+// Appends the line of a lookup in the table that is seen.
 fn put_lookup(
     format: Format,
     number: usize,
@@ -101,7 +103,7 @@ fn put_lookup(
         address,
         serial: seen.serial(),
     };
-    // proof: a match that is kept in a variable is not told to the borrow checker as one that may hold a route.
+    // proof: the borrow checker would not see that a match kept in a variable may borrow a route.
     match seen.find(address) {
         Match::Route(network, entry) => {
             let found = Match::Route(network, entry);
@@ -112,7 +114,7 @@ fn put_lookup(
     }
 }
 
-// The answer to the roll, in the place of the last line that asks for it.
+// Appends the answer to the roll, at the last line that asks for it.
 fn put_rolled(
     format: Format,
     number: usize,

@@ -1,4 +1,4 @@
-//! A replay over several workers.
+//! A whole replay over several workers, from its input to its output.
 ghost use Rattle.std.specs.Prelude.{◌≡◌, ◌≤◌, ◌⊎◌, ℕ, List, OnOk};
 ghost use Rattle.replay.specs.Inputs.{ReadsAll};
 ghost use Rattle.replay.specs.declared.buffer.PrintError.TheVariants as stop;
@@ -22,17 +22,31 @@ use std::thread::Threads;
 /// The options of a replay.
 #[derive(Clone, Copy, Debug, PartialEq, Eq)]
 pub struct ReplayOptions {
-    /// How many workers there are, 1 to 16.
+    /// The number of workers, 1 to 16.
     pub workers: usize,
-    /// What is written. It is not shown how much is done, since several workers take lines at the same time.
+    /// The options of the output. Progress is not shown, since several workers take lines at the
+    /// same time.
     pub printing: PrintOptions,
 }
 
-/// Reads its input to the end as a recording, submits its events to an engine from `options.workers` threads, and writes what
-/// `options.printing` names. The events of a thread are submitted in their order, those of two threads in any; the look-ups see
-/// all that were answered `Current`. Where it ends early nothing is written, but for a failed write, or want of memory while
-/// writing: then a beginning of the output. Something is missing where a write failed, and no line is cut where memory ran out.
-/// A failed write is told as `Closed` where the writer's error is of the kind `BrokenPipe`, and else as `Write`.
+/// Reads the input to its end as a recording, runs it over an engine, and writes what
+/// `options.printing` names.
+///
+/// The events are submitted by `options.workers` threads. Each thread submits its events in order,
+/// but the events of two threads may come in any order. The lookups see all events that were
+/// answered `Current`. A journal may lack events that were refused with 30 Memory.
+///
+/// # Errors
+///
+/// - `Replay(Read)` if the input cannot be read. Nothing is written.
+/// - `Replay(Line)` if a line has a fault, or memory runs out at that line. Nothing is written.
+/// - `Spawn` if a worker's thread cannot be started. Nothing is written.
+/// - `Place` if there is no slot for a reader of the published table. Nothing is written.
+/// - `NoEntry` if a lookup cannot enter the published table. Nothing is written.
+/// - `Replay(Closed)` if a write fails with an error of the kind `BrokenPipe`, and `Replay(Write)`
+///   if it fails otherwise. A beginning of the output may be written, but not all of it.
+/// - `Replay(Memory)` if memory runs out. A beginning of the output may be written, which has no
+///   cut line.
 pub fn replay_many<S: Threads + Wait + Sync, R: io::Read, W: io::Write>(
     rt: &S,
     alloc: Global,

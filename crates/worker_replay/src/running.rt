@@ -1,4 +1,4 @@
-//! A recording is run over an engine.
+//! The run of a recording over an engine.
 ghost use Rattle.std.specs.Prelude.{◌≡◌, ◌<◌, ◌≤◌, ◌+◌, ◌^◌, length, IfOk, IfErr, IfSome, None, MatchResult, is_some, string_bytes};
 ghost use Rattle.event_state.specs.BaseFaults.{base_fault_of};
 ghost use Rattle.event_state.specs.Steps.{standard_limits};
@@ -23,7 +23,8 @@ use std::hash::RandomState;
 use std::sync::Wait;
 use std::thread::Threads;
 
-/// Runs a recording over an engine with so many workers: what its lines print, and the core that the engine leaves.
+/// Runs a recording over an engine with this number of workers. Returns the printed lines, and the
+/// core that the engine leaves.
 pub(crate) fn run_recording<S: Threads + Wait + Sync>(
     rt: &S,
     alloc: Global,
@@ -46,7 +47,7 @@ pub(crate) fn run_recording<S: Threads + Wait + Sync>(
     Ok((printed?, core))
 }
 
-// An engine with one reader. The base of a recording has no fault.
+// Opens an engine with one forwarder. The base of a recording has no fault.
 fn open_engine<S: Wait>(
     rt: &S,
     alloc: Global,
@@ -71,7 +72,7 @@ fn open_engine<S: Wait>(
     }
 }
 
-// The lines of a recording behind its base, numbered from `first` on.
+// The lines of a recording after its base, numbered from `first` on.
 #[derive(Drop)]
 struct NumberedLines {
     first: usize,
@@ -79,8 +80,8 @@ struct NumberedLines {
 }
 
 impl NumberedLines {
-    // Submits the events of the lines, rolls once behind the last of them, if a line asks for it, and then looks once for all
-    // look-ups: what the lines print.
+    // Submits the events of the lines, and rolls once after the last of them, if a line asks for
+    // it. Then it enters the published table once for all lookups, and returns the printed lines.
     fn run<S: Threads + Wait + Sync>(
         self,
         rt: &S,
@@ -117,7 +118,7 @@ impl NumberedLines {
     }
 }
 
-// Rolls the engine, if it is asked for.
+// Rolls the engine, if a line asks for it.
 fn roll<S: Wait>(rt: &S, engine: &Engine, is_asked: bool) -> Rolled
     ensures asked { is_some result ≡ is_asked }
     ensures answer { IfSome result (λ answer. MatchResult answer (IsRolledSerial engine.now.base)
@@ -130,7 +131,7 @@ fn roll<S: Wait>(rt: &S, engine: &Engine, is_asked: bool) -> Rolled
     }
 }
 
-// Submits the events with so many workers. The answers are in the order of the events.
+// Submits the events with this number of workers. Returns the answers in the order of the events.
 fn submit<S: Threads + Wait + Sync>(
     rt: &S,
     alloc: Global,
@@ -152,7 +153,8 @@ fn submit<S: Threads + Wait + Sync>(
     }
 }
 
-// What the lines ask, numbered from `first` on, with the answers to the events and to the roll.
+// The output that the lines ask for, numbered from `first` on, with the replies to the events and
+// the answer to the roll.
 struct AnsweredLines {
     first: usize,
     asks: Vec<Ask>,
@@ -161,7 +163,7 @@ struct AnsweredLines {
     format: Format,
 }
 
-// proof: one call drops it, in place of a drop of each part wherever one is held.
+// proof: a value is dropped by one call, not part by part at each exit of a function.
 impl Drop for AnsweredLines {
     fn drop(self) {
         let AnsweredLines {
@@ -175,7 +177,7 @@ impl Drop for AnsweredLines {
 }
 
 impl AnsweredLines {
-    // Looks once at the published table, and prints the lines.
+    // Enters the published table once, and prints the lines.
     fn look(self, alloc: Global, forwarder: Forwarder) -> Result<String, WorkerReplayFault>
         requires replies { HasAllReplies self.asks.items self.replies.items }
         requires few { self.first + length self.asks.items < 2 ^ 64 }

@@ -4,7 +4,7 @@ use anyhow::Result;
 use lsa_codec::{Checked, read, sum_of};
 use std::alloc::Global;
 
-/// What stands in the header of an LSA.
+/// Fields of the header of an LSA.
 #[derive(Clone, Copy)]
 pub struct Head {
     pub options: u8,
@@ -12,10 +12,14 @@ pub struct Head {
     pub router: u32,
 }
 
-/// Link ID, Link Data and type of a link.
+/// The Link ID, Link Data and type of a link.
 pub type Fields = (u32, u32, u8);
 
-/// A router-LSA with these links, each at a metric of 10.
+/// Returns a router-LSA with these links, each at metric 10.
+///
+/// # Errors
+///
+/// Returns an error if there are too many links, or if memory runs out.
 pub fn router_lsa(alloc: Global, head: Head, links: &[Fields]) -> Result<Checked> {
     let [high, low] = u16::try_from(links.len())?.to_be_bytes();
     let mut body = Vec::from_slice(alloc, &[0, 0, high, low])?;
@@ -25,7 +29,11 @@ pub fn router_lsa(alloc: Global, head: Head, links: &[Fields]) -> Result<Checked
     lsa(alloc, 1, head, &body)
 }
 
-/// A summary-LSA for a network.
+/// Returns a summary-LSA for a network.
+///
+/// # Errors
+///
+/// Returns an error if the LSA has a fault, or if memory runs out.
 pub fn summary_lsa(alloc: Global, head: Head, mask: u32, metric: u32) -> Result<Checked> {
     let [a, b, c, d] = mask.to_be_bytes();
     let [_, e, f, g] = metric.to_be_bytes();
@@ -46,7 +54,7 @@ fn lsa(alloc: Global, kind: u8, head: Head, body: &[u8]) -> Result<Checked> {
     Ok(read(alloc, &bytes)?)
 }
 
-// The bytes of the header, without a checksum.
+// Returns the bytes of the header, with checksum 0.
 fn header(kind: u8, head: Head, length: u16) -> [u8; 20] {
     let [a, b, c, d] = head.id.to_be_bytes();
     let [e, f, g, h] = head.router.to_be_bytes();

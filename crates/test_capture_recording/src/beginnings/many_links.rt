@@ -1,20 +1,20 @@
-//! Two routers with many links: as many as a router-LSA holds, nearly.
+//! Two routers, each with nearly as many links as a router-LSA holds.
 
 use crate::beginnings::bytes::Fields;
 use anyhow::Result;
 use std::alloc::Global;
 
-/// How many links each has.
+/// The number of links of each router.
 const MANY: u32 = 5_400;
 
-/// The neighbour.
+/// The Router ID of the neighbour.
 pub const NEIGHBOUR: u32 = 0x0a00_0001;
 
-/// 203.0.0.0, from which on the neighbour's addresses are.
+/// The first address of the neighbour, 203.0.0.0.
 const FIRST_PEER: u32 = 0xcb00_0000;
 
-/// Point-to-point links from 10.1.0.0 on, stub links to three networks around them, and host routes, of which the last is to
-/// the last address of the neighbour.
+/// Returns point-to-point links from the addresses 10.1.0.0 up, stub links to three networks around
+/// them, and host routes. The last host route is to the neighbour's last address.
 pub fn own_links(alloc: Global) -> Result<Vec<Fields>> {
     let mut links = Vec::new(alloc);
     for number in 0..255u32 {
@@ -30,7 +30,8 @@ pub fn own_links(alloc: Global) -> Result<Vec<Fields>> {
     Ok(links)
 }
 
-/// Point-to-point links to the router. Only the last begins at an address that a link of the router joins with its own.
+/// Returns point-to-point links to the router. Only the last one begins at an address to which the
+/// router has a host route.
 pub fn links_back(alloc: Global, router: u32) -> Result<Vec<Fields>> {
     let mut links = Vec::new(alloc);
     for number in 0..MANY {

@@ -1,8 +1,8 @@
-//! What a border router and its neighbours say.
+//! LSAs of a border router and its neighbours.
 
 use crate::beginnings::bytes::Fields;
 
-/// A router-LSA.
+/// The fields of a router-LSA.
 #[derive(Clone, Copy)]
 pub struct RouterSample {
     /// The Area ID.
@@ -12,12 +12,12 @@ pub struct RouterSample {
     pub links: &'static [Fields],
 }
 
-/// A summary-LSA for a network.
+/// The fields of a summary-LSA for a network.
 #[derive(Clone, Copy)]
 pub struct SummarySample {
     /// The Area ID.
     pub area: u32,
-    /// Link State ID.
+    /// The Link State ID.
     pub id: u32,
     pub router: u32,
     pub mask: u32,
@@ -79,8 +79,11 @@ pub const ROUTERS: [RouterSample; 8] = [
     },
 ];
 
-/// In the backbone: a point-to-point link to 10.0.0.1 with its host route, a transit network, a point-to-point link to
-/// 10.0.0.3 with its subnet, a stub network, a virtual link, and a point-to-point link to a router that is silent.
+/// The links of the router in the backbone.
+///
+/// They are a point-to-point link to 10.0.0.1 with its host route, a transit network, and a
+/// point-to-point link to 10.0.0.3 with its subnet. Then there are a stub network, a virtual link,
+/// and a point-to-point link to a router without a router-LSA.
 const BACKBONE: [Fields; 8] = [
     (0x0a00_0001, 0xc000_0201, 1),
     (0xc000_0202, 0xffff_ffff, 3),
@@ -92,8 +95,8 @@ const BACKBONE: [Fields; 8] = [
     (0x0a00_0005, 0xc000_0209, 1),
 ];
 
-/// The summary-LSAs: a default route in area 1 that costs 7, then 9, and then leaves; a default route and a network in area
-/// 4; and a default route of another router in area 2.
+/// The summary-LSAs. In area 1 a default route has metric 7, then 9, and then LSInfinity. Area 4
+/// has a default route and a network, and area 2 has a default route of another router.
 pub const SUMMARIES: [SummarySample; 6] = [
     SummarySample {
         area: 1,

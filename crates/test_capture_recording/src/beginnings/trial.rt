@@ -1,4 +1,4 @@
-//! What is known of a router, and what is printed of that.
+//! The captured configuration of a router, and its text.
 
 use anyhow::Result;
 use captured_config::{CapturedConfig, SeenAreas};
@@ -7,14 +7,14 @@ use std::alloc::Global;
 use std::fmt::Write;
 use std::hash::RandomState;
 
-/// The areas and LSAs so far, and the lines.
+/// The areas and the configuration so far, and the text.
 pub struct Trial {
     areas: SeenAreas,
     config: CapturedConfig,
     text: String,
 }
 
-// proof: one call drops it, in place of a drop of each part wherever one is held.
+// proof: a value is dropped by one call, not part by part at each exit of a function.
 impl Drop for Trial {
     fn drop(self) {
         let Trial {
@@ -44,14 +44,18 @@ impl Trial {
         Ok(())
     }
 
-    /// The beginning of the recording, and what the capture does not tell.
+    /// Appends the preamble of the recording, and the unknown parts of the configuration.
+    ///
+    /// # Errors
+    ///
+    /// Returns an error if there is no preamble, or if memory runs out.
     pub fn put(&mut self, alloc: Global) -> Result<()> {
         self.config.put_preamble(alloc, &self.areas, &mut self.text)?;
         self.config.put_unknown(&self.areas, &mut self.text)?;
         Ok(())
     }
 
-    /// Why there is no beginning of the recording.
+    /// Appends the reason why there is no preamble of the recording.
     pub fn put_fault(&mut self, alloc: Global) -> Result<()> {
         if let Err(fault) = self.config.put_preamble(alloc, &self.areas, &mut self.text) {
             write!(self.text, "{} areas: {fault}", self.areas.count())?;

@@ -3,7 +3,7 @@
 use std::alloc::Global;
 use std::io;
 
-/// Gives its bytes, and then the end, or an error.
+/// An input that gives its bytes, and then the end or an error.
 #[derive(Drop)]
 pub struct Input<'a> {
     left: &'a [u8],
@@ -25,7 +25,7 @@ impl io::Read for Input<'_> {
     }
 }
 
-/// Takes so many bytes. Then a write fails.
+/// An output that takes `room` bytes, after which a write fails.
 #[derive(Drop)]
 pub struct Output {
     taken: Vec<u8>,
@@ -42,7 +42,7 @@ impl Output {
         }
     }
 
-    /// What it took.
+    /// Returns the bytes that it took.
     pub fn taken(&self) -> &[u8] {
         self.taken.as_slice()
     }

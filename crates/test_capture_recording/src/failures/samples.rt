@@ -1,16 +1,20 @@
 //! A capture of two packets.
 
-/// The recording that stands before.
+/// The preamble of the recording.
 pub const FRONT: &[u8] = b"abr 1\nrouter 10.0.0.1\narea 0.0.0.0 normal\n";
 
-/// How many bytes the header of the capture has.
+/// The length of the header of the capture, in bytes.
 pub const HEADER: usize = 24;
 
-/// How many bytes its header and its first packet have.
+/// The length of the header and the first packet, in bytes.
 pub const FIRST: usize = 150;
 
-/// The header of a pcap of Ethernet; a Link State Update of 192.0.2.1 with the router-LSA of 10.0.0.1; and eight bytes of OSPF of
-/// 192.0.2.2, which are no packet. The first was captured 1700000000.5 seconds after 1970 began, the second half a second later.
+/// A pcap of Ethernet with two packets. The first is a Link State Update of 192.0.2.1 with the
+/// router-LSA of 10.0.0.1. The second is eight bytes of OSPF of 192.0.2.2, which are not a valid
+/// packet.
+///
+/// The first was captured 1700000000.5 seconds after 1970 began, and the second half a second
+/// later.
 pub const CAPTURE: [u8; 208] = [
     0xd4, 0xc3, 0xb2, 0xa1, 0x02, 0x00, 0x04, 0x00, 0x00, 0x00, 0x00, 0x00, 0x00, 0x00, 0x00, 0x00,
     0xff, 0xff, 0x00, 0x00, 0x01, 0x00, 0x00, 0x00, 0x00, 0xf1, 0x53, 0x65, 0x20, 0xa1, 0x07, 0x00,

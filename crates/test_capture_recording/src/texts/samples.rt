@@ -1,4 +1,4 @@
-//! What may be recorded of packets.
+//! Packets and their recorded LSAs.
 
 use anyhow::{Result, bail};
 use captured_lsas::{Recorded, Taken};
@@ -7,7 +7,7 @@ use ospf_types::key::Scope;
 use packets::{PacketKind, UpdateFault};
 use std::alloc::Global;
 
-/// 10.0.0.2.
+/// The Router ID 10.0.0.2.
 const ROUTER: u32 = 0x0a00_0002;
 
 /// A network-LSA at MaxAge.
@@ -24,12 +24,13 @@ const EXTERNAL: [u8; 36] = [
     0x00, 0x00, 0x00, 0x00,
 ];
 
-/// A packet of which only its seconds are recorded.
+/// Returns a packet without LSAs, of which only the seconds are recorded.
 pub fn without_lsas(alloc: Global, kind: PacketKind, seconds: u64) -> Taken {
     taken(kind, seconds, Vec::new(alloc))
 }
 
-/// A Link State Update a second behind the first: an LSA, one that was given before, and one at fault.
+/// Returns a Link State Update after one second: an LSA, one that was given before, and one with a
+/// fault.
 pub fn one_each(alloc: Global) -> Result<Taken> {
     let mut recorded = Vec::new(alloc);
     recorded.push(external(alloc)?)?;
@@ -38,8 +39,8 @@ pub fn one_each(alloc: Global) -> Result<Taken> {
     Ok(taken(PacketKind::LinkStateUpdate, 1, recorded))
 }
 
-/// A Link State Update two seconds behind the first: an LSA at MaxAge and one that is not, two that were given before, one
-/// at fault, and one that is cut off.
+/// Returns a Link State Update after two seconds: an LSA at MaxAge and one below it, two that were
+/// given before, one with a fault, and one that is cut off.
 pub fn two_each(alloc: Global) -> Result<Taken> {
     let mut recorded = Vec::new(alloc);
     recorded.push(network(alloc)?)?;

@@ -1,11 +1,15 @@
-//! A capture that is read to its end.
+//! A capture that is read to its end, and its text.
 
 use anyhow::Result;
 use captures::{Capture, FaultKind, Packet, Part};
 use std::alloc::Global;
 use std::fmt::Write;
 
-/// A line for each part of a capture whose bytes come so many at a time.
+/// Returns a line for each part of a capture that gets `step` bytes at a time.
+///
+/// # Errors
+///
+/// Returns an error if memory runs out. A fault of the capture is the last line.
 pub fn read_all(alloc: Global, bytes: &[u8], step: usize) -> Result<String> {
     let mut text = String::new(alloc);
     let mut capture = Capture::new(alloc);
@@ -44,7 +48,7 @@ pub fn read_all(alloc: Global, bytes: &[u8], step: usize) -> Result<String> {
     Ok(text)
 }
 
-// Where the input has ended: the end of the capture, or it is cut off.
+// Appends the last line: the capture has ended, or it is cut off.
 fn put_end(text: &mut String, capture: &Capture, rest: &[u8]) -> Result<()> {
     if rest.is_empty() && capture.has_begun() {
         writeln!(text, "  end")?;

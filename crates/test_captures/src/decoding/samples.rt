@@ -1,6 +1,6 @@
-//! Captures, field behind field.
+//! Captures, field by field.
 
-/// A pcap in the lower byte first, with microseconds: 4 bytes of 60, then none of 42. The link type has the
+/// A little-endian pcap with microseconds: 4 bytes of 60, then 0 of 42. The link type has the
 /// length of a frame check sequence in its high bits.
 pub(crate) const MICROSECONDS: [u8; 60] = [
     0xd4, 0xc3, 0xb2, 0xa1, 2, 0, 4, 0, 0, 0, 0, 0, 0, 0, 0, 0, 0, 0, 4, 0, 1, 0, 0, 0x24, 0, 0xf1,
@@ -8,14 +8,14 @@ pub(crate) const MICROSECONDS: [u8; 60] = [
     0x3f, 0x42, 0x0f, 0, 0, 0, 0, 0, 0x2a, 0, 0, 0,
 ];
 
-/// A pcap in the higher byte first, with nanoseconds: 1 byte of 1, on raw IPv4.
+/// A big-endian pcap with nanoseconds: 1 byte of 1, on raw IPv4.
 pub(crate) const NANOSECONDS: [u8; 41] = [
     0xa1, 0xb2, 0x3c, 0x4d, 0, 2, 0, 4, 0, 0, 0, 0, 0, 0, 0, 0, 0, 4, 0, 0, 0, 0, 0, 0xe4, 0, 0, 0,
     1, 0, 0, 0, 2, 0, 0, 0, 1, 0, 0, 0, 1, 0x45,
 ];
 
-/// A pcapng of two sections. The first has the lower byte first, and of its three interfaces the second
-/// counts nanoseconds and takes away a second, and the third counts 1,024 units a second.
+/// A pcapng of two sections. The first is little-endian and has three interfaces. The second
+/// interface counts nanoseconds and subtracts a second, and the third counts 1,024 units a second.
 pub(crate) const SECTIONS: [u8; 388] = [
     0x0a, 0x0d, 0x0d, 0x0a, 0x28, 0, 0, 0, 0x4d, 0x3c, 0x2b, 0x1a, 1, 0, 0, 0, 0xff, 0xff, 0xff,
     0xff, 0xff, 0xff, 0xff, 0xff, 4, 0, 4, 0, 0x74, 0x65, 0x73, 0x74, 0, 0, 0, 0, 0x28, 0, 0, 0, 1,
@@ -35,10 +35,10 @@ pub(crate) const SECTIONS: [u8; 388] = [
     0, 0, 5, 0, 0, 0, 1, 0, 0, 0, 1, 0x28, 0, 0, 0, 0, 0, 0, 0x24,
 ];
 
-/// No capture: a picture.
+/// The start of a picture, which is not a capture.
 pub(crate) const NO_MAGIC: [u8; 6] = [0x47, 0x49, 0x46, 0x38, 0x39, 0x61];
 
-/// A section whose byte-order magic is none.
+/// A section with a byte-order magic that is not valid.
 pub(crate) const NO_BYTE_ORDER: [u8; 12] = [
     0x0a, 0x0d, 0x0d, 0x0a, 0x1c, 0, 0, 0, 0x4e, 0x3c, 0x2b, 0x1a,
 ];
@@ -60,32 +60,32 @@ pub(crate) const UNEVEN_BLOCK: [u8; 40] = [
     0xff, 0xff, 0xff, 0xff, 0xff, 0x1c, 0, 0, 0, 4, 0, 0, 0, 0x0e, 0, 0, 0, 0, 0, 0, 0,
 ];
 
-/// An enhanced packet of 28 bytes.
+/// An enhanced packet block of 28 bytes.
 pub(crate) const SHORT_BLOCK: [u8; 40] = [
     0x0a, 0x0d, 0x0d, 0x0a, 0x1c, 0, 0, 0, 0x4d, 0x3c, 0x2b, 0x1a, 1, 0, 0, 0, 0xff, 0xff, 0xff,
     0xff, 0xff, 0xff, 0xff, 0xff, 0x1c, 0, 0, 0, 6, 0, 0, 0, 0x1c, 0, 0, 0, 0, 0, 0, 0,
 ];
 
-/// An interface in 1 MiB and 4 bytes.
+/// An interface block of 1 MiB and 4 bytes.
 pub(crate) const LONG_BLOCK: [u8; 40] = [
     0x0a, 0x0d, 0x0d, 0x0a, 0x1c, 0, 0, 0, 0x4d, 0x3c, 0x2b, 0x1a, 1, 0, 0, 0, 0xff, 0xff, 0xff,
     0xff, 0xff, 0xff, 0xff, 0xff, 0x1c, 0, 0, 0, 1, 0, 0, 0, 4, 0, 0x10, 0, 0, 0, 0, 0,
 ];
 
-/// An interface whose length is another one at its end.
+/// An interface block with another length at its end.
 pub(crate) const OTHER_END: [u8; 48] = [
     0x0a, 0x0d, 0x0d, 0x0a, 0x1c, 0, 0, 0, 0x4d, 0x3c, 0x2b, 0x1a, 1, 0, 0, 0, 0xff, 0xff, 0xff,
     0xff, 0xff, 0xff, 0xff, 0xff, 0x1c, 0, 0, 0, 1, 0, 0, 0, 0x14, 0, 0, 0, 1, 0, 0, 0, 0, 0, 0, 0,
     0x18, 0, 0, 0,
 ];
 
-/// A packet of a pcap with 262,145 bytes.
+/// A pcap with a packet of 262,145 bytes.
 pub(crate) const LONG_PACKET: [u8; 40] = [
     0xd4, 0xc3, 0xb2, 0xa1, 2, 0, 4, 0, 0, 0, 0, 0, 0, 0, 0, 0, 0, 0, 4, 0, 1, 0, 0, 0, 0, 0, 0, 0,
     0, 0, 0, 0, 1, 0, 4, 0, 1, 0, 4, 0,
 ];
 
-/// An enhanced packet with 5 bytes where there is room for 4.
+/// An enhanced packet block with 5 bytes of data and room for 4.
 pub(crate) const PAST_BLOCK: [u8; 84] = [
     0x0a, 0x0d, 0x0d, 0x0a, 0x1c, 0, 0, 0, 0x4d, 0x3c, 0x2b, 0x1a, 1, 0, 0, 0, 0xff, 0xff, 0xff,
     0xff, 0xff, 0xff, 0xff, 0xff, 0x1c, 0, 0, 0, 1, 0, 0, 0, 0x14, 0, 0, 0, 1, 0, 0, 0, 0, 0, 0, 0,
@@ -93,7 +93,7 @@ pub(crate) const PAST_BLOCK: [u8; 84] = [
     0, 0, 0, 0, 0, 0, 0x24, 0, 0, 0,
 ];
 
-/// A packet of the second interface, where there is one.
+/// A packet of the second interface, in a section with one interface.
 pub(crate) const NO_INTERFACE: [u8; 80] = [
     0x0a, 0x0d, 0x0d, 0x0a, 0x1c, 0, 0, 0, 0x4d, 0x3c, 0x2b, 0x1a, 1, 0, 0, 0, 0xff, 0xff, 0xff,
     0xff, 0xff, 0xff, 0xff, 0xff, 0x1c, 0, 0, 0, 1, 0, 0, 0, 0x14, 0, 0, 0, 1, 0, 0, 0, 0, 0, 0, 0,
@@ -101,7 +101,7 @@ pub(crate) const NO_INTERFACE: [u8; 80] = [
     0, 0, 0x20, 0, 0, 0,
 ];
 
-/// A simple packet in a section that has no interface, behind one that has.
+/// A simple packet in a section without an interface, after a section with one.
 pub(crate) const FORGOTTEN: [u8; 92] = [
     0x0a, 0x0d, 0x0d, 0x0a, 0x1c, 0, 0, 0, 0x4d, 0x3c, 0x2b, 0x1a, 1, 0, 0, 0, 0xff, 0xff, 0xff,
     0xff, 0xff, 0xff, 0xff, 0xff, 0x1c, 0, 0, 0, 1, 0, 0, 0, 0x14, 0, 0, 0, 1, 0, 0, 0, 0, 0, 0, 0,
@@ -110,7 +110,7 @@ pub(crate) const FORGOTTEN: [u8; 92] = [
     0x10, 0, 0, 0,
 ];
 
-/// An option that goes past its block.
+/// An option that extends past its block.
 pub(crate) const LONG_OPTION: [u8; 56] = [
     0x0a, 0x0d, 0x0d, 0x0a, 0x1c, 0, 0, 0, 0x4d, 0x3c, 0x2b, 0x1a, 1, 0, 0, 0, 0xff, 0xff, 0xff,
     0xff, 0xff, 0xff, 0xff, 0xff, 0x1c, 0, 0, 0, 1, 0, 0, 0, 0x1c, 0, 0, 0, 1, 0, 0, 0, 0, 0, 0, 0,
@@ -132,12 +132,12 @@ pub(crate) const BEFORE_1970: [u8; 92] = [
     0, 0, 0, 0, 0, 0, 0, 0, 0, 0, 0, 0x40, 0x42, 0x0f, 0, 0, 0, 0, 0, 0, 0, 0, 0, 0x20, 0, 0, 0,
 ];
 
-/// A header of a pcap without its last byte.
+/// The header of a pcap without its last byte.
 pub(crate) const CUT_HEADER: [u8; 23] = [
     0xd4, 0xc3, 0xb2, 0xa1, 2, 0, 4, 0, 0, 0, 0, 0, 0, 0, 0, 0, 0, 0, 4, 0, 1, 0, 0,
 ];
 
-/// A block that is passed over, without its last byte.
+/// A block that is skipped, without its last byte.
 pub(crate) const CUT_BLOCK: [u8; 47] = [
     0x0a, 0x0d, 0x0d, 0x0a, 0x1c, 0, 0, 0, 0x4d, 0x3c, 0x2b, 0x1a, 1, 0, 0, 0, 0xff, 0xff, 0xff,
     0xff, 0xff, 0xff, 0xff, 0xff, 0x1c, 0, 0, 0, 5, 0, 0, 0, 0x14, 0, 0, 0, 0, 0, 0, 0, 0, 0, 0, 0,

@@ -1,4 +1,4 @@
-//! Many LSAs, each heard twice.
+//! Many LSAs, each of which is heard twice.
 
 use anyhow::{Result, ensure};
 use captured_lsas::{Options, Recorded, Recorder, Taken};
@@ -6,10 +6,11 @@ use lsa_codec::sum_of;
 use std::alloc::Global;
 use std::hash::RandomState;
 
-/// How many LSAs there are.
+/// The number of LSAs.
 const MANY: u32 = 1_000;
 
-/// An update with a network-LSA. It is authenticated cryptographically, so its checksum is not looked at.
+/// A Link State Update with a network-LSA. Its checksum is not checked, because the authentication
+/// is cryptographic.
 const UPDATE: [u8; 64] = [
     0x02, 0x04, 0x00, 0x40, 0x0a, 0x00, 0x00, 0x02, 0x00, 0x00, 0x00, 0x00, 0x00, 0x00, 0x00, 0x02,
     0x00, 0x00, 0x00, 0x00, 0x00, 0x00, 0x00, 0x00, 0x00, 0x00, 0x00, 0x01, 0x00, 0x01, 0x02, 0x02,
@@ -17,7 +18,11 @@ const UPDATE: [u8; 64] = [
     0xff, 0xff, 0xff, 0x00, 0x0a, 0x00, 0x00, 0x01, 0x0a, 0x00, 0x00, 0x02, 0x0a, 0x00, 0x00, 0x03,
 ];
 
-/// Each of many LSAs is recorded the first time that it is heard, and not the second.
+/// Records each of many LSAs when it is first heard, and not when it is heard again.
+///
+/// # Errors
+///
+/// Returns an error if an LSA is left out or recorded again, or if memory runs out.
 pub fn ensure_known_again(alloc: Global, hashing: RandomState) -> Result<()> {
     let options = Options {
         keeps_all: false,
@@ -39,7 +44,7 @@ pub fn ensure_known_again(alloc: Global, hashing: RandomState) -> Result<()> {
     Ok(())
 }
 
-// Hears the LSA with the Link State ID. Answers whether it is recorded.
+// Hears the LSA with this Link State ID. Returns true if it is recorded.
 fn is_installed(alloc: Global, recorder: &mut Recorder, id: u32) -> Result<bool> {
     let taken = recorder.take(alloc, None, &update_with(id))?;
     Ok(has_install(&taken))
@@ -55,7 +60,7 @@ fn has_install(taken: &Taken) -> bool {
     }
 }
 
-// The update with this Link State ID in its LSA.
+// Returns the update with this Link State ID in its LSA.
 fn update_with(id: u32) -> [u8; 64] {
     let mut update = UPDATE;
     update[32..36].copy_from_slice(&id.to_be_bytes());

@@ -1,11 +1,15 @@
-//! A capture that is read to its end.
+//! A capture that is read to its end and recorded.
 
 use crate::recorded::session::Session;
 use anyhow::Result;
 use captures::{Capture, Packet, Part};
 use std::alloc::Global;
 
-/// What is recorded of a capture, a line for each event.
+/// Records a capture, with a line for each event.
+///
+/// # Errors
+///
+/// Returns an error if the capture has a fault, or if memory runs out.
 pub fn put_capture(
     alloc: Global,
     capture: &mut Capture,
@@ -28,7 +32,8 @@ pub fn put_capture(
     Ok(())
 }
 
-// The packet in front, if there is one, and the length of what is read; nothing where more bytes are needed.
+// Returns the next packet, if there is one, and the length of the bytes read. Returns `None` if
+// more bytes are needed.
 fn next_part<'a>(
     capture: &mut Capture,
     rest: &'a [u8],

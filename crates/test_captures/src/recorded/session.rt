@@ -1,4 +1,4 @@
-//! What is recorded of packets, as text.
+//! The recording of packets, as text.
 
 use crate::recorded::texts::put_taken;
 use anyhow::Result;
@@ -8,14 +8,14 @@ use std::alloc::Global;
 use std::fmt::Write;
 use std::hash::RandomState;
 
-/// A line for each event so far, and for each packet that brings none.
+/// The lines so far: one for each event, and one for each packet without an event.
 pub struct Session {
     listener: Listener,
     recorder: Recorder,
     text: String,
 }
 
-// proof: one call drops it, in place of a drop of each part wherever one is held.
+// proof: a value is dropped by one call, not part by part at each exit of a function.
 impl Drop for Session {
     fn drop(self) {
         let Session {
@@ -44,7 +44,11 @@ impl Session {
         Ok(())
     }
 
-    /// What a captured packet brings, and what is recorded of it.
+    /// Hears a captured packet, and appends its events or a note.
+    ///
+    /// # Errors
+    ///
+    /// Returns an error if memory runs out.
     pub fn put(&mut self, alloc: Global, packet: &Packet<'_>) -> Result<()> {
         match self.listener.hear(alloc, packet)? {
             Heard::Other => self.note("no OSPF"),

@@ -1,4 +1,4 @@
-//! What is printed of a packet.
+//! The text of recorded packets.
 
 use anyhow::Result;
 use captured_lsas::{Recorded, Taken};
@@ -8,7 +8,11 @@ use ospf_types::key::Scope;
 use std::alloc::Global;
 use std::fmt::Write;
 
-/// What is recorded of the payload of a datagram.
+/// Appends the events of the payload of a datagram, or its fault.
+///
+/// # Errors
+///
+/// Returns an error if memory runs out.
 pub fn put_taken(alloc: Global, sender: u32, taken: Taken, text: &mut String) -> Result<()> {
     match taken {
         Taken::Fault(fault) => writeln!(text, "note: {fault} from {}", Address(sender))?,

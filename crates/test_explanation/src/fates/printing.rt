@@ -1,4 +1,4 @@
-//! What is printed of a candidate: a line, and one for each of its traces.
+//! The text of a candidate: one line, and lines for each of its traces.
 use anyhow::Result;
 use explanation::{Candidate, OfferKind, TraceNode, LsaInstance, Trace};
 use ospf_types::address::Address;

@@ -1,4 +1,4 @@
-//! A table, and what is offered of its networks.
+//! A table, and offers of its networks.
 
 use explanation::{Candidate, Verdict, Offer, OfferKind, TraceNode, LsaInstance, Step, Trace};
 use ospf_types::entry::{Entry, PathType, Paths, Vertex};
@@ -11,7 +11,7 @@ use route_table::{Item, Table};
 use smallvec::SmallVec;
 use std::alloc::Global;
 
-// The Area ID of the backbone, 0.0.0.0.
+// The scope of the backbone, with the Area ID 0.0.0.0.
 const BACKBONE: Scope = Scope::Area(0);
 
 // The Router ID 10.0.0.1.
@@ -32,12 +32,12 @@ const PATH: Path = Path {
     advertiser: None,
 };
 
-// 203.0.113.0/25.
+// Returns 203.0.113.0/25.
 fn transit() -> Prefix {
     Prefix::from_mask(0xcb00_7100, 0xffff_ff80)
 }
 
-/// A route and a discard.
+/// Sets a route and a discard.
 pub(crate) fn fill(alloc: Global, table: &mut Table) -> Result<(), Memory> {
     let entry = Entry {
         kind: PathType::Intra,
@@ -50,7 +50,7 @@ pub(crate) fn fill(alloc: Global, table: &mut Table) -> Result<(), Memory> {
     table.set(Prefix::from_mask(WIDE.0, WIDE.1), Item::Discard)
 }
 
-/// What is offered of networks that contain 203.0.113.9.
+/// Returns the candidates of networks that contain 203.0.113.9.
 pub(crate) fn all_candidates(alloc: Global) -> Result<Vec<Candidate>, Memory> {
     let mut candidates = Vec::new(alloc);
     candidates.push(lost(alloc, external(), None, Verdict::NoBoundaryRouter))?;
@@ -153,7 +153,7 @@ fn router_lsa(router: u32, number: u32) -> LsaInstance {
     source_of(BACKBONE, 1, router, router, number)
 }
 
-// The instance of this number, counted from InitialSequenceNumber.
+// Returns the instance with this number, counted from InitialSequenceNumber.
 fn source_of(scope: Scope, kind: u8, id: u32, router: u32, number: u32) -> LsaInstance {
     LsaInstance {
         scope,

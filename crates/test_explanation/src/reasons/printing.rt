@@ -1,4 +1,4 @@
-//! What is printed of a summary: its metric and the reason, and a line for each source.
+//! The text of a due summary: its metric and the reason, and a line for each source.
 use anyhow::Result;
 use due_explanation::{DueExplained, DueVerdict, DueReason, DueSource};
 use ospf_types::address::Address;

@@ -1,16 +1,16 @@
-//! Frames, and whether they carry an IPv4 packet.
+//! Frames, and if they carry an IPv4 packet.
 
 use anyhow::{Result, bail, ensure};
 use datagrams::LinkType;
 use std::alloc::Global;
 
-/// A packet of version 4 as far as its first bytes tell.
+/// The first bytes of an IPv4 packet.
 const PACKET: &[u8] = &[0x45, 0xc0, 0, 24, 7];
 
-/// A packet of version 6.
+/// The first bytes of an IPv6 packet.
 const OTHER: &[u8] = &[0x60, 0, 0, 0, 7];
 
-/// What stands before a packet in a frame, and whether that packet is to be found.
+/// A frame: the bytes before its packet, the packet, and if it has to be found.
 #[derive(Clone, Copy)]
 pub struct FrameTrial<'a> {
     pub name: &'a str,
@@ -45,7 +45,7 @@ fn carries_none<'a>(
     }
 }
 
-/// The frames of Ethernet that are tried.
+/// Returns the Ethernet frames to test.
 pub fn ethernet_frames() -> [FrameTrial<'static>; 5] {
     [
         carries(
@@ -77,7 +77,7 @@ pub fn ethernet_frames() -> [FrameTrial<'static>; 5] {
     ]
 }
 
-/// The frames of other links that are tried.
+/// Returns the frames of other link types to test.
 pub fn other_frames() -> [FrameTrial<'static>; 11] {
     [
         carries("raw IP by 12", 12, &[]),
@@ -124,7 +124,7 @@ impl FrameTrial<'_> {
     }
 }
 
-/// Whether the numbers of PPP, and one past the last of Linux's cooked headers, are not known.
+/// Returns true if the link types of PPP (9), and after Linux's cooked headers (277), are unknown.
 pub fn are_unknown() -> bool {
     LinkType::of_number(9).is_none() && LinkType::of_number(277).is_none()
 }

@@ -1,4 +1,4 @@
-//! Headers, and what is read of them.
+//! IPv4 headers, and the datagrams or faults that are read from them.
 
 use anyhow::{Result, ensure};
 use datagrams::{DatagramFault, read_datagram};
@@ -10,13 +10,13 @@ const PACKET: [u8; 28] = [
     0, 0,
 ];
 
-/// A fragment at 16 with more behind it, and one word of options.
+/// A fragment at offset 16 that is not the last one, with one word of options.
 const OPTIONS: [u8; 32] = [
     0x46, 0xc0, 0, 32, 0xff, 0xfe, 0x20, 2, 1, 89, 0, 0, 192, 0, 2, 1, 224, 0, 0, 6, 0x94, 4, 0, 0,
     1, 2, 3, 4, 5, 6, 7, 8,
 ];
 
-/// The packet with some of its bytes changed, as far as it is left, and its fault.
+/// A test of `PACKET` with some bytes changed, cut to a length, and the fault that it has to have.
 #[derive(Clone, Copy)]
 pub struct HeaderTrial<'a> {
     pub name: &'a str,
@@ -25,7 +25,7 @@ pub struct HeaderTrial<'a> {
     fault: Option<DatagramFault>,
 }
 
-/// The headers that are tried.
+/// The headers to test.
 pub const HEADERS: [HeaderTrial<'static>; 10] = [
     HeaderTrial {
         name: "19 bytes",
@@ -107,7 +107,7 @@ impl HeaderTrial<'_> {
     }
 }
 
-/// Whether the packet is read, without its padding.
+/// Returns true if the packet is read without its padding.
 pub fn is_read() -> bool {
     match read_datagram(&PACKET) {
         Ok(d) => {
@@ -123,7 +123,7 @@ pub fn is_read() -> bool {
     }
 }
 
-/// Whether the fragment behind options is read.
+/// Returns true if the fragment with options is read.
 pub fn is_read_behind_options() -> bool {
     match read_datagram(&OPTIONS) {
         Ok(d) => {

@@ -1,10 +1,10 @@
-//! Fragments, and what they make.
+//! Fragments, and the datagrams that they complete.
 
 use anyhow::{Result, ensure};
 use datagrams::{Datagram, Fragments, MOST, Memory};
 use std::alloc::Global;
 
-/// A fragment: where its bytes begin, whether it is the last one, and the bytes.
+/// A fragment: its offset in bytes, if it is the last one, and its bytes.
 #[derive(Clone, Copy)]
 struct Part<'a> {
     offset: u8,
@@ -30,21 +30,21 @@ const C: Part<'static> = Part {
     payload: &[17, 18],
 };
 
-/// It lies over the second half of `A` and the first of `B`.
+/// A fragment that covers the second half of `A` and the first half of `B`.
 const OVER: Part<'static> = Part {
     offset: 4,
     is_last: false,
     payload: &[50, 60, 70, 80, 90, 100, 110, 120],
 };
 
-/// It ends elsewhere than `C`.
+/// A last fragment whose end is not that of `C`.
 const OTHER_END: Part<'static> = Part {
     offset: 16,
     is_last: true,
     payload: &[17],
 };
 
-/// It goes past `C`.
+/// A fragment that extends past the end of `C`.
 const PAST: Part<'static> = Part {
     offset: 16,
     is_last: false,
@@ -57,7 +57,7 @@ const WHOLE: Part<'static> = Part {
     payload: &[1, 2, 3],
 };
 
-/// It ends a datagram behind `A`.
+/// A last fragment right after `A`.
 const END: Part<'static> = Part {
     offset: 8,
     is_last: true,
@@ -70,8 +70,8 @@ const ALL: [u8; 18] = [
     1, 2, 3, 4, 5, 6, 7, 8, 9, 10, 11, 12, 13, 14, 15, 16, 17, 18,
 ];
 
-/// Fragments of one datagram, what the last of them makes whole, and of how many datagrams parts are then
-/// kept.
+/// Fragments of one datagram, the payload that the last of them completes, and the number of
+/// incomplete datagrams afterwards.
 #[derive(Clone, Copy)]
 pub struct PartsTrial<'a> {
     pub name: &'a str,
@@ -80,7 +80,7 @@ pub struct PartsTrial<'a> {
     kept: usize,
 }
 
-/// The fragments that are tried.
+/// The fragments to test.
 pub const PARTS: [PartsTrial<'static>; 9] = [
     PartsTrial {
         name: "fragments in order",
@@ -162,7 +162,8 @@ impl PartsTrial<'_> {
     }
 }
 
-// Whether the fragment of the datagram with this identification makes just this payload whole.
+// Returns true if the fragment of the datagram with this identification completes exactly this
+// payload, or completes nothing if it is `None`.
 fn makes(
     alloc: Global,
     fragments: &mut Fragments,
@@ -178,7 +179,7 @@ fn makes(
     })
 }
 
-// A fragment of the datagram with this identification, of at most 64 bytes.
+// Returns a fragment of the datagram with this identification, of at most 64 bytes.
 fn datagram<'a>(identification: u16, part: &Part<'a>) -> Datagram<'a> {
     Datagram {
         source: 0x0a00_0001,
@@ -191,7 +192,7 @@ fn datagram<'a>(identification: u16, part: &Part<'a>) -> Datagram<'a> {
     }
 }
 
-/// Whether of parts of 65 datagrams those of the first are forgotten, and those of the last kept.
+/// Returns true if the first of 65 incomplete datagrams is dropped, and the last one is kept.
 pub fn first_is_forgotten(alloc: Global) -> Result<bool, Memory> {
     are_forgotten(alloc, &mut Fragments::new(alloc))
 }

@@ -1,4 +1,4 @@
-//! Packets, with checksums that fit (RFC 2328, A.3).
+//! Packets with matching checksums (RFC 2328, A.3), and bytes with changes for them.
 
 /// A Hello of 10.0.0.1 in the backbone, from 192.0.2.1/24.
 pub(crate) const HELLO: [u8; 44] = [
@@ -6,8 +6,8 @@ pub(crate) const HELLO: [u8; 44] = [
     0, 10, 2, 1, 0, 0, 0, 40, 192, 0, 2, 1, 0, 0, 0, 0,
 ];
 
-/// A Link State Update of 10.0.0.1 in area 0.0.0.1, under the password `password`: a router-LSA and a
-/// network-LSA.
+/// A Link State Update of 10.0.0.1 in area 0.0.0.1, with the password `password`: a router-LSA and
+/// a network-LSA.
 pub(crate) const UPDATE: [u8; 96] = [
     2, 4, 0, 96, 10, 0, 0, 1, 0, 0, 0, 1, 10, 126, 0, 1, 112, 97, 115, 115, 119, 111, 114, 100, 0,
     0, 0, 2, 0, 1, 2, 1, 10, 0, 0, 1, 10, 0, 0, 1, 128, 0, 0, 1, 88, 83, 0, 36, 1, 0, 0, 1, 192, 0,
@@ -16,7 +16,7 @@ pub(crate) const UPDATE: [u8; 96] = [
 ];
 
 /// A Link State Update with cryptographic authentication: the network-LSA, and a digest of 16 bytes
-/// behind the packet.
+/// after the packet.
 pub(crate) const SIGNED: [u8; 76] = [
     2, 4, 0, 60, 10, 0, 0, 1, 0, 0, 0, 1, 0, 0, 0, 2, 0, 0, 7, 16, 60, 126, 198, 83, 0, 0, 0, 1, 0,
     1, 2, 2, 192, 0, 2, 1, 10, 0, 0, 1, 128, 0, 0, 1, 18, 98, 0, 32, 255, 255, 255, 0, 10, 0, 0, 1,
@@ -36,7 +36,7 @@ pub(crate) const CARRIES: [u8; 17] = [
     255, 255, 255, 255, 255, 255, 255, 255, 255, 255, 255, 255, 255, 255, 255, 255, 1,
 ];
 
-/// Places in a Hello, and a byte for each.
+/// Indices into a Hello, and a byte for each.
 pub(crate) const CHANGES: [(usize, u8); 8] = [
     (0, 3),
     (1, 6),
@@ -48,8 +48,8 @@ pub(crate) const CHANGES: [(usize, u8); 8] = [
     (15, 2),
 ];
 
-/// Places in a Link State Update of two LSAs, and a byte for each: the number of LSAs, and the length of
-/// the first LSA.
+/// Indices into a Link State Update of two LSAs, and a byte for each. They change the number of
+/// LSAs and the length of the first LSA.
 pub(crate) const UPDATE_CHANGES: [(usize, u8); 6] = [
     (27, 0),
     (27, 1),

@@ -1,4 +1,4 @@
-//! What is printed of packets.
+//! The text of packets, updates and their faults.
 
 use crate::updates::samples::{HELLO, UPDATE};
 use anyhow::Result;
@@ -6,7 +6,7 @@ use packets::{PacketKind, UpdateLsas, read_packet, update_lsas};
 use std::alloc::Global;
 use std::fmt::Write;
 
-/// The kind of a number, and its number.
+/// Returns the text of the packet type with this number: its name and number, or `none`.
 pub(crate) fn kind_text(alloc: Global, number: u8) -> Result<String> {
     let Some(kind) = PacketKind::of_number(number) else {
         return Ok(format!(in alloc; "{number}: none")?);
@@ -14,7 +14,7 @@ pub(crate) fn kind_text(alloc: Global, number: u8) -> Result<String> {
     Ok(format!(in alloc; "{number}: {kind:?} {}", kind.number())?)
 }
 
-/// The packet, or its fault.
+/// Returns the text of the packet, or of its fault.
 pub(crate) fn packet_text(alloc: Global, bytes: &[u8]) -> Result<String> {
     match read_packet(bytes) {
         Ok(packet) => Ok(format!(in alloc; "{packet:?}")?),
@@ -22,7 +22,7 @@ pub(crate) fn packet_text(alloc: Global, bytes: &[u8]) -> Result<String> {
     }
 }
 
-/// What a Hello is with a byte at a place.
+/// Returns the text of `HELLO` with a byte changed.
 pub(crate) fn changed_text(alloc: Global, place: usize, byte: u8) -> Result<String> {
     let mut bytes = HELLO;
     if let Some(at) = bytes.get_mut(place) {
@@ -32,7 +32,7 @@ pub(crate) fn changed_text(alloc: Global, place: usize, byte: u8) -> Result<Stri
     Ok(format!(in alloc; "{byte} at {place}: {text}")?)
 }
 
-/// The LSAs of a Link State Update, by LS type and length.
+/// Returns the text of the LSAs of a Link State Update: their lengths and LS types, or the fault.
 pub(crate) fn update_text(alloc: Global, body: &[u8]) -> Result<String> {
     match update_lsas(body) {
         Ok(lsas) => lsas_text(alloc, lsas),
@@ -51,7 +51,7 @@ fn lsas_text(alloc: Global, lsas: UpdateLsas<'_>) -> Result<String> {
     Ok(text)
 }
 
-/// What the LSAs of an update are with a byte at a place.
+/// Returns the text of the LSAs of `UPDATE` with a byte changed.
 pub(crate) fn changed_update_text(alloc: Global, place: usize, byte: u8) -> Result<String> {
     let mut bytes = UPDATE;
     if let Some(at) = bytes.get_mut(place) {

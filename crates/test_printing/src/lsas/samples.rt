@@ -1,4 +1,4 @@
-//! LSAs of the five kinds, with checksums that fit (RFC 2328, A.4).
+//! LSAs of the five kinds, with matching checksums (RFC 2328, A.4).
 
 /// The router-LSA of 10.0.0.2 at MaxAge: bits V, E and B, a link of each type, and two TOS entries.
 pub(crate) const ROUTER: [u8; 80] = [
@@ -20,26 +20,27 @@ pub(crate) const SUMMARY: [u8; 28] = [
     0, 10,
 ];
 
-/// The summary-LSA of 10.0.0.2 for the AS boundary router 10.0.0.9: LSInfinity, and two TOS entries.
+/// The summary-LSA of 10.0.0.2 for the AS boundary router 10.0.0.9: LSInfinity, and two TOS
+/// entries.
 pub(crate) const BOUNDARY: [u8; 36] = [
     0, 60, 0, 4, 10, 0, 0, 9, 10, 0, 0, 2, 0x80, 0, 0, 4, 0xa4, 0x63, 0, 36, 0, 0, 0, 0, 0, 255,
     255, 255, 8, 0, 0, 20, 16, 255, 255, 255,
 ];
 
-/// The AS-external-LSA of 10.0.0.2 for 203.0.113.0/24, with all bits of Options that have a name and
-/// two that have none, and with a record of TOS 8.
+/// The AS-external-LSA of 10.0.0.2 for 203.0.113.0/24. It has all named bits of Options and two
+/// others, and a record of TOS 8.
 pub(crate) const EXTERNAL: [u8; 48] = [
     0, 1, 0xfe, 5, 203, 0, 113, 0, 10, 0, 0, 2, 0x80, 0, 0, 1, 0x87, 0x29, 0, 48, 255, 255, 255, 0,
     0x80, 0, 0, 20, 0, 0, 0, 0, 0, 0, 0, 0, 8, 255, 255, 255, 192, 0, 2, 9, 0, 0, 253, 233,
 ];
 
-/// The longest router-LSA, of 65,532 bytes, without its links: they lead to one stub network.
+/// The start of the longest router-LSA, of 65,532 bytes, before its links to one stub network.
 pub(crate) const LONGEST: [u8; 24] = [
     0, 1, 2, 1, 10, 0, 0, 1, 10, 0, 0, 1, 0x80, 0, 0, 1, 0xb6, 0xdc, 0xff, 0xfc, 0, 0, 0x15, 0x53,
 ];
 
-/// How many links the longest has.
+/// The number of links of the longest router-LSA.
 pub(crate) const LINKS: u16 = 5459;
 
-/// Each of its links: to the stub network 192.0.2.0/24 at metric 10.
+/// One of its links: to the stub network 192.0.2.0/24 at metric 10.
 pub(crate) const STUB_LINK: [u8; 12] = [192, 0, 2, 0, 255, 255, 255, 0, 3, 0, 0, 10];

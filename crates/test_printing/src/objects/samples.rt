@@ -26,17 +26,17 @@ pub(crate) const HEADER: Header = Header {
     length: 36,
 };
 
-/// 203.0.112.0/20.
+/// Returns 203.0.112.0/20.
 pub(crate) fn wide() -> Prefix {
     Prefix::from_mask(0xcb00_7000, 0xffff_f000)
 }
 
-/// The default route's network, 0.0.0.0/0.
+/// Returns the network of the default route, 0.0.0.0/0.
 pub(crate) fn everything() -> Prefix {
     Prefix::from_mask(0, 0)
 }
 
-/// A route at cost 11, with a next hop of each kind.
+/// Returns a route at cost 11, with a next hop of each kind.
 pub(crate) fn route(
     alloc: Global,
     kind: PathType,

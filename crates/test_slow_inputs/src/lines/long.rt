@@ -1,4 +1,4 @@
-//! Lines about as long as the longest that is handed on as it is, and far longer ones.
+//! Lines about as long as the longest line that is kept whole, and far longer ones.
 
 use crate::lines::trial::{STEPS, Trial, Wanted};
 use anyhow::Result;
@@ -7,21 +7,21 @@ use std::alloc::{AllocError, Global};
 
 const DIGITS: [u8; 16] = *b"0123456789abcdef";
 
-/// Lines longer than this are read by fewer of the steps.
+/// The length above which a line is read with fewer of the steps.
 const MEGABYTE: usize = 1_000_000;
 
-/// A line of so many hexadecimal digits.
+/// A line of `length` hexadecimal digits.
 #[derive(Clone, Copy)]
 pub struct LongLine {
     pub name: &'static str,
     length: usize,
-    /// A byte that stands in place of a digit.
+    /// An index, and the byte that replaces the digit there.
     other: Option<(usize, u8)>,
-    /// What stands for the bytes that are left out.
+    /// The mark that replaces the bytes left out.
     mark: &'static [u8],
 }
 
-/// The lines that are tried.
+/// Returns the lines to test.
 pub fn long_lines() -> [LongLine; 11] {
     [
         of_digits("one digit less than the longest", LONGEST - 1, b""),
@@ -72,7 +72,12 @@ fn with_other(
 }
 
 impl LongLine {
-    /// Takes the line out of an input that ends with it, and out of one in which another line is behind it.
+    /// Reads the line from an input that ends with it, and from an input with another line after
+    /// it.
+    ///
+    /// # Errors
+    ///
+    /// Returns an error if another line is read, or if memory runs out.
     pub fn run(&self, alloc: Global) -> Result<()> {
         let mut text = self.bytes(alloc)?;
         let mut line = Vec::from_slice(alloc, &text[..LONGEST.min(text.len())])?;

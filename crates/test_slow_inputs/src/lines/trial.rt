@@ -1,14 +1,14 @@
-//! What is to come, compared with what comes.
+//! Expected lines, compared with the lines that are read.
 
 use crate::input::SlowInput;
 use anyhow::{Result, ensure};
 use line_reader::{LineReader, Next, ReadFault};
 use std::alloc::{AllocError, Global};
 
-/// How many bytes a read gives; the last gives all that it can.
+/// The numbers of bytes a read. With the last one a read gives all that it can.
 pub const STEPS: [usize; 5] = [1, 2, 3, 7, 1 << 30];
 
-/// What a call is to answer.
+/// The expected result of a call.
 #[derive(Clone, Copy)]
 pub enum Wanted<'a> {
     Line(&'a [u8]),
@@ -29,7 +29,7 @@ impl Wanted<'_> {
     }
 }
 
-/// An input, and what is to come of it.
+/// An input, and its expected results.
 #[derive(Clone, Copy)]
 pub struct Trial<'a> {
     pub name: &'a str,
@@ -38,7 +38,11 @@ pub struct Trial<'a> {
 }
 
 impl Trial<'_> {
-    /// Takes the lines by reads of each of these steps.
+    /// Reads the lines with each of these numbers of bytes a read.
+    ///
+    /// # Errors
+    ///
+    /// Returns an error if a result is not the expected one, or if memory runs out.
     pub fn run(&self, alloc: Global, steps: &[usize]) -> Result<()> {
         let name = self.name;
         for step in steps {
@@ -50,7 +54,7 @@ impl Trial<'_> {
     }
 }
 
-/// Whether these come of the input, one after the other.
+/// Returns true if the input gives these results, in this order.
 pub fn do_come(
     alloc: Global,
     input: &mut SlowInput<'_>,

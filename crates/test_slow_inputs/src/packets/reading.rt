@@ -1,4 +1,4 @@
-//! A capture that is read to its end.
+//! Captures that are read to their end, and their texts.
 
 use crate::input::SlowInput;
 use anyhow::{Result, bail, ensure};
@@ -6,20 +6,30 @@ use capture_reader::{CaptureError, PacketHead, PacketReader};
 use std::alloc::Global;
 use std::fmt::Write;
 
-/// How many calls of `next` there are at most.
+/// The greatest number of calls of `next`.
 const MOST: u32 = 20_000;
 
-/// Of a packet with more bytes only their number and their sum are shown.
+/// The greatest length of a packet whose bytes are shown. A longer packet is shown by its length
+/// and the sum of its bytes.
 const SHOWN: usize = 16;
 
-/// A line for each packet, for each read that fails, and for what comes last.
+/// Returns a line for each packet, for each read that fails, and for the end or the fault.
+///
+/// # Errors
+///
+/// Returns an error if a further call gives another end, or if memory runs out.
 pub fn read_all(alloc: Global, input: &mut SlowInput<'_>) -> Result<String> {
     let mut text = String::new(alloc);
     Reading::new(alloc)?.put_all(alloc, input, &mut text)?;
     Ok(text)
 }
 
-/// One line: how many packets there are and how many bytes they have, the sum of those, and the time of the last.
+/// Returns one line: the number of packets, their bytes, the sum of these, and the time of the last
+/// packet.
+///
+/// # Errors
+///
+/// Returns an error if the capture has a fault or cannot be read, or if memory runs out.
 pub fn count_all(alloc: Global, input: &mut SlowInput<'_>) -> Result<String> {
     let counts = Reading::new(alloc)?.counts(input)?;
     let mut text = String::new(alloc);
@@ -27,7 +37,11 @@ pub fn count_all(alloc: Global, input: &mut SlowInput<'_>) -> Result<String> {
     Ok(text)
 }
 
-/// One line: whether bytes are pending before each call of `next`, and after the last.
+/// Returns one line: if bytes are pending before each call of `next`, and after the last one.
+///
+/// # Errors
+///
+/// Returns an error if the capture has a fault or cannot be read, or if memory runs out.
 pub fn pending_of(alloc: Global, input: &mut SlowInput<'_>) -> Result<String> {
     let mut text = String::new(alloc);
     Reading::new(alloc)?.put_pending(input, &mut text)?;
@@ -109,13 +123,13 @@ impl Reading {
     }
 }
 
-// What was counted of packets.
+// Counts of packets and bytes.
 #[derive(Clone, Copy, Default)]
 struct Counts {
     packets: u32,
     bytes: usize,
     sum: u64,
-    // Of the last packet, in nanoseconds.
+    // The time of the last packet, in nanoseconds.
     time: u64,
 }
 

@@ -1,10 +1,10 @@
-//! Captures, field behind field.
+//! Captures, field by field.
 
 use anyhow::Result;
 use std::alloc::Global;
 
-/// A pcap in the lower byte first, with microseconds, on Ethernet: 4 bytes of 60, then none of 42, then 3 of 3. Its
-/// packets begin at 24, 44 and 60, and it ends at 79.
+/// A little-endian pcap with microseconds, on Ethernet: 4 bytes of 60, then 0 of 42, then 3 of 3.
+/// Its packets begin at 24, 44 and 60, and it ends at 79.
 pub(crate) const PCAP: [u8; 79] = [
     0xd4, 0xc3, 0xb2, 0xa1, 2, 0, 4, 0, 0, 0, 0, 0, 0, 0, 0, 0, 0, 0, 4, 0, 1, 0, 0, 0, //
     1, 0, 0, 0, 2, 0, 0, 0, 4, 0, 0, 0, 0x3c, 0, 0, 0, 0x0a, 0x0b, 0x0c, 0x0d, //
@@ -12,7 +12,7 @@ pub(crate) const PCAP: [u8; 79] = [
     3, 0, 0, 0, 0, 0, 0, 0, 3, 0, 0, 0, 3, 0, 0, 0, 0x0e, 0x0f, 0x10,
 ];
 
-/// The pcap, whose third packet has 262,145 bytes, which is one too many.
+/// The pcap, whose third packet has 262,145 bytes, one more than is allowed.
 pub(crate) const LONG_PACKET: [u8; 79] = [
     0xd4, 0xc3, 0xb2, 0xa1, 2, 0, 4, 0, 0, 0, 0, 0, 0, 0, 0, 0, 0, 0, 4, 0, 1, 0, 0, 0, //
     1, 0, 0, 0, 2, 0, 0, 0, 4, 0, 0, 0, 0x3c, 0, 0, 0, 0x0a, 0x0b, 0x0c, 0x0d, //
@@ -20,8 +20,9 @@ pub(crate) const LONG_PACKET: [u8; 79] = [
     3, 0, 0, 0, 0, 0, 0, 0, 1, 0, 4, 0, 3, 0, 0, 0, 0x0e, 0x0f, 0x10,
 ];
 
-/// A pcapng in the lower byte first: a section, an interface of Ethernet, a packet of 3 bytes of 60, a block of
-/// statistics, and a simple packet of 4 bytes. These begin at 0, 28, 48, 84 and 108, and it ends at 128.
+/// A little-endian pcapng of five blocks, which begin at 0, 28, 48, 84 and 108. They are a section,
+/// an interface of Ethernet, a packet of 3 bytes of 60, statistics, and a simple packet of 4 bytes.
+/// It ends at 128.
 pub(crate) const PCAPNG: [u8; 128] = [
     0x0a, 0x0d, 0x0d, 0x0a, 0x1c, 0, 0, 0, 0x4d, 0x3c, 0x2b, 0x1a, 1, 0, 0, 0, //
     0xff, 0xff, 0xff, 0xff, 0xff, 0xff, 0xff, 0xff, 0x1c, 0, 0, 0, //
@@ -32,10 +33,11 @@ pub(crate) const PCAPNG: [u8; 128] = [
     3, 0, 0, 0, 0x14, 0, 0, 0, 4, 0, 0, 0, 0x14, 0x15, 0x16, 0x17, 0x14, 0, 0, 0,
 ];
 
-/// No capture: a picture.
+/// The start of a picture, which is not a capture.
 pub(crate) const PICTURE: [u8; 6] = [0x47, 0x49, 0x46, 0x38, 0x39, 0x61];
 
-/// A pcap of a packet of 200,000 bytes, which are 0 to 250 again and again, and of one of 1 byte, the second before.
+/// Returns a pcap of two packets: one of 200,000 bytes, which repeat 0 to 250, and one of 1 byte, a
+/// second earlier.
 pub(crate) fn long_packet(alloc: Global) -> Result<Vec<u8>> {
     let mut data = Vec::with_capacity(alloc, 200_000)?;
     for place in 0..200_000_u32 {
@@ -47,7 +49,7 @@ pub(crate) fn long_packet(alloc: Global) -> Result<Vec<u8>> {
     Ok(bytes)
 }
 
-/// A pcap of 10,000 packets, one a second, each of 4 bytes: its number, from 0 on.
+/// Returns a pcap of 10,000 packets, one a second. Each has 4 bytes: its number, from 0 up.
 pub(crate) fn many_packets(alloc: Global) -> Result<Vec<u8>> {
     let mut bytes = Vec::from_slice(alloc, &PCAP[..24])?;
     for number in 0..10_000_u32 {
