@@ -123,7 +123,7 @@ fn core_of(alloc: Global, base: Base, seed: &[u8]) -> Result<Box<Core>, u32>
     ensures refused { IfErr result (IsSeedRefusal seed.now) }
 {
     let hashing = hashing_of(seed)?;
-    let Ok(core) = Core::open_sound(alloc, base, Limits::STANDARD, hashing) else {
+    let Ok(core) = Core::open_with_limits(alloc, base, Limits::STANDARD, hashing) else {
         return Err(MEMORY);
     };
     match Box::new(alloc, core) {

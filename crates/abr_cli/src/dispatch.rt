@@ -9,7 +9,7 @@ use crate::explaining::Explain;
 use crate::paging::Page;
 use crate::replaying::Replay;
 use capture_recording::Options;
-use command_answers::{answer_usage, decode, fault, one, tell};
+use command_answers::{answer_usage, decode, fault, one, print_answer};
 use command_line::{CaptureWords, Job, OneWords, Usage};
 use output_format::{Format, Show};
 use replay::{PrintOptions, Progress};
@@ -61,7 +61,7 @@ impl Invocation<'_> {
                 let asked = asked_of(job, own, beginning);
                 do_asked(rt, alloc, Doing { asked, hashing }, input, out, faults)
             }
-            Err(usage) => tell(&answer_usage(alloc, usage), out, faults),
+            Err(usage) => print_answer(&answer_usage(alloc, usage), out, faults),
         }
     }
 }

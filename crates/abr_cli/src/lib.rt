@@ -16,7 +16,7 @@ pub use capturing::Capture;
 pub use changing::Changes;
 pub use command_answers::{
     Answer, CommandFault, answer_decode, answer_number, answer_one, answer_usage, decode, fault,
-    one, tell,
+    one, print_answer,
 };
 pub use command_line::{CaptureWords, Job, OneWords, Usage, job};
 pub use explaining::Explain;

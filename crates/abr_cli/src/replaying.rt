@@ -6,7 +6,7 @@ ghost use Rattle.command_line.specs.Command.{AreWorkers};
 ghost use Rattle.abr_cli.specs.Replaying.{fault_from as from_replay, EndsBy, IsEndSaid, IsReplayTold};
 ghost use Rattle.abr_cli.specs.Showing.{IsRunTold};
 
-use command_answers::{CommandFault, NO_MEMORY, line_of, say, say_unwritten};
+use command_answers::{CommandFault, NO_MEMORY, line_of, print_fault, say_unwritten};
 use replay::{WriteError, Progress, ReplayFault, replay_one};
 use std::alloc::Global;
 use std::hash::RandomState;
@@ -124,7 +124,7 @@ pub fn say_fault<F: io::Write>(alloc: Global, fault: CommandFault<'_>, faults: &
         ⊎ IsSaid (fault_line (command_fault_text CommandFault.Memory)) 1 result (F.contents faults.old) (F.contents faults.new) }
 {
     match line_of(alloc, fault) {
-        Ok(line) => say(line.as_str(), fault.status(), faults),
-        Err(_) => say(NO_MEMORY, 1, faults),
+        Ok(line) => print_fault(line.as_str(), fault.status(), faults),
+        Err(_) => print_fault(NO_MEMORY, 1, faults),
     }
 }

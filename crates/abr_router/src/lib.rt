@@ -17,7 +17,7 @@ pub use event_core::{DueChanges, DueSummaries, Touched, fault_in};
 pub use summary_lists::AreaSummaries;
 // LSAs and their bytes (A.4).
 pub use lsa_codec::{
-    Checked, External, Header, Link, LinkKind, Links, Routers, WireFault, read, sum_of, write,
+    Checked, ExternalFields, Header, Link, LinkKind, Links, Routers, WireFault, read, sum_of, write,
 };
 // Configurations, keys and routes.
 pub use ospf_types::address::Address;

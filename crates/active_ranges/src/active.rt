@@ -21,7 +21,7 @@ use ospf_types::entry::Entry;
 use ospf_types::key::Dest;
 use ospf_types::memory::Memory;
 use ospf_types::prefix::Prefix;
-use result_map::ascending;
+use result_map::sorted_unique;
 use std::alloc::Global;
 use std::collections::BTreeMap;
 use std::marker::Model;
@@ -177,7 +177,7 @@ impl ActiveRanges {
         for (range, networks) in self.ranges.iter() {
             push_active(range.prefix, networks, &mut prefixes)?;
         }
-        Ok(ascending(prefixes))
+        Ok(sorted_unique(prefixes))
     }
 
     /// Returns true if memory ran out in an update.
@@ -427,7 +427,7 @@ fn ranges_of(alloc: Global, members: &[RangeMember]) -> Result<Vec<Prefix>, Memo
         (λ prefixes. ListsExactly (Contains (ranges_in members.now)) prefixes.items) }
 {
     let prefixes = each_range(alloc, members)?;
-    Ok(ascending(prefixes))
+    Ok(sorted_unique(prefixes))
 }
 
 // Returns the prefix of each member's range.

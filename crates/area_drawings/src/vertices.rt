@@ -63,7 +63,7 @@ fn flags_at(database: &Database, tree: &AreaTree, vertex: Vertex) -> u8
     requires { IsTreeIn database.now.lsas tree.now }
     ensures { HasFlags database.now.lsas vertex result }
 {
-    match tree.standing(database, vertex) {
+    match tree.lsa_for_vertex(database, vertex) {
         Some(lsa) => lsa.flags().unwrap_or(0),
         None => 0,
     }

@@ -7,7 +7,7 @@ ghost use Rattle.vertex_graph.specs.Graphs.{AreLinkChanges, HasEnds, max_routers
 ghost use Rattle.area_trees.specs.Areas.{IsGraphBut, IsGraphOf, IsStanding, IsStandingKey, vertex_of};
 
 use crate::networks::Networks;
-use crate::vertices::{list_vertices, lsa_of, standing};
+use crate::vertices::{list_vertices, lsa_of, lsa_for_vertex};
 use lsa_codec::Checked;
 use lsdb::Database;
 use ospf_types::entry::Vertex;
@@ -96,12 +96,12 @@ impl AreaGraph {
         let _ = (database.len(), self.graph.root());
         self.networks.follow(database, keys)?;
         list_vertices(keys, &mut self.vertices)?;
-        let lsas = standing(alloc, database, &self.networks, self.vertices.as_slice())?;
+        let lsas = lsa_for_vertex(alloc, database, &self.networks, self.vertices.as_slice())?;
         self.graph.replace_all(lsas.as_slice())
     }
 
     /// Returns the LSA that describes the vertex, or `None` if there is none.
-    pub(crate) fn standing<'a>(&self, database: &'a Database, vertex: Vertex) -> Option<&'a Checked>
+    pub(crate) fn lsa_for_vertex<'a>(&self, database: &'a Database, vertex: Vertex) -> Option<&'a Checked>
         requires { IsGraphOf database.now.lsas self.now }
         ensures body { IsStanding database.now.lsas vertex (option_map (λ l. l.now.body) result) }
         ensures own { IfSome result (λ l. vertex_of (key_of l.now) ≡ Some vertex) }

@@ -141,21 +141,21 @@ impl AreaTree {
     ///
     /// For a router it is its own router-LSA. For a transit network it is the network-LSA with the
     /// greatest Advertising Router. Only usable LSAs count.
-    pub fn standing<'a>(&self, database: &'a Database, vertex: Vertex) -> Option<&'a Checked>
+    pub fn lsa_for_vertex<'a>(&self, database: &'a Database, vertex: Vertex) -> Option<&'a Checked>
         requires { IsTreeIn database.now.lsas self.now }
         ensures body { IsStanding database.now.lsas vertex (option_map (λ l. l.now.body) result) }
         ensures own { IfSome result (λ l. vertex_of (key_of l.now) ≡ Some vertex) }
         ensures key { IfSome result (λ l. IsStandingKey database.now.lsas vertex (key_of l.now)) }
     {
-        self.area.standing(database, vertex)
+        self.area.lsa_for_vertex(database, vertex)
     }
 
     /// Returns the vertex with a hint to its row in the area's graph. The layers of routes keep it,
     /// so that they need not hash the vertex again.
-    pub fn placed(&self, vertex: Vertex) -> HintedVertex
+    pub fn with_hint(&self, vertex: Vertex) -> HintedVertex
         ensures { result ≡ vertex }
     {
-        self.area.graph().placed(vertex)
+        self.area.graph().with_hint(vertex)
     }
 
     /// Returns the distance of the vertex, a sum of metrics below 2^30, or `None` if it is not
@@ -252,7 +252,7 @@ impl AreaTree {
         ensures work { IfOk result (IsWorkBetween self.old self.new) }
     {
         if keys.is_empty() {
-            self.tree.rest();
+            self.tree.mark_unchanged();
             return Ok(Touched::none());
         }
         let changes = self.area.follow(alloc, database, keys)?;

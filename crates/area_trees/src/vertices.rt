@@ -64,7 +64,7 @@ pub fn vertex_of(key: Key) -> Option<Vertex>
 }
 
 /// Returns each vertex with the LSA that describes it now.
-pub(crate) fn standing<'a>(
+pub(crate) fn lsa_for_vertex<'a>(
     alloc: Global,
     database: &'a Database,
     networks: &Networks,

@@ -32,13 +32,13 @@ use area_trees::AreaTree;
 use event_state::State;
 use external::External;
 use inter::Inter;
-use intra::{Dirty, Inputs, Intra};
+use intra::{Dirty, IntraInputs, Intra};
 use ospf_types::config::AreaConfig;
 use ospf_types::entry::Entry;
 use ospf_types::key::{Dest, Key, Scope};
 use ospf_types::memory::Memory;
 use ospf_types::prefix::Prefix;
-use result_map::{add_networks, ascending, networks_among};
+use result_map::{add_networks, sorted_unique, networks_among};
 use route_layers::{IntraLayer, active_areas};
 use route_table::{Item, NewItem, Table};
 use spf::Touched;
@@ -458,7 +458,7 @@ impl Calculation {
         networks.extend_from_slice(&self.active.prefixes(alloc)?)?;
         networks.extend_from_slice(&networks_of(alloc, &self.inter.dests(alloc)?)?)?;
         networks.extend_from_slice(&self.external.networks(alloc)?)?;
-        Ok(ascending(networks))
+        Ok(sorted_unique(networks))
     }
 }
 
@@ -483,7 +483,7 @@ fn follow_intra(
         → Contains dests.items d ↔ DiffersAt intra.old intra.new d) }
 {
     let areas = area_inputs(alloc, state, trees)?;
-    let inputs = Inputs {
+    let inputs = IntraInputs {
         root: state.config().router,
         areas: &areas,
         interfaces: state.interfaces(),
@@ -528,7 +528,7 @@ fn build_intra(
     ensures fit { IfOk result (λ intra. AreFit state.now.config.areas state.now.databases) }
 {
     let areas = area_inputs(alloc, state, trees)?;
-    let inputs = Inputs {
+    let inputs = IntraInputs {
         root: state.config().router,
         areas: &areas,
         interfaces: state.interfaces(),
@@ -576,5 +576,5 @@ fn networks_of(alloc: Global, dests: &[Dest]) -> Result<Vec<Prefix>, Memory>
         → Contains networks.items p ↔ Contains dests.now (dest_value.Net p)) }
 {
     let networks = networks_among(alloc, dests)?;
-    Ok(ascending(networks))
+    Ok(sorted_unique(networks))
 }

@@ -5,7 +5,7 @@ ghost use Rattle.command_answers.specs.Answers.{faulty, value_of};
 use crate::command_fault::CommandFault;
 use std::alloc::{AllocError, Global};
 
-/// The answer of a command, which `tell` writes.
+/// The answer of a command, which `print_answer` writes.
 #[derive(Debug, Drop)]
 pub enum Answer {
     /// A text for standard output, with status 0.

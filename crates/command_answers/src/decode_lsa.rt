@@ -6,7 +6,7 @@ ghost use Rattle.command_answers.specs.Decode.{Decodes, IsDecodeFault, IsDecodeA
 
 use crate::answer::{Answer, answer_fault};
 use crate::command_fault::CommandFault;
-use crate::printing::tell;
+use crate::printing::print_answer;
 use crate::argument_values;
 use lsa_codec::{Checked, Header};
 use lsa_words::put_lsa_text;
@@ -43,7 +43,7 @@ pub fn decode<W: io::Write, F: io::Write>(
     ensures { Tells (IsDecodeAnswer long word.now) result (W.contents out.old) (W.contents out.new)
         (F.contents faults.old) (F.contents faults.new) }
 {
-    tell(&answer_decode(alloc, word, long), out, faults)
+    print_answer(&answer_decode(alloc, word, long), out, faults)
 }
 
 // Returns the lines of the LSA that the word spells.

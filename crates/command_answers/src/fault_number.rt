@@ -5,7 +5,7 @@ ghost use Rattle.command_answers.specs.Number.{Advises, HasNoAdvice, IsNumberAns
 
 use crate::answer::{Answer, answer_fault};
 use crate::command_fault::CommandFault;
-use crate::printing::tell;
+use crate::printing::print_answer;
 use crate::argument_values::WordFault;
 use numbers::advice;
 use std::alloc::Global;
@@ -38,7 +38,7 @@ pub fn fault<W: io::Write, F: io::Write>(
     ensures { Tells (IsNumberAnswer word.now) result (W.contents out.old) (W.contents out.new)
         (F.contents faults.old) (F.contents faults.new) }
 {
-    tell(&answer_number(alloc, word), out, faults)
+    print_answer(&answer_number(alloc, word), out, faults)
 }
 
 fn advised(alloc: Global, word: &str) -> Result<String, CommandFault<'static>>

@@ -11,7 +11,7 @@ ghost use Rattle.command_answers.specs.One.{Answer as HasLine, HasLearned, IsFau
 
 use crate::answer::{Answer, answer_fault};
 use crate::command_fault::CommandFault;
-use crate::printing::tell;
+use crate::printing::print_answer;
 use crate::argument_values::{OneInput, read_one};
 use command_line::OneWords;
 use engine::{Answer as Taken, Engine, Event, Forwarder, OpenFault, Refusal, Refused, Seen, Told};
@@ -56,7 +56,7 @@ pub fn one<S: Wait, W: io::Write, F: io::Write>(
     ensures { Tells (IsOneAnswer (texts_of words.now)) result (W.contents out.old)
         (W.contents out.new) (F.contents faults.old) (F.contents faults.new) }
 {
-    tell(&answer_one(rt, alloc, hashing, words), out, faults)
+    print_answer(&answer_one(rt, alloc, hashing, words), out, faults)
 }
 
 // Returns the line, with its line feed.

@@ -15,14 +15,14 @@ const CANNOT_WRITE: &str = "abr: cannot write\n";
 /// It is the status of the answer, or 1 if a writer fails. If `out` fails, a line on `faults` says
 /// so. There is no such line if the error of `out` is of the kind `BrokenPipe`: the reading end of
 /// its pipe was closed.
-pub fn tell<W: io::Write, F: io::Write>(answer: &Answer, out: &mut W, faults: &mut F) -> u8
+pub fn print_answer<W: io::Write, F: io::Write>(answer: &Answer, out: &mut W, faults: &mut F) -> u8
     ensures { IsTold (value_of answer.now) result (W.contents out.old) (W.contents out.new)
         (F.contents faults.old) (F.contents faults.new) }
 {
     match answer {
         Answer::Printed(text) => print(text.as_str(), out, faults),
-        Answer::Fault { status, line } => say(line.as_str(), *status, faults),
-        Answer::NoMemory => say(NO_MEMORY, 1, faults),
+        Answer::Fault { status, line } => print_fault(line.as_str(), *status, faults),
+        Answer::NoMemory => print_fault(NO_MEMORY, 1, faults),
     }
 }
 
@@ -41,13 +41,13 @@ pub fn say_unwritten<F: io::Write>(why: WriteError, faults: &mut F) -> u8
     ensures { IsUnwrittenSaid why result (F.contents faults.old) (F.contents faults.new) }
 {
     match why {
-        WriteError::Failed => say(CANNOT_WRITE, 1, faults),
+        WriteError::Failed => print_fault(CANNOT_WRITE, 1, faults),
         WriteError::Closed => 1,
     }
 }
 
 /// Writes the line of a fault with this status. Returns the status, or 1 if the writer fails.
-pub fn say<F: io::Write>(line: &str, status: u8, faults: &mut F) -> u8
+pub fn print_fault<F: io::Write>(line: &str, status: u8, faults: &mut F) -> u8
     ensures { IsSaid line.now status result (F.contents faults.old) (F.contents faults.new) }
 {
     match write_whole(faults, line.as_bytes()) {

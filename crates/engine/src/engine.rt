@@ -257,7 +257,7 @@ fn open_sound<R: Wait>(
     ensures count { IfOk result (λ r. length r.1.items ≡ readers) }
     ensures forwarders { IfOk result (λ r. AreNew r.0 r.1.items) }
 {
-    match Core::open_sound(alloc, base, Limits::STANDARD, hashing) {
+    match Core::open_with_limits(alloc, base, Limits::STANDARD, hashing) {
         Ok(core) => open_over(rt, alloc, core, readers),
         Err(Memory) => Err(OpenFault::Config(ConfigFault::Memory)),
     }

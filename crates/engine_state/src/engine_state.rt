@@ -18,7 +18,7 @@ use event_core::{Core, Event, Refusal, Reply, Status};
 use ospf_types::memory::Memory;
 use publication::{
     EngineName, Forwarder, History, HistoryPrefix, OpeningBase, PublishedTable, TableWriter, TellsName,
-    Told, show, publish_table_changes,
+    Told, publish_table, publish_table_changes,
 };
 use std::alloc::{AllocError, Global};
 use std::marker::Model;
@@ -117,7 +117,7 @@ impl EngineParts {
             rolled,
             writer,
         } = parts;
-        let (writer, done) = show(rt, alloc, writer, core.table(), &mut history);
+        let (writer, done) = publish_table(rt, alloc, writer, core.table(), &mut history);
         let parts = EngineParts {
             alloc,
             core,
@@ -322,7 +322,7 @@ impl EngineState {
         let first = PublishedTable::of(alloc, core.table(), &history.front(), &opening)?;
         let second = PublishedTable::of(alloc, core.table(), &history.front(), &opening)?;
         let writer = TableWriter::new(alloc, first, second, readers)?;
-        let (writer, done) = show(rt, alloc, writer, core.table(), &mut history);
+        let (writer, done) = publish_table(rt, alloc, writer, core.table(), &mut history);
         if !done {
             drop(writer.take(rt));
             return Err(Memory);

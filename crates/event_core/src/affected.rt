@@ -54,7 +54,7 @@ fn changed_by(alloc: Global, state: &State, event: &Event) -> Result<Affected, M
         });
     }
     Ok(Affected {
-        keys: state.named(alloc, event)?,
+        keys: state.affected_lsas(alloc, event)?,
         interfaces: Vec::new(alloc),
         range: range_of(event),
     })

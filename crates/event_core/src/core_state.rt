@@ -108,7 +108,7 @@ impl Core {
         if let Some(fault) = fault_in(&config) {
             return Err(fault);
         }
-        match Core::open_sound(alloc, Base::bare(alloc, config), limits, hashing) {
+        match Core::open_with_limits(alloc, Base::bare(alloc, config), limits, hashing) {
             Ok(core) => Ok(core),
             Err(Memory) => Err(ConfigFault::Memory),
         }
@@ -128,7 +128,7 @@ impl Core {
     {
         let opened = match fault_in_base(alloc, &base, Limits::STANDARD) {
             Ok(Some(fault)) => return Err(fault),
-            Ok(None) => Core::open_sound(alloc, base, Limits::STANDARD, hashing),
+            Ok(None) => Core::open_with_limits(alloc, base, Limits::STANDARD, hashing),
             Err(Memory) => Err(Memory),
         };
         match opened {
@@ -142,7 +142,7 @@ impl Core {
     /// # Errors
     ///
     /// Returns `Memory` if memory runs out.
-    pub fn open_sound(
+    pub fn open_with_limits(
         alloc: Global,
         base: Base,
         limits: Limits,

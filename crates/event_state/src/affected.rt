@@ -14,7 +14,7 @@ impl State {
     /// or change.
     ///
     /// They are the LSA of the event, or each LSA that a second brings to MaxAge (RFC 2328, 14).
-    pub fn named(&self, alloc: Global, event: &Event) -> Result<Vec<(Scope, Key)>, Memory>
+    pub fn affected_lsas(&self, alloc: Global, event: &Event) -> Result<Vec<(Scope, Key)>, Memory>
         ensures { IfOk result (λ named. NamesAll self.now event.now named.items) }
     {
         match event {

@@ -104,7 +104,7 @@ impl State {
     pub fn new(alloc: Global, config: Config, hashing: RandomState) -> Result<State, Memory>
         ensures { IfOk result (λ state. state ≡ opening (bare config) standard_limits) }
     {
-        State::within(alloc, config, Limits::STANDARD, hashing)
+        State::with_limits(alloc, config, Limits::STANDARD, hashing)
     }
 
     /// Creates a state with no interfaces, empty databases and an empty journal, within the given
@@ -113,7 +113,7 @@ impl State {
     /// # Errors
     ///
     /// Returns `Memory` if memory runs out.
-    pub fn within(
+    pub fn with_limits(
         alloc: Global,
         config: Config,
         limits: Limits,

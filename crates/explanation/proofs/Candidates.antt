@@ -10,7 +10,7 @@ use Rattle.ospf_types.specs.declared.entry.Entry.{Entry}
 use Rattle.ospf_types.specs.declared.hop.Path.{Path}
 use Rattle.ospf_types.specs.declared.key.Scope.{Scope}
 use Rattle.ospf_types.specs.declared.key.Scope.TheVariants.{Area}
-use Rattle.ospf_types.specs.declared.lsa.External.{External}
+use Rattle.ospf_types.specs.declared.lsa.ExternalFields.{ExternalFields}
 use Rattle.ospf_types.specs.declared.prefix.Prefix.{Prefix}
 use Rattle.ospf_types.specs.Network.{network_cmp}
 use Rattle.explanation.specs.declared.explained.Candidate.{Candidate}
@@ -29,17 +29,17 @@ use Rattle.explanation.proofs.OfNetwork.{just_those}
 
 module _ (w : Layers) (o : Offer) (paths : List Path) where
   -- the traces of an offer of an area
-  pub within_as : (area : ℕ) (traces : List Trace) (k : OfferKind) → ((metric : ℕ) (external : External) → k ≡ kind.AsExternal metric external → ⊥) → AreWithin w area o paths traces → AreTracesAs w o (Area area) k paths traces
+  pub within_as : (area : ℕ) (traces : List Trace) (k : OfferKind) → ((metric : ℕ) (external : ExternalFields) → k ≡ kind.AsExternal metric external → ⊥) → AreWithin w area o paths traces → AreTracesAs w o (Area area) k paths traces
   within_as area traces (kind.Stub metric) other are = are
   within_as area traces kind.Transit other are = are
   within_as area traces (kind.Summary metric) other are = are
   within_as area traces (kind.AsExternal metric external) other are = absurd (other metric external refl)
 
   -- of an AS-external-LSA without a forwarding address, and with one
-  pub outside_as : (scope : Scope) (metric : ℕ) (external : External) (traces : List Trace) → external.forwarding ≡ 0 → AreOutside w 0 o paths traces → AreTracesAs w o scope (kind.AsExternal metric external) paths traces
+  pub outside_as : (scope : Scope) (metric : ℕ) (external : ExternalFields) (traces : List Trace) → external.forwarding ≡ 0 → AreOutside w 0 o paths traces → AreTracesAs w o scope (kind.AsExternal metric external) paths traces
   outside_as scope metric external traces none are = subst (λ (address : ℕ). AreOutside w address o paths traces) (sym none) are
 
-  pub forwarded_as : (scope : Scope) (metric : ℕ) (external : External) (traces : List Trace) → 0 < external.forwarding → AreForwarded w external.forwarding o paths traces → AreTracesAs w o scope (kind.AsExternal metric external) paths traces
+  pub forwarded_as : (scope : Scope) (metric : ℕ) (external : ExternalFields) (traces : List Trace) → 0 < external.forwarding → AreForwarded w external.forwarding o paths traces → AreTracesAs w o scope (kind.AsExternal metric external) paths traces
   forwarded_as scope metric external traces some are = inr (inr (some, are))
 
 module _ (w : Layers) (all : List Offer) where

@@ -4,7 +4,7 @@ use Rattle.std.specs.FinMap.{get, entries}
 use Rattle.ospf_types.specs.declared.config.Interface.{Interface}
 use Rattle.ospf_types.specs.declared.entry.Vertex.TheVariants.{Router, Network}
 use Rattle.ospf_types.specs.declared.key.Key.{Key}
-use Rattle.ospf_types.specs.declared.lsa.External.{External}
+use Rattle.ospf_types.specs.declared.lsa.ExternalFields.{ExternalFields}
 use Rattle.ospf_types.specs.declared.prefix.Prefix.{Prefix}
 use Rattle.ospf_types.specs.Inter.{LSInfinity}
 use Rattle.ospf_types.specs.Intra.{B, LiesIn}
@@ -112,12 +112,12 @@ abbrev pub IsBoundaryReached : Layers → ℕ → Type 0
 IsBoundaryReached w router = (p : PreferredValue) × (get w.calculation.now.external.preferred router ≡ Some p)
 
 -- what an AS-external-LSA is compared by
-abbrev pub IsExternalKey : Layers → Offer → ℕ → External → ExternalKey → Type 0
+abbrev pub IsExternalKey : Layers → Offer → ℕ → ExternalFields → ExternalKey → Type 0
 IsExternalKey w o metric external key = IsFit w o metric × IsBoundaryReached w o.source.key.router
     × ((class distance : ℕ) × LeadsAt w o.source.key.router external.forwarding class distance × (key ≡ key_by external.is_type_2 metric class distance))
 
 -- what it is compared by if it has a forwarding address, whichever the AS boundary router
-abbrev pub IsForwardedKey : Layers → ℕ → External → ExternalKey → Type 0
+abbrev pub IsForwardedKey : Layers → ℕ → ExternalFields → ExternalKey → Type 0
 IsForwardedKey w metric external key =
     (class distance : ℕ) × ((router : ℕ) → LeadsAt w router external.forwarding class distance) × (key ≡ key_by external.is_type_2 metric class distance)
 
@@ -126,7 +126,7 @@ abbrev pub LeadsNowhere : Layers → ℕ → Type 0
 LeadsNowhere w address = (0 < address) × ((f : ForwardValue) (way : WayValue) → get w.calculation.now.external.forwards address ≡ Some f → f.way ≡ Some way → ⊥)
 
 -- why it is not compared: the first of the steps that speaks against it, in the order of 16.4
-abbrev pub LacksKey : Layers → Offer → ℕ → External → Verdict → Type 0
+abbrev pub LacksKey : Layers → Offer → ℕ → ExternalFields → Verdict → Type 0
 LacksKey w o metric external verdict.NoBoundaryRouter = IsFit w o metric × (get w.calculation.now.external.preferred o.source.key.router ≡ None)
 LacksKey w o metric external verdict.NoForward = IsFit w o metric × IsBoundaryReached w o.source.key.router × LeadsNowhere w external.forwarding
 LacksKey w o metric external f = IsUnfit w o metric f

@@ -2,7 +2,7 @@
 use Rattle.std.specs.Prelude.{ℕ, ◌≡◌, ◌<◌, ◌==◌, Bool, List, length, get_or, ◌++◌, Option, Some, None, if◌then◌else◌, option_to_list}
 use Rattle.std.specs.List.{filter_map, flat_map, list_any}
 use Rattle.ospf_types.specs.declared.key.Scope.{Scope}
-use Rattle.ospf_types.specs.declared.lsa.External.{External}
+use Rattle.ospf_types.specs.declared.lsa.ExternalFields.{ExternalFields}
 use Rattle.ospf_types.specs.declared.lsa.Link.{Link}
 use Rattle.ospf_types.specs.declared.lsa.LinkKind.{LinkKind}
 use Rattle.ospf_types.specs.declared.lsa.LinkKind.TheVariants as link
@@ -58,7 +58,7 @@ abbrev pub stub_if : (Prefix → Bool) → Scope → Lsa → Link → Option Off
 stub_if wanted scope l k = stub_by k.kind wanted scope l k
 
 -- with a metric the LSA is a summary or external, else it is the transit network's
-abbrev pub kind_by : Option ℕ → Option External → OfferKind
+abbrev pub kind_by : Option ℕ → Option ExternalFields → OfferKind
 kind_by None external = Transit
 kind_by (Some metric) None = Summary metric
 kind_by (Some metric) (Some external) = AsExternal metric external

@@ -123,7 +123,7 @@ impl Layers<'_, '_> {
     fn matched(self, address: u32) -> Option<Prefix>
         ensures { result ≡ match_at self.entry address }
     {
-        match self.calculation.external().forward(address) {
+        match self.calculation.external().forwarding_match(address) {
             Some(forward) => forward.matched(),
             None => None,
         }

@@ -77,7 +77,7 @@ impl<'c, 'a> Layers<'c, 'a> {
         ensures { IsKeyStanding self.entry.areas.now area vertex result }
     {
         match self.area(area) {
-            Some(area) => match area.tree.standing(area.database, vertex) {
+            Some(area) => match area.tree.lsa_for_vertex(area.database, vertex) {
                 Some(lsa) => Some(lsa.key()),
                 None => None,
             },

@@ -6,7 +6,7 @@ ghost use Rattle.result_map.specs.Lists.{ListsExactly};
 ghost use Rattle.explanation.specs.Offers.{IsPlaceOf, is_one_of};
 
 use ospf_types::prefix::Prefix;
-use result_map::ascending;
+use result_map::sorted_unique;
 use std::marker::Model;
 
 /// Networks in the order of addresses and then of prefix lengths, without duplicates.
@@ -38,7 +38,7 @@ impl Networks {
         ensures { ListsExactly (Contains networks.items) result }
     {
         Networks {
-            items: ascending(networks),
+            items: sorted_unique(networks),
         }
     }
 

@@ -4,7 +4,7 @@ ghost use Rattle.explanation.specs.Offers.{source_of};
 
 use lsa_codec::Checked;
 use ospf_types::key::{Key, Scope};
-use ospf_types::lsa::External;
+use ospf_types::lsa::ExternalFields;
 use ospf_types::prefix::Prefix;
 
 /// An instance of an LSA, and the database that has it.
@@ -51,5 +51,5 @@ pub enum OfferKind {
     /// A summary-LSA, with its metric.
     Summary(u32),
     /// An AS-external-LSA, with its metric.
-    AsExternal(u32, External),
+    AsExternal(u32, ExternalFields),
 }

@@ -12,7 +12,7 @@ use crate::layers::Layers;
 use crate::offer::Offer;
 use ospf_types::config::Interface;
 use ospf_types::entry::Vertex;
-use ospf_types::lsa::{External, LS_INFINITY, MAX_AGE};
+use ospf_types::lsa::{ExternalFields, LS_INFINITY, MAX_AGE};
 use ospf_types::prefix::Prefix;
 use state_trees::is_up_in;
 
@@ -99,7 +99,7 @@ impl Layers<'_, '_> {
         self,
         offer: &Offer,
         metric: u32,
-        external: External,
+        external: ExternalFields,
     ) -> Result<ExternalKey, Verdict>
         ensures key { IfOk result (IsExternalKey self.entry offer.now metric external) }
         ensures none { IfErr result (LacksKey self.entry offer.now metric external) }
@@ -124,7 +124,7 @@ impl Layers<'_, '_> {
     }
 
     // Returns the key of an AS-external-LSA with a forwarding address.
-    fn forwarded_key(self, metric: u32, external: External) -> Result<ExternalKey, Verdict>
+    fn forwarded_key(self, metric: u32, external: ExternalFields) -> Result<ExternalKey, Verdict>
         requires metric { metric < LSInfinity }
         requires some { 0 < external.forwarding }
         ensures key { IfOk result (IsForwardedKey self.entry metric external) }
@@ -145,7 +145,7 @@ impl Layers<'_, '_> {
         ensures bounded { IfSome result (λ found. found.1 < most_cost) }
         ensures none { IfNone result (LeadsNowhere self.entry address) }
     {
-        let way = self.calculation.external().forward(address)?.way()?;
+        let way = self.calculation.external().forwarding_match(address)?.way()?;
         Some((way.class(), way.cost()))
     }
 

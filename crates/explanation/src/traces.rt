@@ -163,7 +163,7 @@ fn source_at(area: &AreaInputs<'_>, vertex: Vertex) -> Option<LsaInstance>
     ensures some { IfSome result (IsSourceAt area.now vertex) }
     ensures none { IfNone result (IsStanding area.now.lsas vertex None) }
 {
-    let lsa = area.tree.standing(area.database, vertex)?;
+    let lsa = area.tree.lsa_for_vertex(area.database, vertex)?;
     let (lsa, _) = area.database.get(lsa.key())?;
     Some(LsaInstance::of(Scope::Area(area.id), lsa))
 }

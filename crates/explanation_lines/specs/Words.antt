@@ -9,7 +9,7 @@ use Rattle.ospf_types.specs.declared.entry.Vertex.TheVariants.{Router, Network}
 use Rattle.ospf_types.specs.declared.hop.Path.{Path}
 use Rattle.ospf_types.specs.declared.key.Scope.{Scope}
 use Rattle.ospf_types.specs.declared.key.Scope.TheVariants.{Area, As}
-use Rattle.ospf_types.specs.declared.lsa.External.{External}
+use Rattle.ospf_types.specs.declared.lsa.ExternalFields.{ExternalFields}
 use Rattle.route_table.specs.declared.table.Item.{Item}
 use Rattle.route_table.specs.declared.table.Item.TheVariants as item
 use Rattle.route_table.specs.declared.table.Match.{Match}
@@ -39,7 +39,7 @@ cost_text None = codes "-"
 cost_text (Some cost) = decimal cost
 
 -- the type of an external metric, 1 or 2
-abbrev pub external_type : External → ℕ
+abbrev pub external_type : ExternalFields → ℕ
 external_type e = if e.is_type_2 then 2 else 1
 
 abbrev pub offer_text : OfferKind → List ℕ

@@ -13,7 +13,7 @@ use ospf_types::address::Address;
 use ospf_types::entry::Vertex;
 use ospf_types::hop::Path;
 use ospf_types::key::Scope;
-use ospf_types::lsa::External;
+use ospf_types::lsa::ExternalFields;
 use ospf_types::memory::Memory;
 use ospf_types::prefix::Prefix;
 use route_table::{Item, Match};
@@ -118,7 +118,7 @@ fn put_offer(kind: OfferKind, text: &mut String) -> Result<(), Memory>
 }
 
 /// Returns the type of an external metric, 1 or 2.
-pub(crate) fn external_type(external: External) -> u8
+pub(crate) fn external_type(external: ExternalFields) -> u8
     ensures { result ≡ type_of_external external }
 {
     if external.is_type_2 { 2 } else { 1 }

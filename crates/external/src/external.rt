@@ -149,7 +149,7 @@ impl External {
     /// Returns the longest match of a forwarding address (in host order), and the path there (RFC
     /// 2328, 16.4 (3)). Returns `None` if no advertised route has this address, or the routes are
     /// spent.
-    pub fn forward(&self, address: u32) -> Option<&ForwardingMatch>
+    pub fn forwarding_match(&self, address: u32) -> Option<&ForwardingMatch>
         ensures { option_copied result ≡ map.get self.now.forwards address }
     {
         self.forwards.get(address)

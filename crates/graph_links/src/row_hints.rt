@@ -11,7 +11,7 @@ pub fn hinted_by(links: &[Link], index: usize, vertex: Vertex) -> HintedVertex
 {
     match links.get(index) {
         Some(link) => HintedVertex::new(vertex, link.to.number()),
-        None => HintedVertex::nowhere(vertex),
+        None => HintedVertex::without_hint(vertex),
     }
 }
 

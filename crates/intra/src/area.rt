@@ -20,7 +20,7 @@ use ospf_types::entry::Vertex;
 use ospf_types::key::{Key, Scope};
 use ospf_types::memory::Memory;
 use ospf_types::prefix::Prefix;
-use path_choice::{ReachedRouter, RouterReach, is_abr_or_asbr, keep};
+use path_choice::{ReachedRouter, RouterReach, is_abr_or_asbr, reached_router};
 use result_map::ResultMap;
 use std::alloc::Global;
 use std::marker::Model;
@@ -366,7 +366,7 @@ fn reached_now(
         distance: area.tree.distance(vertex),
         hops: area.tree.hops(vertex),
     };
-    keep(alloc, rooted.root, flags, reach)
+    reached_router(alloc, rooted.root, flags, reach)
 }
 
 // Returns true if there are bits, and bit B or bit E is set.

@@ -40,7 +40,7 @@ pub(crate) struct Source {
 impl<A: Drop> MadeWith<A> for Source {
     fn made_with(_alloc: A) -> Source {
         Source {
-            vertex: HintedVertex::nowhere(Vertex::Router(0)),
+            vertex: HintedVertex::without_hint(Vertex::Router(0)),
             metric: 0,
         }
     }
@@ -151,7 +151,7 @@ impl AreaIndex {
         ensures touched { OnOk result (AreTouched self.old self.new
             dirty.old.items dirty.new.items) }
     {
-        let standing = area.tree.standing(area.database, vertex);
+        let standing = area.tree.lsa_for_vertex(area.database, vertex);
         if are_as_said(self.offered(vertex), vertex, standing) {
             return Ok(());
         }
@@ -216,7 +216,7 @@ impl AreaIndex {
         ensures offered { OnOk result (self.new.offered
             ≡ map.insert self.old.offered vertex fresh) }
     {
-        self.add_sources(&tree.placed(vertex), fresh.offers())?;
+        self.add_sources(&tree.with_hint(vertex), fresh.offers())?;
         self.offered.insert(vertex, fresh)?;
         Ok(())
     }

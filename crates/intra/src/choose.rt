@@ -16,7 +16,7 @@ ghost use Rattle.intra.specs.Choosing.{AmongSources, FindsNearest, FindsNearestW
 use crate::area::AreaIntra;
 use crate::area_index::Source;
 use crate::entry::IntraEntry;
-use crate::inputs::{AreaInputs, Inputs};
+use crate::inputs::{AreaInputs, IntraInputs};
 use ospf_types::config::Interface;
 use ospf_types::entry::{Entry, PathType, Paths, Vertex};
 use ospf_types::hop::{NextHop, Path};
@@ -31,14 +31,14 @@ use vertex_map::HintedVertex;
 /// The inputs of a choice, and the state of each of their areas.
 #[derive(Drop)]
 pub(crate) struct IndexedInputs<'a> {
-    pub(crate) inputs: &'a Inputs<'a>,
+    pub(crate) inputs: &'a IntraInputs<'a>,
     pub(crate) kept: &'a [AreaIntra],
 }
 
 // A network whose entry is chosen, and one of the areas that may offer it.
 #[derive(Drop)]
 struct AreaNetwork<'a> {
-    inputs: &'a Inputs<'a>,
+    inputs: &'a IntraInputs<'a>,
     area: &'a AreaInputs<'a>,
     prefix: Prefix,
 }
@@ -272,7 +272,7 @@ fn network_of(sources: &[Source], id: u32) -> HintedVertex
             return source.vertex.with_vertex(network);
         }
     }
-    HintedVertex::nowhere(network)
+    HintedVertex::without_hint(network)
 }
 
 // Returns the nearest transit network, with this source included.

@@ -45,7 +45,7 @@ pub(crate) struct RootedArea<'a> {
 
 /// The inputs of intra-area routes.
 #[derive(Drop)]
-pub struct Inputs<'a> {
+pub struct IntraInputs<'a> {
     /// The Router ID of the calculating router.
     pub root: u32,
     /// Its areas, always in the same order.
@@ -54,7 +54,7 @@ pub struct Inputs<'a> {
     pub interfaces: Iter<'a, u8, Interface>,
 }
 
-impl<'a> Model for Inputs<'a> {
+impl<'a> Model for IntraInputs<'a> {
     ghost use Rattle.std.specs.FinMap as map;
     ghost use Rattle.std.specs.Coded.{Coded, codes, coded_ℕ};
     ghost use Rattle.ospf_types.specs.Keys.{key_code};

@@ -17,7 +17,7 @@ use crate::area::AreaIntra;
 use crate::choose::IndexedInputs;
 use crate::dirty::Dirty;
 use crate::entry::IntraEntry;
-use crate::inputs::{AreaInputs, Inputs, RootedArea};
+use crate::inputs::{AreaInputs, IntraInputs, RootedArea};
 use crate::affected::Affected;
 use indexmap::map::Slice;
 use lsdb::Database;
@@ -80,7 +80,7 @@ impl Model for Intra {
 
 impl Intra {
     /// Builds the routes of these inputs.
-    pub fn build(alloc: Global, inputs: &Inputs<'_>, hashing: RandomState) -> Result<Intra, Memory>
+    pub fn build(alloc: Global, inputs: &IntraInputs<'_>, hashing: RandomState) -> Result<Intra, Memory>
         requires { AreReady inputs.now }
         ensures kept { IfOk result (IsIntraOf inputs.now) }
         ensures right { IfOk result (IsRightWherever inputs.now) }
@@ -109,7 +109,7 @@ impl Intra {
     pub fn update(
         &mut self,
         alloc: Global,
-        inputs: &Inputs<'_>,
+        inputs: &IntraInputs<'_>,
         dirty: &Dirty,
     ) -> Result<Vec<Dest>, Memory>
         requires ready { AreReady inputs.now }
@@ -226,7 +226,7 @@ impl Intra {
     fn update_parts(
         &mut self,
         alloc: Global,
-        inputs: &Inputs<'_>,
+        inputs: &IntraInputs<'_>,
         dirty: &Dirty,
     ) -> Result<Vec<Dest>, Memory>
         requires ready { AreReady inputs.now }
@@ -245,7 +245,7 @@ impl Intra {
 
     // Updates the areas. Returns the prefixes whose entry may change, and the routers whose kept
     // value changed in some area, both in ascending order without duplicates.
-    fn follow(&mut self, alloc: Global, inputs: &Inputs<'_>, dirty: &Dirty) -> Result<Affected, Memory>
+    fn follow(&mut self, alloc: Global, inputs: &IntraInputs<'_>, dirty: &Dirty) -> Result<Affected, Memory>
         requires ready { AreReady inputs.now }
         requires before { HaveKeptBefore dirty.now inputs.now self.old.areas }
         ensures entries { OnOk result (self.new.entries ≡ self.old.entries) }
@@ -273,7 +273,7 @@ impl Intra {
     fn update_entries(
         &mut self,
         alloc: Global,
-        inputs: &Inputs<'_>,
+        inputs: &IntraInputs<'_>,
         prefixes: &[Prefix],
         dests: &mut Vec<Dest>,
     ) -> Result<(), Memory>
@@ -302,7 +302,7 @@ impl Intra {
 // Updates the state of each area by its LSAs, its tree and the interfaces.
 fn follow_areas(
     areas: &mut [AreaIntra],
-    inputs: &Inputs<'_>,
+    inputs: &IntraInputs<'_>,
     dirty: &Dirty,
     named: &mut Affected,
 ) -> Result<(), Memory>

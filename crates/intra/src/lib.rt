@@ -34,6 +34,6 @@ mod offered;
 
 pub use dirty::Dirty;
 pub use entry::IntraEntry;
-pub use inputs::{AreaInputs, Inputs};
+pub use inputs::{AreaInputs, IntraInputs};
 pub use intra::Intra;
 pub use path_choice::ReachedRouter;

@@ -6,7 +6,7 @@ use Rattle.std.proofs.lemmas.List.{length-drop, drop-drop, nil_from_length, appe
 use Rattle.std.proofs.lemmas.Option.{slice_get_past}
 use Rattle.byteorder.specs.Endian.{big_bytes, big_number}
 use Rattle.ospf_types.specs.declared.lsa.Header.{Header}
-use Rattle.ospf_types.specs.declared.lsa.External.{External}
+use Rattle.ospf_types.specs.declared.lsa.ExternalFields.{ExternalFields}
 use Rattle.ospf_types.specs.Lsa.{Lsa, Body, RouterLinks, NetworkLinks, NetworkSummary, BoundarySummary, AsExternal, RouterLink, kind_of, network_of}
 use Rattle.lsa_codec.specs.Spelling.{header_bytes, body_bytes, link_bytes, summary_tos_bytes, record_bytes, spelling, IsMask, IsLegal, IsLegalBody, IsLegalLink, Spells}
 use Rattle.lsa_codec.specs.Checksum.{IsSound}
@@ -170,10 +170,10 @@ kept_metric bytes l e kept le =
     metric_in l.header l.body bytes (kept_spelled bytes l e kept) (kept_legal bytes l e kept).body le
 
 -- an AS-external-LSA
-abbrev pub first_of_bytes : List ℕ → External
+abbrev pub first_of_bytes : List ℕ → ExternalFields
 first_of_bytes bytes = record { is_type_2 = leb 128 (slice_index bytes 24); forwarding = big_number 4 (drop 28 bytes) }
 
-external_named : (f g : Bool) (w x : ℕ) → f ≡ g → w ≡ x → Some (let y : External = record { is_type_2 = f; forwarding = w } in y) ≡ Some (record { is_type_2 = g; forwarding = x })
+external_named : (f g : Bool) (w x : ℕ) → f ≡ g → w ≡ x → Some (let y : ExternalFields = record { is_type_2 = f; forwarding = w } in y) ≡ Some (record { is_type_2 = g; forwarding = x })
 external_named f g w x ef ew = rw (ef, ew) refl
 
 pub record FirstRecord (bytes : List ℕ) (b : Body) : Type 0 where

@@ -2,7 +2,7 @@
 use Rattle.std.specs.Prelude.{ℕ, List, [], map, Option, Some, None}
 use Rattle.std.specs.List.{slice_get}
 use Rattle.ospf_types.specs.declared.lsa.Link.{Link}
-use Rattle.ospf_types.specs.declared.lsa.External.{External}
+use Rattle.ospf_types.specs.declared.lsa.ExternalFields.{ExternalFields}
 use Rattle.ospf_types.specs.declared.prefix.Prefix.{Prefix}
 use Rattle.ospf_types.specs.Lsa.{Lsa, Body, RouterLinks, NetworkLinks, NetworkSummary, BoundarySummary, AsExternal, RouterLink, ExternalRecord, network_of}
 
@@ -57,11 +57,11 @@ metric_of (NetworkSummary mask metric tos) = Some metric
 metric_of (BoundarySummary metric tos) = Some metric
 metric_of (AsExternal mask first more) = Some first.metric
 
-abbrev pub without_metric : ExternalRecord → External
+abbrev pub without_metric : ExternalRecord → ExternalFields
 without_metric r = record { is_type_2 = r.is_type_2; forwarding = r.forwarding }
 
 -- that of the first record
-abbrev pub external_of : Body → Option External
+abbrev pub external_of : Body → Option ExternalFields
 external_of (RouterLinks flags links) = None
 external_of (NetworkLinks mask routers) = None
 external_of (NetworkSummary mask metric tos) = None

@@ -10,7 +10,7 @@ use crate::routers::Routers;
 use byteorder::{BigEndian, ByteOrder};
 use ospf_types::key::Key;
 use ospf_types::lsa::{
-    AS_EXTERNAL_LSA, External, Header, Link, NETWORK_LSA, ROUTER_LSA, SUMMARY_LSA,
+    AS_EXTERNAL_LSA, ExternalFields, Header, Link, NETWORK_LSA, ROUTER_LSA, SUMMARY_LSA,
 };
 use ospf_types::memory::Memory;
 use ospf_types::prefix::Prefix;
@@ -192,7 +192,7 @@ impl Checked {
 
     /// Returns the first record of an AS-external-LSA without its metric (RFC 2328, A.4.5), or
     /// `None` for any other LS type.
-    pub fn external(&self) -> Option<External>
+    pub fn external(&self) -> Option<ExternalFields>
         ensures { result ≡ external_of self.now.body }
     {
         if self.kind() != AS_EXTERNAL_LSA {

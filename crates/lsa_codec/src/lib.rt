@@ -21,7 +21,7 @@ pub use checked::Checked;
 pub use checksum::sum_of;
 pub use fault::WireFault;
 pub use links::Links;
-pub use ospf_types::lsa::{External, Header, Link, LinkKind};
+pub use ospf_types::lsa::{ExternalFields, Header, Link, LinkKind};
 pub use ospf_types::memory::Memory;
 pub use ospf_types::prefix::Prefix;
 pub use reading::read;

@@ -5,7 +5,7 @@ ghost use Rattle.std.specs.Prelude.{◌≡◌, ◌≤◌, nat_le, length, drop, 
 ghost use Rattle.byteorder.specs.Endian.{big_number};
 
 use byteorder::{BigEndian, ByteOrder};
-use ospf_types::lsa::External;
+use ospf_types::lsa::ExternalFields;
 
 /// Returns the metric of a summary-LSA, or of the first record of an AS-external-LSA.
 pub(crate) fn metric_in(bytes: &[u8]) -> u32
@@ -16,11 +16,11 @@ pub(crate) fn metric_in(bytes: &[u8]) -> u32
 }
 
 /// Returns the first record of an AS-external-LSA, without its metric.
-pub(crate) fn first_record(bytes: &[u8]) -> External
+pub(crate) fn first_record(bytes: &[u8]) -> ExternalFields
     requires { 36 ≤ length bytes.now }
     ensures { result ≡ record { is_type_2 = nat_le 128 (slice_index bytes.now 24); forwarding = big_number 4 (drop 28 bytes.now) } }
 {
-    External {
+    ExternalFields {
         is_type_2: bytes[24] >= 0x80,
         forwarding: BigEndian::read_u32(&bytes[28..]),
     }

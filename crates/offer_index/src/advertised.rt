@@ -10,12 +10,12 @@ use crate::index_key::IndexKey;
 use lsa_codec::Checked;
 use lsdb::Database;
 use ospf_types::key::{Dest, Key, Scope};
-use ospf_types::lsa::{External, LS_INFINITY};
+use ospf_types::lsa::{ExternalFields, LS_INFINITY};
 use result_map::Same;
 use std::marker::Model;
 
 // The external fields of a route that a summary-LSA advertises.
-const NO_EXTERNAL: External = External {
+const NO_EXTERNAL: ExternalFields = ExternalFields {
     is_type_2: false,
     forwarding: 0,
 };
@@ -115,7 +115,7 @@ impl ScopeDatabase<'_> {
 struct LsaRoute {
     dest: Dest,
     metric: u32,
-    external: External,
+    external: ExternalFields,
 }
 
 // Returns the route of a summary-LSA, or `None` if its destination is the root.

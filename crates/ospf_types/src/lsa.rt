@@ -72,7 +72,7 @@ pub struct Link {
 
 /// The fields of an AS-external-LSA's first record other than its metric (RFC 2328, A.4.5).
 #[derive(Clone, Copy, Debug, PartialEq, Eq, Hash)]
-pub struct External {
+pub struct ExternalFields {
     /// True if the metric is a type 2 metric (bit E).
     pub is_type_2: bool,
     /// The forwarding address in host order, or 0 for the AS boundary router itself.

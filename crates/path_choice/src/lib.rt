@@ -6,4 +6,4 @@ mod choice;
 mod reached_router;
 
 pub use choice::{AreaCost, Best, Choice, ExactOrd, offer_hop, offer_hops};
-pub use reached_router::{ReachedRouter, RouterReach, is_abr_or_asbr, keep};
+pub use reached_router::{ReachedRouter, RouterReach, is_abr_or_asbr, reached_router};

@@ -106,7 +106,7 @@ pub struct RouterReach<'a> {
 ///
 /// Returns `None` for the root, for a router that is not reached, and for a router without bits B
 /// and E.
-pub fn keep(
+pub fn reached_router(
     alloc: Global,
     root: u32,
     flags: Option<u8>,

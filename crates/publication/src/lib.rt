@@ -17,7 +17,7 @@
 //! A forwarder takes no lock, waits for nobody and allocates nothing.
 //!
 //! `publish_table_changes` makes one change for each network that changed: set, drop or discard.
-//! Its cost follows the changes. `show` clears the table and publishes all of it, so its result
+//! Its cost follows the changes. `publish_table` clears the table and publishes all of it, so its result
 //! does not depend on updates that were pending.
 //!
 //! A token (`Told`) stands for a published history, of which only the length and the serial are
@@ -42,4 +42,4 @@ pub use rule::{TableWriter, TellsName};
 pub use published_table::{EngineName, PublishedTable};
 pub use token::Told;
 pub use lookup_error::LookupError;
-pub use publishing::{show, publish_table_changes};
+pub use publishing::{publish_table, publish_table_changes};

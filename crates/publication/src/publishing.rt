@@ -148,7 +148,7 @@ fn publish<R: Wait>(rt: &R, writer: TableWriter, front: &HistoryPrefix) -> (Tabl
 ///
 /// Returns the writer, and true if the table was published. If it was not, readers see the same
 /// table as before.
-pub fn show<R: Wait>(
+pub fn publish_table<R: Wait>(
     rt: &R,
     alloc: Global,
     writer: TableWriter,

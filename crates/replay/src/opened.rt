@@ -53,6 +53,6 @@ fn open_core(alloc: Global, base: Base, hashing: RandomState) -> Result<Core, Me
     requires { base_fault_of standard_limits base ≡ None }
     ensures { IfOk result (IsOpened base) }
 {
-    let core = Core::open_sound(alloc, base, Limits::STANDARD, hashing)?;
+    let core = Core::open_with_limits(alloc, base, Limits::STANDARD, hashing)?;
     Ok(core)
 }

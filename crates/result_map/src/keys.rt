@@ -69,7 +69,7 @@ impl ResultKey for u32 {
 }
 
 /// Sorts the keys and removes duplicates.
-pub fn ascending<K: ResultKey>(mut keys: Vec<K>) -> Vec<K>
+pub fn sorted_unique<K: ResultKey>(mut keys: Vec<K>) -> Vec<K>
     ensures in_order { IsStrictlySortedBy K.order result.items }
     ensures same { ListsExactly (Contains keys.items) result.items }
 {

@@ -12,7 +12,7 @@ mod reported_as;
 
 pub use choose::Choose;
 pub use dests::{add_networks, add_routers, dests_of, networks_among, routers_among};
-pub use keys::{ResultKey, ascending};
+pub use keys::{ResultKey, sorted_unique};
 pub use results::ResultMap;
 pub use same::{Same, are_same};
 pub use reported_as::ReportedAs;

@@ -11,14 +11,14 @@ pub trait ReportedAs<K> {
     ghost reported_as: { K → Self };
 
     /// Returns the reported form of the key.
-    fn told(key: K) -> Self
+    fn reported(key: K) -> Self
         ensures { result ≡ reported_as key };
 }
 
 impl<K: ResultKey> ReportedAs<K> for K {
     ghost reported_as = { λ key. key };
 
-    fn told(key: K) -> K {
+    fn reported(key: K) -> K {
         key
     }
 }
@@ -28,7 +28,7 @@ impl ReportedAs<Prefix> for Dest {
 
     ghost reported_as = { λ network. Net network };
 
-    fn told(key: Prefix) -> Dest {
+    fn reported(key: Prefix) -> Dest {
         Dest::Net(key)
     }
 }

@@ -33,7 +33,7 @@ ghost use Rattle.result_map.specs.Results.{AreKeysOf, AreResults, OthersUnchange
 ghost use Rattle.result_map.specs.Chosen.{AreChosen, AreRechosen, AreChosenExcept, HasChanged, IsRechosen};
 
 use crate::choose::Choose;
-use crate::keys::{ResultKey, ascending};
+use crate::keys::{ResultKey, sorted_unique};
 use crate::entry_positions::{exchange, place_of};
 use crate::same::Same;
 use crate::reported_as::ReportedAs;
@@ -200,7 +200,7 @@ impl<K: ResultKey, V: Same + Drop> ResultMap<K, V> {
             ListsExactly (HasChanged (result_at K.order self.old) (result_at K.order self.new))
             others.items) }
     {
-        let keys = ascending(keys);
+        let keys = sorted_unique(keys);
         let mut others = Vec::new(alloc);
         self.choose_each(alloc, &keys, by, &mut others)?;
         Ok(others)
@@ -274,7 +274,7 @@ fn choose_one<K: ResultKey, V: Same + Drop, R: Choose<K, V>, N: ReportedAs<K> + 
     if !exchange(entries, place, key, fresh)? {
         return Ok(None);
     }
-    told.push(N::told(key))?;
+    told.push(N::reported(key))?;
     Ok(stands.then_some(at))
 }
 

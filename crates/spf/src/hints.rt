@@ -11,7 +11,7 @@ pub(crate) fn tail_of(links: &[Link], vertex: Vertex) -> HintedVertex
 {
     match links.first() {
         Some(link) => link.from.with_vertex(vertex),
-        None => HintedVertex::nowhere(vertex),
+        None => HintedVertex::without_hint(vertex),
     }
 }
 

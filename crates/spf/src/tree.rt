@@ -141,7 +141,7 @@ impl Tree {
     }
 
     /// Clears the list of changed vertices. It is called instead of `repair` if no link changed.
-    pub fn rest(&mut self)
+    pub fn mark_unchanged(&mut self)
         ensures { self.new ≡ at_rest self.old }
     {
         self.changed.clear();

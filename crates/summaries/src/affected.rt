@@ -30,12 +30,12 @@ pub(crate) fn affected(
     for area in areas {
         push_ranges_of(area, dests, &mut found)?;
     }
-    ascending(found)
+    sorted_unique(found)
 }
 
 /// Returns the destinations in ascending order without duplicates. This is cheap if they are in
 /// order already.
-pub(crate) fn ascending(mut dests: Vec<Dest>) -> Result<Vec<Dest>, Memory>
+pub(crate) fn sorted_unique(mut dests: Vec<Dest>) -> Result<Vec<Dest>, Memory>
     ensures in_order { IfOk result (λ found. IsStrictlySortedBy dest_cmp found.items) }
     ensures same { IfOk result (λ found. ListsExactly (Contains dests.items) found.items) }
 {

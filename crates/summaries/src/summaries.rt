@@ -13,7 +13,7 @@ ghost use Rattle.summaries.specs.Right.{IsRightWith};
 use crate::due_changes::DueChanges;
 use crate::giving::{Candidate, find_candidate, is_served, metric};
 use crate::inputs::SummaryInputs;
-use crate::affected::{all, ascending, affected};
+use crate::affected::{all, sorted_unique, affected};
 use ospf_types::config::AreaConfig;
 use ospf_types::key::Dest;
 use ospf_types::memory::Memory;
@@ -201,7 +201,7 @@ impl DueSummaries {
     {
         let mut found = all(alloc, inputs)?;
         self.push_own(&mut found)?;
-        ascending(found)
+        sorted_unique(found)
     }
 
     // Appends the destinations that are due in an area.

@@ -13,21 +13,11 @@ use std::thread::{Threads, join};
 use test_core::{items, networks_of};
 
 // A forwarder, the serials of its tokens, and the serial that it saw last.
+#[derive(Drop)]
 pub struct Watch {
     forwarder: Forwarder,
     told: Vec<u64>,
     last: u64,
-}
-
-// proof: a value is dropped by one call, not part by part at each exit of a function.
-impl Drop for Watch {
-    fn drop(self) {
-        let Watch {
-            forwarder: _forwarder,
-            told: _told,
-            last: _,
-        } = self;
-    }
 }
 
 impl Watch {

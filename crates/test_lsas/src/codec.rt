@@ -3,7 +3,7 @@
 ghost use Rattle.std.specs.Prelude.{◌≤◌};
 
 use crate::bytes::{STUB, put, seal};
-use lsa_codec::{Checked, External, Link, LinkKind, Prefix, WireFault, read, sum_of, write};
+use lsa_codec::{Checked, ExternalFields, Link, LinkKind, Prefix, WireFault, read, sum_of, write};
 use std::alloc::Global;
 use std::test::Fail;
 
@@ -128,7 +128,7 @@ fn shows_summary(lsa: &Checked) -> bool {
 }
 
 fn shows_external(lsa: &Checked) -> bool {
-    let first = External {
+    let first = ExternalFields {
         is_type_2: true,
         forwarding: 0,
     };

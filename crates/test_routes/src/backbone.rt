@@ -2,7 +2,7 @@
 ghost use Rattle.std.specs.Prelude.{◌≡◌, OnOk};
 
 use area_trees::AreaTree;
-use intra::{AreaInputs, Inputs, Intra};
+use intra::{AreaInputs, IntraInputs, Intra};
 use lsdb::Database;
 use ospf_types::config::Interface;
 use std::alloc::Global;
@@ -47,7 +47,7 @@ pub(crate) fn inside(
     let mut held = BTreeMap::new(alloc);
     held.insert(1, interface)?;
     let interfaces = held.iter();
-    let inputs = Inputs {
+    let inputs = IntraInputs {
         root: ROOT,
         areas: &areas,
         interfaces,

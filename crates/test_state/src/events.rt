@@ -130,7 +130,7 @@ pub(crate) fn opened(rt: &HostRuntime, limits: Option<Limits>) -> Result<State, 
     let (alloc, hashing) = (rt.alloc(), RandomState::new(rt)?);
     Ok(match limits {
         None => State::new(alloc, config, hashing)?,
-        Some(limits) => State::within(alloc, config, limits, hashing)?,
+        Some(limits) => State::with_limits(alloc, config, limits, hashing)?,
     })
 }
 
@@ -236,7 +236,7 @@ fn a_second_names_what_comes_to_max_age(rt: HostRuntime) -> Result<(), Fail> {
     state.step(install(rt.alloc(), &STUB, ROOT, 3599, 1)?)?;
     state.step(install(rt.alloc(), &STUB, OTHER, 3598, 1)?)?;
     state.step(moved(install(rt.alloc(), &STUB, OTHER, 3599, 1)?, inside))?;
-    let named = state.named(rt.alloc(), &Event::Second)?;
+    let named = state.affected_lsas(rt.alloc(), &Event::Second)?;
     let all = [(BACKBONE, key(1, ROOT)), (inside, key(1, OTHER))];
     assert!(rt; named.as_slice() == all.as_slice());
     Ok(())

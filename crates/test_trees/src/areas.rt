@@ -72,7 +72,7 @@ fn maker(lsa: Option<&Checked>) -> Option<u32> {
 fn stands(tree: &AreaTree, database: &Database) -> bool
     requires { (root : ℕ) × (ups : List UpValue) × IsAreaTree root database.now.lsas ups tree.now }
 {
-    maker(tree.standing(database, N)) == Some(3) && tree.distance(LEAF).is_none()
+    maker(tree.lsa_for_vertex(database, N)) == Some(3) && tree.distance(LEAF).is_none()
 }
 
 // Flushes the network-LSA of router 3, and updates the tree.

@@ -28,7 +28,7 @@ fn is_there(map: &VertexMap<u32>, number: u32) -> bool
     let vertex = Vertex::Router(number);
     at(map, &HintedVertex::new(vertex, 99 - number)) == Some(number)
         && at(map, &HintedVertex::new(vertex, number)) == Some(number)
-        && at(map, &HintedVertex::nowhere(vertex)) == Some(number)
+        && at(map, &HintedVertex::without_hint(vertex)) == Some(number)
         && at(map, &HintedVertex::new(Vertex::Network(number), 99 - number)).is_none()
 }
 

@@ -8,7 +8,7 @@ use vertex_queue::Queue;
 use word_hash::WordHash;
 
 fn put(queue: &mut Queue, vertex: Vertex, distance: u32) -> Result<(), Memory> {
-    queue.put(&HintedVertex::nowhere(vertex), distance)
+    queue.put(&HintedVertex::without_hint(vertex), distance)
 }
 
 // Returns true if the vertex is taken next, at this distance.
@@ -38,7 +38,7 @@ fn leave(queue: &mut Queue) -> bool {
 
 fn enter_and_leave(queue: &mut Queue) -> Result<bool, Memory> {
     fill(queue)?;
-    let put = queue.len() == 4 && queue.get(&HintedVertex::nowhere(Vertex::Router(2))) == Some(5);
+    let put = queue.len() == 4 && queue.get(&HintedVertex::without_hint(Vertex::Router(2))) == Some(5);
     Ok(leave(queue) && put)
 }
 

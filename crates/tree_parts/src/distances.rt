@@ -62,7 +62,7 @@ impl Distances {
         ensures value { result ≡ map.get self.now vertex }
         ensures bounded { IfSome result (λ distance. distance < most_distance) }
     {
-        self.get(&HintedVertex::nowhere(vertex))
+        self.get(&HintedVertex::without_hint(vertex))
     }
 
     /// Returns the number of vertices that are reached.

@@ -61,7 +61,7 @@ impl NextHopMap {
     pub fn find(&self, vertex: Vertex) -> Option<&HopSet>
         ensures { option_copied result ≡ map.get self.now vertex }
     {
-        self.get(&HintedVertex::nowhere(vertex))
+        self.get(&HintedVertex::without_hint(vertex))
     }
 
     /// Returns the number of vertices with next hops.

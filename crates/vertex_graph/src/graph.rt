@@ -154,12 +154,12 @@ impl Graph {
     }
 
     /// Returns the vertex with a hint to its row, for `links_from_at` and `links_to_at`.
-    pub fn placed(&self, vertex: Vertex) -> HintedVertex
+    pub fn with_hint(&self, vertex: Vertex) -> HintedVertex
         ensures { result ≡ vertex }
     {
         match self.rows.get_index_of(&vertex) {
             Some(place) => HintedVertex::new(vertex, u32::try_from(place).unwrap_or(u32::MAX)),
-            None => HintedVertex::nowhere(vertex),
+            None => HintedVertex::without_hint(vertex),
         }
     }
 

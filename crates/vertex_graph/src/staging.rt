@@ -132,7 +132,7 @@ fn stage_one(
     ensures ends { OnOk result (StagesOne rows.now.entries vertex ends staging.old staging.new) }
     ensures touched { OnOk result (HasTouched rows.now.entries staging.new) }
 {
-    let (row, place) = find_row(rows, &HintedVertex::nowhere(vertex));
+    let (row, place) = find_row(rows, &HintedVertex::without_hint(vertex));
     let after = staged_ends(&ends);
     if is_same(ends_of_row(row), after) {
         return Ok(());
@@ -274,7 +274,7 @@ pub(crate) fn stage_root(
 {
     staging.clear(alloc);
     let vertex = Vertex::Router(root);
-    let (row, place) = find_row(rows, &HintedVertex::nowhere(vertex));
+    let (row, place) = find_row(rows, &HintedVertex::without_hint(vertex));
     touch_both(&HintedVertex::new(vertex, place), row, &[], &mut staging.touched)?;
     keep_once(&mut staging.touched);
     Ok(())

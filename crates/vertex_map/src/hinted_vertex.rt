@@ -40,7 +40,7 @@ impl HintedVertex {
 
     /// Creates a vertex without a hint, so that it is found by its hash.
     #[inline]
-    pub fn nowhere(vertex: Vertex) -> HintedVertex
+    pub fn without_hint(vertex: Vertex) -> HintedVertex
         ensures { result ≡ vertex }
     {
         HintedVertex {
@@ -95,7 +95,7 @@ impl HintedVertex {
 /// Fills the unused slots of a collection.
 impl<A: Drop> MadeWith<A> for HintedVertex {
     fn made_with(_alloc: A) -> HintedVertex {
-        HintedVertex::nowhere(Vertex::Router(0))
+        HintedVertex::without_hint(Vertex::Router(0))
     }
 }
 

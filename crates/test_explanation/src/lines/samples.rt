@@ -4,7 +4,7 @@ use explanation::{Candidate, Verdict, Offer, OfferKind, TraceNode, LsaInstance, 
 use ospf_types::entry::{Entry, PathType, Paths, Vertex};
 use ospf_types::hop::{NextHop, Path};
 use ospf_types::key::{Key, Scope};
-use ospf_types::lsa::External;
+use ospf_types::lsa::ExternalFields;
 use ospf_types::memory::Memory;
 use ospf_types::prefix::Prefix;
 use route_table::{Item, Table};
@@ -137,7 +137,7 @@ fn external() -> Offer {
     let source = source_of(Scope::As, 5, 0, 0x0a00_0005, 10);
     let kind = OfferKind::AsExternal(
         20,
-        External {
+        ExternalFields {
             is_type_2: true,
             forwarding: 0,
         },

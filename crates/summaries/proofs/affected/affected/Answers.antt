@@ -15,10 +15,10 @@ loop-area-preserved c =
     c.loop-area-test.true c.area-item.is c.loop-area.invariant c.in_ok-push_ranges_of.ensures
 
 pub returns-clause-enough : goal.returns-clause-enough
-returns-clause-enough c = IfOk-weaker c.ascending.result _ _ (λ all same d affected.
+returns-clause-enough c = IfOk-weaker c.sorted_unique.result _ _ (λ all same d affected.
     let areas = c.args.areas.now in
     let dests = c.args.dests.now in
     let found = c.loop-area.found.items in
     let P = λ (a : AreaConfig). IsOverIn a.ranges dests in
     let also = gains_all P areas c.loop-area.area-index c.in_ok-found.found.items found c.loop-area-test.false c.loop-area.invariant in
-    (same d).1 (all_touched areas dests found (subst (λ (ds : List Dest). GainsAll (IsOfSome areas P) ds found) c.in_ok-found.ensures.items also) d affected)) c.ascending.ensures.same
+    (same d).1 (all_touched areas dests found (subst (λ (ds : List Dest). GainsAll (IsOfSome areas P) ds found) c.in_ok-found.ensures.items also) d affected)) c.sorted_unique.ensures.same

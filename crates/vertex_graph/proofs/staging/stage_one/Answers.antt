@@ -19,7 +19,7 @@ returns-clause-touched c =
     let ends = option_map (λ (es : Vec LinkEnd). es.items) c.args.ends in
     let touched = c.touch_both.new.touched.items in
     let before : ends_or (option_map (λ (row : Row). row.ends.items) (option_copied c.find_row-place.result.0)) ≡ ends_or (row_ends rows c.args.vertex) =
-    ap (λ (o : Option Row). ends_or (option_map (λ (row : Row). row.ends.items) o)) (c.find_row-place.ensures ∙ ap (λ (v : Vertex). find vertex_cmp v rows) c.nowhere.ensures) in
+    ap (λ (o : Option Row). ends_or (option_map (λ (row : Row). row.ends.items) o)) (c.find_row-place.ensures ∙ ap (λ (v : Vertex). find vertex_cmp v rows) c.without_hint.ensures) in
     let after : c.ends_or_empty.result.now ≡ ends_or ends = c.ends_or_empty.ensures ∙ ap ends_or c.staged_ends-after.ensures in
     let all = c.in_ok-touch_both.ensures in
     touched_more rows c.args.vertex ends c.args.staging.now.ends.entries c.insert.new.self.entries c.args.staging.now.touched.items touched (returns-clause-ends c) c.requires.touched (subst (Contains touched) c.new-placed.ensures all.own) all.kept

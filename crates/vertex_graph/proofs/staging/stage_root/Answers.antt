@@ -16,4 +16,4 @@ pub returns-clause-neighbours : goal.returns-clause-neighbours
 returns-clause-neighbours c v names =
     (c.keep_once.ensures.same v).1
     (named_touched (ends_or (option_map (λ (row : Row). row.ends.items) (option_copied c.find_row-place.result.0))) (ends_or (row_ends c.args.rows.now.entries (Router c.args.root))) c.touch_both.new.touched.items
-    (ap (λ (o : Option Row). ends_or (option_map (λ (row : Row). row.ends.items) o)) (c.find_row-place.ensures ∙ ap (λ (v : Vertex). find vertex_cmp v c.args.rows.now.entries) c.nowhere.ensures)) c.in_ok-touch_both.ensures.gone v names)
+    (ap (λ (o : Option Row). ends_or (option_map (λ (row : Row). row.ends.items) o)) (c.find_row-place.ensures ∙ ap (λ (v : Vertex). find vertex_cmp v c.args.rows.now.entries) c.without_hint.ensures)) c.in_ok-touch_both.ensures.gone v names)

@@ -29,5 +29,5 @@ returns-clause-exact c = λ p.
     let just = listed_all all listed c.loop-range.range-iterator c.in-None.ensures.steps.0 c.loop-range.invariant p in
     let one = active_one tree c.self.inside.spent c.iter-range-items.ensures.ordered p in
     let active = subst (λ (v : ActiveValue). IsActiveIn v p ↔ HasOne p all) c.self.view_is (subst (λ (rs : NetworksByRange). IsActiveIn (ranges_value tree.entries c.self.inside.spent) p ↔ HasOne p rs) (sym are) one) in
-    let same = c.ascending.ensures.same p in
+    let same = c.sorted_unique.ensures.same p in
     (λ there. active.1 (just.0 (same.0 there)), λ w. same.1 (just.1 (active.0 w)))

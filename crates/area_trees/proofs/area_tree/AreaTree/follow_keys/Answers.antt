@@ -33,13 +33,13 @@ returns-then-is_empty-clause-right c root before ups held =
     let inside : AreaTreeValue = record { area = c.self.inside.area; tree = c.self.inside.tree; spent = c.self.inside.spent } in
     let none : DifferAmong r.1 d [] = subst (DifferAmong r.1 d) (no_keys c.args.keys.now c.is_empty.result c.is_empty.ensures c.if-is_empty.true) r.4 in
     let graph : IsGraphOf d inside.area = graph_rests r.1 d none inside.area (subst (λ (v : AreaTreeValue). IsGraphOf r.1 v.area) (sym c.self.view_is) r.3.graph) in
-    subst (λ (t : TreeValue). IsAreaTree root d ups (record { area = inside.area; tree = t; spent = inside.spent })) (sym c.rest.ensures)
+    subst (λ (t : TreeValue). IsAreaTree root d ups (record { area = inside.area; tree = t; spent = inside.spent })) (sym c.mark_unchanged.ensures)
     (rests d root inside graph (subst (IsAreaTree root before ups) (sym c.self.view_is) held))
 
 pub returns-then-is_empty-clause-changed : goal.returns-then-is_empty-clause-changed
 returns-then-is_empty-clause-changed c =
     let inside : TreeValue = c.self.inside.tree in
-    subst (λ (t : TreeValue). AreChanged c.args.self.now.tree t t.changed) (sym c.rest.ensures)
+    subst (λ (t : TreeValue). AreChanged c.args.self.now.tree t t.changed) (sym c.mark_unchanged.ensures)
     (subst (λ (v : AreaTreeValue). AreChanged v.tree (rested inside) []) c.self.view_is (none_changed inside))
 
 pub returns-then-is_empty-clause-bounded : goal.returns-then-is_empty-clause-bounded
@@ -57,6 +57,6 @@ returns-then-is_empty-clause-work c =
     let g = c.self.inside.area.graph in
     let inside : TreeValue = c.self.inside.tree in
     let old = c.args.self.now.tree in
-    subst (λ (t : Touched). IsWorkDone g old c.rest.new.self t.taken t.hop_sets) (sym c.none.ensures)
-    (subst (λ (t : TreeValue). IsWorkDone g old t 0 0) (sym c.rest.ensures)
+    subst (λ (t : Touched). IsWorkDone g old c.mark_unchanged.new.self t.taken t.hop_sets) (sym c.none.ensures)
+    (subst (λ (t : TreeValue). IsWorkDone g old t 0 0) (sym c.mark_unchanged.ensures)
     (subst (λ (v : AreaTreeValue). IsWorkDone g v.tree (rested inside) 0 0) c.self.view_is (no_work g inside)))

@@ -17,7 +17,7 @@ returns c =
     let listed : c.extend_from_slice-3.new.self.items ≡ ((intra ++ ranges) ++ inter) ++ external =
     c.in_ok-extend_from_slice-3.ensures.items
     ∙ (λ i. (c.in_ok-extend_from_slice-2.ensures.items ∙ (λ j. (c.in_ok-extend_from_slice.ensures.items ∙ ap (λ (ps : List Prefix). intra ++ ps) c.deref.ensures.value) j ++ c.deref-3.ensures.value j)) i ++ c.deref-4.ensures.value i) in
-    subst (λ (v : CalculationValue). (p : Prefix) → (Contains c.ascending.result.items p → ⊥) → IsItemOf v p None) c.self.view_is
+    subst (λ (v : CalculationValue). (p : Prefix) → (Contains c.sorted_unique.result.items p → ⊥) → IsItemOf v p None) c.self.view_is
     (nothing_else k intra ranges inter external c.in_ok-dests.field-0.items c.in_ok-networks.ensures.exact c.in_ok-prefixes.ensures.exact c.in_ok-dests.ensures.exact
     (subst (λ (ds : List Dest). (p : Prefix) → Contains inter p ↔ Contains ds (Net p)) c.deref-2.ensures.value c.in_ok-networks_of.ensures.exact) c.in_ok-networks-2.ensures.exact
-    c.extend_from_slice-3.new.self.items c.ascending.result.items listed c.ascending.ensures.same)
+    c.extend_from_slice-3.new.self.items c.sorted_unique.result.items listed c.sorted_unique.ensures.same)

@@ -9,8 +9,8 @@ invariant_of-result g c =
     let followed = c.follow_built.ensures in
     (followed.kept, author_kept c.args.self.core c.args.self.history c.follow_built.new.history c.args.self.rolled c.args.self.writer.desk.shown.value _ followed.book followed.written c.requires.kept, c.requires.behind)
 
-pub show-writer-requires-clause-right : goal.show-writer-requires-clause-right
-show-writer-requires-clause-right g c =
+pub publish_table-writer-requires-clause-right : goal.publish_table-writer-requires-clause-right
+publish_table-writer-requires-clause-right g c =
     let followed = c.follow_built.ensures in
     let whole = c.if-not-follow_built.ensures.whole refl in
     let shown = c.args.self.writer.desk.shown.value in
@@ -25,10 +25,10 @@ invariant_of-result-2 g c =
     let shown = c.args.self.writer.desk.shown.value in
     let history = c.follow_built.new.history in
     let kept = author_kept c.args.self.core c.args.self.history history c.args.self.rolled shown _ followed.book followed.written c.requires.kept in
-    let published = c.show-writer.ensures in (
+    let published = c.publish_table-writer.ensures in (
       followed.kept,
       rw published.history
-          (shown_kept c.args.self.core history history c.args.self.rolled shown c.show-writer.result.0.desk.shown.value _ _ c.show-writer.result.1 refl published.name published.shown published.known kept),
+          (shown_kept c.args.self.core history history c.args.self.rolled shown c.publish_table-writer.result.0.desk.shown.value _ _ c.publish_table-writer.result.1 refl published.name published.shown published.known kept),
       rw published.history
-          (shown_fresh c.args.self.core history history c.args.self.rolled shown c.show-writer.result.0.desk.shown.value _ c.show-writer.result.1 refl whole.0 c.requires.behind published.shown (λ (e : c.show-writer.result.1 ≡ true). published.pending e)),
+          (shown_fresh c.args.self.core history history c.args.self.rolled shown c.publish_table-writer.result.0.desk.shown.value _ c.publish_table-writer.result.1 refl whole.0 c.requires.behind published.shown (λ (e : c.publish_table-writer.result.1 ≡ true). published.pending e)),
     )

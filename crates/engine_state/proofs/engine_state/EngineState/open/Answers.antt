@@ -14,8 +14,8 @@ new-requires-clause-rule g c =
     let first = ap (λ (l : Line). l.list) c.front.ensures ∙ c.open-history.ensures in
     (opened_right c.args.core c.front.result c.in_ok-first.first c.table.ensures.kept c.requires.limits c.requires.journal first face, none_named _)
 
-pub show-writer-requires-clause-right : goal.show-writer-requires-clause-right
-show-writer-requires-clause-right g c =
+pub publish_table-writer-requires-clause-right : goal.publish_table-writer-requires-clause-right
+publish_table-writer-requires-clause-right g c =
     let face = c.in_ok-first.ensures ∙ (λ i. record { table = c.table.ensures.value i; front = c.front.result; base = (c.of-opening.ensures ∙ c.base.ensures.value) i }) in
     opened_table c.args.core c.in_ok-writer.writer.desk.shown.value.base c.open-history.result.list c.table-3.result.now c.table.ensures.kept c.requires.limits c.requires.journal
     (ap (λ (x : PublishedTable). x.base) c.in_ok-writer.ensures.0 ∙ ap (λ (f : PublishedState). f.base) face) c.open-history.ensures c.table-3.ensures.value
@@ -25,11 +25,11 @@ invariant_of-result g c =
     let core = c.args.core in
     let face = c.in_ok-first.ensures ∙ (λ i. record { table = c.table.ensures.value i; front = c.front.result; base = (c.of-opening.ensures ∙ c.base.ensures.value) i }) in
     let first = c.in_ok-writer.writer.desk.shown.value in
-    let did = c.show-writer.ensures in
+    let did = c.publish_table-writer.ensures in
     let done = c.if-not-done.false in
-    let shown = c.show-writer.result.0.desk.shown.value in
-    let published = match_true _ _ c.show-writer.result.1 done did.shown in
-    let known = match_true _ _ c.show-writer.result.1 done did.known in
+    let shown = c.publish_table-writer.result.0.desk.shown.value in
+    let published = match_true _ _ c.publish_table-writer.result.1 done did.shown in
+    let known = match_true _ _ c.publish_table-writer.result.1 done did.known in
     let empty : c.open-history.result.list ≡ [] = c.open-history.ensures in
     let rolled = ap (λ (l : Line). l.list) c.front-rolled.ensures ∙ empty in
     let written = ap (λ (l : Line). l.list) did.history ∙ empty in
@@ -37,6 +37,6 @@ invariant_of-result g c =
     let book = ap (λ (l : Line). l.book) did.history ∙ sym (ap (λ (l : Line). l.book) published.0) in
     let base = ap (λ (n : Name). n.base) did.name ∙ ap (λ (x : PublishedTable). x.base) c.in_ok-writer.ensures.0 ∙ ap (λ (f : PublishedState). f.base) face in (
       c.table.ensures.kept,
-      opened_kept core c.show-writer.new.history c.front-rolled.result shown _ c.requires.journal c.requires.limits rolled written listed book base (known ∙ ap Some (sym did.name)) published.1,
-      opened_fresh core c.show-writer.new.history c.front-rolled.result shown _ c.requires.journal rolled written listed (did.pending done),
+      opened_kept core c.publish_table-writer.new.history c.front-rolled.result shown _ c.requires.journal c.requires.limits rolled written listed book base (known ∙ ap Some (sym did.name)) published.1,
+      opened_fresh core c.publish_table-writer.new.history c.front-rolled.result shown _ c.requires.journal rolled written listed (did.pending done),
     )

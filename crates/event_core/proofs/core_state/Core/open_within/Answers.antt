@@ -4,6 +4,6 @@ use Rattle.event_state.specs.BaseFaults.{base_fault_of}
 use Rattle.event_core.proofs.Bases.{bare_sound}
 use Rattle.event_core.proofs.core_state.Core.open_within.Goals as goal
 
-pub open_sound-requires-clause-sound : goal.open_sound-requires-clause-sound
-open_sound-requires-clause-sound c =
+pub open_with_limits-requires-clause-sound : goal.open_with_limits-requires-clause-sound
+open_with_limits-requires-clause-sound c =
     subst (λ (b : Base). base_fault_of c.args.limits b ≡ None) (sym c.bare.ensures) (bare_sound c.args.limits c.args.config (sym c.fault_in.ensures ∙ c.in_default.is))

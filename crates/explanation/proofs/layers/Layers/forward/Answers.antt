@@ -7,9 +7,9 @@ pub returns-clause-some : goal.returns-clause-some
 returns-clause-some c = λ router. inr (
   c.requires,
   (
-    c.in_ok-forward.field-0.now,
+    c.in_ok-forwarding_match.field-0.now,
     c.in_ok-way.way.now,
-    sym (c.in_ok-forward.ensures ∙ ap (λ (v : ExternalValue). get v.forwards c.args.address) c.external.ensures),
+    sym (c.in_ok-forwarding_match.ensures ∙ ap (λ (v : ExternalValue). get v.forwards c.args.address) c.external.ensures),
     sym c.in_ok-way.ensures,
     c.class.ensures,
     c.cost.ensures.value,

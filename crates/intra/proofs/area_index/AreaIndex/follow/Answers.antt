@@ -20,7 +20,7 @@ returns-in-Some-clause-taken c =
     let v = c.args.vertex in
     let now : get c.put_in.new.self.offered v ≡ c.in_ok-fresh.fresh =
     ap (λ (m : OfferedByVertex). get m v) c.in_ok-put_in-in-Some.ensures.offered ∙ set_here vertex_total c.take_out-gone.new.self.offered v c.in-Some.fresh ∙ sym c.in-Some.is in
-    let was = taken_from c.args.area.now.lsas _ v c.standing-standing.result c.in_ok-fresh.fresh (ap (λ (a : AreaValue). a.lsas) c.area.view_is) c.standing-standing.ensures.body c.in_ok-fresh.ensures in
+    let was = taken_from c.args.area.now.lsas _ v c.lsa_for_vertex-standing.result c.in_ok-fresh.fresh (ap (λ (a : AreaValue). a.lsas) c.area.view_is) c.lsa_for_vertex-standing.ensures.body c.in_ok-fresh.ensures in
     subst (λ (o : Option OfferedValue). (body : Option Body) × IsStanding c.args.area.now.lsas v body × IsOfferedFor v body o) (sym now) was
 
 pub returns-in-Some-clause-others : goal.returns-in-Some-clause-others
@@ -45,7 +45,7 @@ returns-clause-taken c =
     let v = c.args.vertex in
     let now : get c.take_out-gone.new.self.offered v ≡ c.in_ok-fresh.fresh =
     ap (λ (m : OfferedByVertex). get m v) c.take_out-gone.ensures.offered ∙ gone_here vertex_total c.args.self.now.offered v ∙ sym c.in-None.is in
-    let was = taken_from c.args.area.now.lsas _ v c.standing-standing.result c.in_ok-fresh.fresh (ap (λ (a : AreaValue). a.lsas) c.area.view_is) c.standing-standing.ensures.body c.in_ok-fresh.ensures in
+    let was = taken_from c.args.area.now.lsas _ v c.lsa_for_vertex-standing.result c.in_ok-fresh.fresh (ap (λ (a : AreaValue). a.lsas) c.area.view_is) c.lsa_for_vertex-standing.ensures.body c.in_ok-fresh.ensures in
     subst (λ (o : Option OfferedValue). (body : Option Body) × IsStanding c.args.area.now.lsas v body × IsOfferedFor v body o) (sym now) was
 
 pub returns-clause-others : goal.returns-clause-others

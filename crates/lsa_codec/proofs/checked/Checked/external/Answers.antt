@@ -1,5 +1,5 @@
 use Rattle.std.proofs.Common.{Some, length, sym, ap, ◌∙◌, arith}
-use Rattle.ospf_types.specs.declared.lsa.External.{External}
+use Rattle.ospf_types.specs.declared.lsa.ExternalFields.{ExternalFields}
 use Rattle.lsa_codec.proofs.Kept.{first_of_bytes, kept_external}
 use Rattle.lsa_codec.proofs.checked.Checked.external.Goals as goal
 
@@ -11,4 +11,4 @@ first_record-requires c =
 pub returns : goal.returns
 returns c =
     let first = kept_external c.self.inside.bytes.items c.args.self.now c.self.view_is c.self.invariant (sym c.kind.ensures ∙ c.if-kind-ne-AS_EXTERNAL_LSA.false) in
-    ap (λ (x : External). Some x) (c.first_record.ensures ∙ ap first_of_bytes c.deref.ensures.value) ∙ first.external
+    ap (λ (x : ExternalFields). Some x) (c.first_record.ensures ∙ ap first_of_bytes c.deref.ensures.value) ∙ first.external

@@ -12,7 +12,7 @@ pub returns-clause-chosen : goal.returns-clause-chosen
 returns-clause-chosen g c =
     let keys = key_order g.met.K.ResultKey.ordered g.met.K.Ord.total g.met.K.ResultKey.exact g.met.K.Ord.matches_eq in
     all_chosen g.K.ResultKey.order (g.R.Choose.IsChosen c.args.by.now) (λ k. k) keys.total keys.exact (result_at g.K.ResultKey.order c.args.self.now) (result_at g.K.ResultKey.order c.choose_each.new.self) c.args.keys.items _ c.choose_each.new.told.items
-    (λ k. subst (λ (ks : List g.row.K.Denot). Contains ks k ↔ Contains c.args.keys.items k) (sym c.deref.ensures.value) (c.ascending-keys.ensures.same k)) c.requires c.in_ok-choose_each.ensures
+    (λ k. subst (λ (ks : List g.row.K.Denot). Contains ks k ↔ Contains c.args.keys.items k) (sym c.deref.ensures.value) (c.sorted_unique-keys.ensures.same k)) c.requires c.in_ok-choose_each.ensures
 
 pub returns-clause-in_order : goal.returns-clause-in_order
 returns-clause-in_order g c =

@@ -5,7 +5,7 @@ use Rattle.ospf_types.proofs.DerivedOrders.{dest_cmp_is}
 use Rattle.ospf_types.proofs.Orders.{dest_total, dest_exact}
 use Rattle.result_map.proofs.SortedOnce.{strictly, same_items}
 use Rattle.result_map.proofs.DestOrder.{dests_order}
-use Rattle.summaries.proofs.affected.ascending.Goals as goal
+use Rattle.summaries.proofs.affected.sorted_unique.Goals as goal
 
 pub returns-clause-in_order : goal.returns-clause-in_order
 returns-clause-in_order c =

@@ -7,7 +7,7 @@ use Rattle.ospf_types.specs.declared.entry.Vertex.TheVariants.{Router}
 use Rattle.vertex_graph.specs.Graphs.{Handed, handed_of}
 use Rattle.area_trees.specs.Areas.{AreStanding}
 use Rattle.area_trees.proofs.Handed.{standing_push, handed_push}
-use Rattle.area_trees.proofs.vertices.standing.Goals as goal
+use Rattle.area_trees.proofs.vertices.lsa_for_vertex.Goals as goal
 
 pub loop-vertex-preserved : goal.loop-vertex-preserved
 loop-vertex-preserved c =

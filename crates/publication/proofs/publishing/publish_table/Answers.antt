@@ -5,7 +5,7 @@ use Rattle.publication.specs.Lines.{Line}
 use Rattle.publication.specs.Published.{IsTableFor}
 use Rattle.publication.specs.Updates.{updated, shown_state_of, IsRightState}
 use Rattle.publication.proofs.Folds.{gives_whole}
-use Rattle.publication.proofs.publishing.show.Goals as goal
+use Rattle.publication.proofs.publishing.publish_table.Goals as goal
 
 pub publish-requires-clause-appended : goal.publish-requires-clause-appended
 publish-requires-clause-appended g c =

@@ -3,7 +3,7 @@ use Rattle.std.proofs.Common.{Ordering, subst}
 use Rattle.std.specs.List.Sorted.{IsSorted}
 use Rattle.result_map.proofs.KeyLaws.{key_order}
 use Rattle.result_map.proofs.SortedOnce.{strictly, same_items}
-use Rattle.result_map.proofs.keys.ascending.Goals as goal
+use Rattle.result_map.proofs.keys.sorted_unique.Goals as goal
 
 pub returns-clause-in_order : goal.returns-clause-in_order
 returns-clause-in_order g c =

@@ -4,7 +4,7 @@ use Rattle.event_core.specs.Kept.{IsCoherent}
 use Rattle.event_state.proofs.Configs.{sound_apart}
 use Rattle.event_state.proofs.Faultless.{faultless}
 use Rattle.event_core.proofs.Runs.{kept_open}
-use Rattle.event_core.proofs.core_state.Core.open_sound.Goals as goal
+use Rattle.event_core.proofs.core_state.Core.open_with_limits.Goals as goal
 
 pub build-requires-clause-apart : goal.build-requires-clause-apart
 build-requires-clause-apart c = subst (λ (s : State). AreApart s.config.areas) (sym c.in_ok-state.ensures) (sound_apart c.args.base.config (faultless c.args.limits c.args.base c.requires.sound).config)

@@ -5,7 +5,7 @@ use Rattle.event_state.specs.declared.event.Event.TheVariants as event
 use Rattle.event_state.specs.States.{usable_at}
 use Rattle.event_state.specs.Steps.{range_with, step}
 use Rattle.event_state.proofs.Naming.{if_names, install_named, flush_named, purge_named, ranges_named, second_named}
-use Rattle.event_state.proofs.state.State.named.Goals as goal
+use Rattle.event_state.proofs.state.State.affected_lsas.Goals as goal
 
 pub returns-in-Install : goal.returns-in-Install
 returns-in-Install c =

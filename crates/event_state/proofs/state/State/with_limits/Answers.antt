@@ -7,7 +7,7 @@ use Rattle.event_state.specs.Changes.{empty_values}
 use Rattle.event_state.specs.Held.{AreInterfaces}
 use Rattle.event_state.specs.States.{interfaces_of}
 use Rattle.event_state.proofs.Filling.{filled_new, interfaces_none, no_interfaces_in}
-use Rattle.event_state.proofs.state.State.within.Goals as goal
+use Rattle.event_state.proofs.state.State.with_limits.Goals as goal
 
 pub invariant_of-result : goal.invariant_of-result
 invariant_of-result c =
