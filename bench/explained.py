@@ -22,7 +22,7 @@ import sys
 
 TOP = os.path.dirname(os.path.dirname(os.path.realpath(__file__)))
 # The LS types (RFC 2328, A.4.1) and the types of a router's links (A.4.2).
-ROUTER_LSA, NETWORK_LSA, SUMMARY_LSA, BOUNDARY_SUMMARY_LSA, EXTERNAL_LSA = range(1, 6)
+ROUTER_LSA, NETWORK_LSA, SUMMARY_LSA, ASBR_SUMMARY_LSA, EXTERNAL_LSA = range(1, 6)
 POINT_TO_POINT, TRANSIT, STUB, VIRTUAL = range(1, 5)
 HEADER = 20
 
@@ -195,7 +195,7 @@ def says(body, link):
         return tail == f"network:{dotted(body[4:8])}" and head in heads and cost == 0
     if cost != number(rest[5:8]):
         return False
-    if kind == BOUNDARY_SUMMARY_LSA:
+    if kind == ASBR_SUMMARY_LSA:
         return (tail, head) == (f"router:{dotted(body[8:12])}", f"router:{dotted(body[4:8])}")
     if head != prefix_of(body[4:8], rest[:4]):
         return False

@@ -33,6 +33,8 @@ INDENT, LEFT_OUT, FENCE = "    ", "..", "```"
 MOST_LINES = 130
 LINK = re.compile(r"\[[^\]]*\]\(([^()\s]+)\)")
 PICTURE = re.compile(r"!\[[^\]]*\]\(([^()\s]+[.]svg)\)")
+# The table of crates, and a row of it: the crate, and last the files of its sources.
+CRATES, CRATE = "docs/ARCHITECTURE.md", re.compile(r"\| `(\w+)` \|.*\| ([\w, -]+) \|")
 # A span of code, in which brackets are no link; and the command in one.
 CODE = re.compile(r"`[^`]*`")
 COMMAND = re.compile(r"`\./abr (\w+)[^`]*`")
@@ -42,7 +44,7 @@ HEADING = re.compile(r"#+ +(.*)")
 # Where the version is, in each file that has one.
 VERSIONS = {
     "CHANGELOG.md": r"## (\d+\.\d+\.\d+)\b",
-    "crates/command_line/src/command_line.rt": r'const VERSION: &str = "(.*)";',
+    "crates/cli_args/src/command_line.rt": r'const VERSION: &str = "(.*)";',
     "examples/python/abr.py": r'__version__ = "(.*)"',
 }
 
@@ -50,7 +52,7 @@ VERSIONS = {
 def faults():
     """Returns what is wrong with the pages, and with the versions."""
     found = [f"{page}:{line}: {fault}" for page in pages() for line, fault in faults_of(page)]
-    return [*found, *faults_of_versions()]
+    return [*found, *faults_of_versions(), *faults_of_crates()]
 
 
 @functools.lru_cache(maxsize=None)
@@ -78,6 +80,20 @@ def faults_of_versions():
     found = {file: re.search(f"(?m)^{pattern}", "\n".join(lines_of(file) or [])) for file, pattern in VERSIONS.items()}
     if not all(found.values()) or len({it[1] for it in found.values()}) > 1:
         yield f"these have no version, or not the same: {', '.join(found)}"
+
+
+def faults_of_crates():
+    """Yields what is wrong with the table of crates: it has each crate of crates.txt once, in that order, with its files."""
+    table = lines_of(CRATES)[lines_of(CRATES).index("## The crates") :]
+    shown = [CRATE.fullmatch(it).groups() for it in table if CRATE.fullmatch(it)]
+    crates = [it.partition(":")[0].split()[0] for it in lines_of("crates.txt") if not it.startswith("#")]
+    if [crate for crate, _ in shown] != crates:
+        yield f"{CRATES}: the table has not the crates of crates.txt in their order"
+    for crate, files in shown:
+        names = sorted(it[:-3] for it in os.listdir(f"{TOP}/crates/{crate}/src") if it.endswith(".rt"))
+        wanted = ", ".join(it for it in names if it not in ("lib", "main")) or "-"
+        if files != wanted:
+            yield f"{CRATES}: the files of {crate} are {wanted}"
 
 
 def faults_of(page):

@@ -104,6 +104,8 @@ file_of() { # COMMAND
     readlink -f "$(command -v "$1")"
 }
 
+# (the third line is that of its part with threads)
+head -n 2 crates/first_use/stdout > "$room/first_use"
 compilers=(cc)
 for it in gcc clang; do
     if command -v "$it" > "$room/which" && [ "$(file_of "$it")" != "$(file_of cc)" ]; then
@@ -115,7 +117,7 @@ for it in "${compilers[@]}"; do
     runs "$it: router" 0 "${compile[@]}" "${router[@]}" "${libs[@]}" -o "$room/router_$it" || finish
     runs "$it: first_use" 0 "${compile[@]}" "${first[@]}" "${libs[@]}" -o "$room/first_$it" || finish
     runs "$it: refused" 0 "${compile[@]}" "${refused[@]}" "${libs[@]}" -o "$room/refused_$it" || finish
-    writes "$it: first_use" crates/first_use/stdout "$room/first_$it"
+    writes "$it: first_use" "$room/first_use" "$room/first_$it"
     replays "$it: router" "$room/router_$it"
     runs "$it: refused" 0 "$room/refused_$it" || true
 done
@@ -126,7 +128,7 @@ for it in c++ clang++; do
         runs "$it: abr.h" 0 "${compile[@]}" -c "$room/header.cc" -o "$room/header.o" || true
         compile+=(-x c++ "${first[@]}" -x none)
         runs "$it: first_use" 0 "${compile[@]}" "${libs[@]}" -o "$room/first_$it" || continue
-        writes "$it: first_use" crates/first_use/stdout "$room/first_$it"
+        writes "$it: first_use" "$room/first_use" "$room/first_$it"
     fi
 done
 

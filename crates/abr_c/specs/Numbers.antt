@@ -2,8 +2,8 @@
 use Rattle.std.specs.Prelude.{ℕ, Result, Ok, Err}
 use Rattle.lsa_codec.specs.declared.fault.WireFault.{WireFault}
 use Rattle.lsa_codec.specs.declared.fault.WireFault.TheVariants as wire
-use Rattle.config_faults.specs.declared.fault.ConfigFault.{ConfigFault}
-use Rattle.config_faults.specs.declared.fault.ConfigFault.TheVariants as config
+use Rattle.ospf_types.specs.declared.fault.ConfigFault.{ConfigFault}
+use Rattle.ospf_types.specs.declared.fault.ConfigFault.TheVariants as config
 use Rattle.event_state.specs.declared.base_fault.EntryFault.{EntryFault}
 use Rattle.event_state.specs.declared.base_fault.EntryFault.TheVariants as unfit
 use Rattle.event_state.specs.declared.refusal.Refusal.{Refusal}

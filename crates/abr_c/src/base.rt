@@ -3,7 +3,8 @@ ghost use Rattle.std.specs.Prelude.{◌≡◌, Some, length, option_map, slice_g
 ghost use Rattle.abr_c.specs.CTypes as c;
 ghost use Rattle.abr_c.specs.Given.{IsGiven};
 ghost use Rattle.abr_c.specs.Slots.{core_in};
-ghost use Rattle.abr_c.specs.Views.{GivesLsa, GivesText, GivesTextOf, base_serial_in, interface_at, interfaces_in, lsa_at, lsas_in};
+ghost use Rattle.abr_c.specs.Views.{GivesLsa, GivesText, GivesTextOf, base_serial_in, interface_at};
+ghost use Rattle.abr_c.specs.Views.{interfaces_in, lsa_at, lsas_in};
 
 use crate::c_types::{CInterface, CScope};
 use crate::given::{give, write_bytes};

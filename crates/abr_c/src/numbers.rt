@@ -2,10 +2,10 @@
 ghost use Rattle.std.specs.Prelude.{◌≡◌};
 ghost use Rattle.abr_c.specs.Numbers as numbers;
 
-use config_faults::ConfigFault;
 use event_core::{Refusal, Status};
 use event_state::EntryFault;
 use lsa_codec::WireFault;
+use ospf_types::ConfigFault;
 use recording::Fault;
 
 /// 1 Length: a seed with fewer than 16 bytes.

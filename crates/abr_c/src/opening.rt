@@ -7,7 +7,8 @@ ghost use Rattle.event_state.specs.BaseFaults.{base_fault_of};
 ghost use Rattle.event_state.specs.Steps.{standard_limits};
 ghost use Rattle.event_core.specs.Cores.{IsCore, IsOpening};
 ghost use Rattle.recording.specs.Recordings.{HasConfigOnly};
-ghost use Rattle.abr_c.specs.Opening.{Opens, OpensBase, SaysBase, SaysConfig, IsBaseRefusal, IsConfigRefusal, IsSeedRefusal};
+ghost use Rattle.abr_c.specs.Opening.{Opens, OpensBase, SaysBase, SaysConfig, IsBaseRefusal};
+ghost use Rattle.abr_c.specs.Opening.{IsConfigRefusal, IsSeedRefusal};
 ghost use Rattle.abr_c.specs.Slots.{core_in};
 
 use crate::numbers::{MEMORY, ORDER, fault_number};

@@ -4,7 +4,8 @@ ghost use Rattle.std.specs.FinMap as map;
 ghost use Rattle.abr_c.specs.CTypes as c;
 ghost use Rattle.abr_c.specs.Given.{IsGiven, copied};
 ghost use Rattle.abr_c.specs.Slots.{core_in};
-ghost use Rattle.abr_c.specs.Views.{IsFound, IsLookedUp, built_in, change_at, changes_in, entries_in, hop_at, item_for, items_from, paths_of, serial_in};
+ghost use Rattle.abr_c.specs.Views.{IsFound, IsLookedUp, built_in, change_at, changes_in};
+ghost use Rattle.abr_c.specs.Views.{entries_in, hop_at, item_for, items_from, paths_of, serial_in};
 
 use crate::c_types::{CHop, CItem, CPrefix};
 use crate::given::give;

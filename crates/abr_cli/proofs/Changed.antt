@@ -4,13 +4,13 @@ use Rattle.recording.specs.declared.fault.LineFault.{LineFault}
 use Rattle.replay.specs.declared.fault.ReplayFault.{ReplayFault}
 use Rattle.replay.specs.declared.fault.ReplayFault.TheVariants.{Read, Write, Closed, Memory, Line}
 use Rattle.replay.specs.declared.buffer.PrintError.TheVariants as stop
-use Rattle.changes.specs.Outputs.{FailsAtFront, FailsBehind, TellsPart, TellsThese}
-use Rattle.changes.specs.declared.printing.ChangeOptions.{ChangeOptions}
-use Rattle.command_answers.specs.declared.command_fault.CommandFault.{CommandFault}
-use Rattle.command_answers.specs.declared.command_fault.CommandFault.TheVariants as fault
-use Rattle.command_answers.specs.declared.argument_values.WordFault.TheVariants.{NotANetwork}
-use Rattle.command_answers.specs.Answers.{IsSaid}
-use Rattle.command_answers.specs.Faults.{command_fault_text, fault_line, status_of}
+use Rattle.change_log.specs.Outputs.{FailsAtFront, FailsBehind, TellsPart, TellsThese}
+use Rattle.change_log.specs.declared.printing.ChangeOptions.{ChangeOptions}
+use Rattle.cli_queries.specs.declared.command_fault.CommandFault.{CommandFault}
+use Rattle.cli_queries.specs.declared.command_fault.CommandFault.TheVariants as fault
+use Rattle.cli_queries.specs.declared.argument_values.WordFault.TheVariants.{NotANetwork}
+use Rattle.cli_queries.specs.Answers.{IsSaid}
+use Rattle.cli_queries.specs.Faults.{command_fault_text, fault_line, status_of}
 use Rattle.ospf_types.specs.declared.prefix.Prefix.{Prefix}
 use Rattle.replay.specs.Advance.{EndsShowing, IsProgress, Shows}
 use Rattle.abr_cli.specs.Changing.{Asks, IsChangesTold, IsTellingEnded, IsWordSaid, TellsEarly, telling_of}

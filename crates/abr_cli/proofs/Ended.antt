@@ -13,11 +13,11 @@ use Rattle.worker_replay.specs.declared.fault.WorkerReplayFault.{WorkerReplayFau
 use Rattle.worker_replay.specs.declared.fault.WorkerReplayFault.TheVariants.{Replay, Spawn, Place, NoEntry}
 use Rattle.worker_replay.specs.Outputs as many
 use Rattle.replay.specs.declared.writing.WriteError.{WriteError}
-use Rattle.command_answers.specs.declared.command_fault.CommandFault.{CommandFault}
-use Rattle.command_answers.specs.declared.command_fault.CommandFault.TheVariants as fault
-use Rattle.command_answers.specs.Faults.{command_fault_text, fault_line, status_of}
-use Rattle.command_answers.specs.Answers.{IsSaid, IsSaidOf, IsUnwrittenSaid}
-use Rattle.command_answers.proofs.Said.{said_of}
+use Rattle.cli_queries.specs.declared.command_fault.CommandFault.{CommandFault}
+use Rattle.cli_queries.specs.declared.command_fault.CommandFault.TheVariants as fault
+use Rattle.cli_queries.specs.Faults.{command_fault_text, fault_line, status_of}
+use Rattle.cli_queries.specs.Answers.{IsSaid, IsSaidOf, IsUnwrittenSaid}
+use Rattle.cli_queries.proofs.Said.{said_of}
 use Rattle.abr_cli.specs.Replaying.{fault_from, EndsBy, EndsEarly, IsEndSaid, IsReplayEnded, IsReplayedPart}
 
 -- a replay may end for want of memory wherever it may end but with a failed write

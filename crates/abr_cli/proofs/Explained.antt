@@ -8,10 +8,10 @@ use Rattle.replay.specs.declared.fault.ReplayFault.{ReplayFault}
 use Rattle.replay.specs.declared.fault.ReplayFault.TheVariants.{Read, Write, Closed, Memory, Line}
 use Rattle.explained_replay.specs.Outputs.{ExplainsPart}
 use Rattle.explained_replay.specs.declared.question.Explaining.{Explaining}
-use Rattle.command_answers.specs.declared.command_fault.CommandFault.TheVariants as fault
-use Rattle.command_answers.specs.declared.argument_values.WordFault.{WordFault}
-use Rattle.command_answers.specs.Answers.{IsSaid}
-use Rattle.command_answers.specs.Faults.{command_fault_text, fault_line, status_of}
+use Rattle.cli_queries.specs.declared.command_fault.CommandFault.TheVariants as fault
+use Rattle.cli_queries.specs.declared.argument_values.WordFault.{WordFault}
+use Rattle.cli_queries.specs.Answers.{IsSaid}
+use Rattle.cli_queries.specs.Faults.{command_fault_text, fault_line, status_of}
 use Rattle.abr_cli.specs.Explaining.{ExplainsEarly, IsWordFault, IsWordSaid}
 
 -- what is said of each fault by itself

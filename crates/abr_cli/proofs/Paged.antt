@@ -7,10 +7,10 @@ use Rattle.replay.specs.Inputs.{ReadsAll}
 use Rattle.replay.specs.declared.fault.ReplayFault.{ReplayFault}
 use Rattle.replay.specs.declared.fault.ReplayFault.TheVariants.{Read, Write, Closed, Memory, Line}
 use Rattle.page_replay.specs.Outputs.{WritesPagePart}
-use Rattle.command_answers.specs.declared.command_fault.CommandFault.TheVariants as fault
-use Rattle.command_answers.specs.Answers.{IsSaid, IsSaidOf}
-use Rattle.command_answers.specs.Faults.{command_fault_text, fault_line}
-use Rattle.command_answers.proofs.Said.{said_of}
+use Rattle.cli_queries.specs.declared.command_fault.CommandFault.TheVariants as fault
+use Rattle.cli_queries.specs.Answers.{IsSaid, IsSaidOf}
+use Rattle.cli_queries.specs.Faults.{command_fault_text, fault_line}
+use Rattle.cli_queries.proofs.Said.{said_of}
 use Rattle.abr_cli.specs.Paging.{WritesPageEarly}
 
 -- what is said of each fault by itself

@@ -9,13 +9,13 @@ use Rattle.capture_recording.specs.declared.capturing.Preamble.{Preamble}
 use Rattle.capture_recording.specs.declared.capturing.Preamble.TheVariants.{Given, Router}
 use Rattle.capture_recording.specs.declared.fault.CapturingFault.{CapturingFault}
 use Rattle.capture_recording.specs.declared.fault.CapturingFault.TheVariants as capturing
-use Rattle.command_answers.specs.declared.command_fault.CommandFault.{CommandFault}
-use Rattle.command_answers.specs.declared.command_fault.CommandFault.TheVariants as fault
-use Rattle.command_answers.specs.declared.argument_values.WordFault.{WordFault}
-use Rattle.command_answers.specs.declared.argument_values.WordFault.TheVariants.{NotAnAddress}
-use Rattle.command_answers.specs.Answers.{IsSaid, IsUnwrittenSaid}
-use Rattle.command_answers.specs.Faults.{command_fault_text, fault_line, status_of}
-use Rattle.command_answers.specs.Words.{IsAddress, Writes}
+use Rattle.cli_queries.specs.declared.command_fault.CommandFault.{CommandFault}
+use Rattle.cli_queries.specs.declared.command_fault.CommandFault.TheVariants as fault
+use Rattle.cli_queries.specs.declared.argument_values.WordFault.{WordFault}
+use Rattle.cli_queries.specs.declared.argument_values.WordFault.TheVariants.{NotAnAddress}
+use Rattle.cli_queries.specs.Answers.{IsSaid, IsUnwrittenSaid}
+use Rattle.cli_queries.specs.Faults.{command_fault_text, fault_line, status_of}
+use Rattle.cli_queries.specs.Words.{IsAddress, Writes}
 use Rattle.abr_cli.specs.declared.capturing.Capture.{Capture}
 
 -- ---- what the recording begins with

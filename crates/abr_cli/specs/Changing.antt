@@ -2,17 +2,17 @@
 use Rattle.std.specs.Prelude.{ℕ, ◌≡◌, ◌⊎◌, List, Option, Some, None}
 use Rattle.std.specs.Borrow.{Bor}
 use Rattle.ospf_types.specs.declared.prefix.Prefix.{Prefix}
-use Rattle.word_reading.specs.Writing.{WritesNetwork}
+use Rattle.cli_queries.specs.Writing.{WritesNetwork}
 use Rattle.replay.specs.declared.fault.ReplayFault.{ReplayFault}
 use Rattle.replay.specs.declared.fault.ReplayFault.TheVariants.{Read, Write, Closed, Memory, Line}
 use Rattle.replay.specs.declared.buffer.PrintError.TheVariants as stop
-use Rattle.changes.specs.Outputs.{FailsAtFront, FailsBehind, TellsAll, TellsPart, TellsThese}
-use Rattle.changes.specs.declared.printing.ChangeOptions.{ChangeOptions}
+use Rattle.change_log.specs.Outputs.{FailsAtFront, FailsBehind, TellsAll, TellsPart, TellsThese}
+use Rattle.change_log.specs.declared.printing.ChangeOptions.{ChangeOptions}
 use Rattle.worker_replay.specs.declared.fault.WorkerReplayFault.TheVariants.{Replay}
-use Rattle.command_answers.specs.declared.command_fault.CommandFault.TheVariants as fault
-use Rattle.command_answers.specs.declared.argument_values.WordFault.TheVariants.{NotANetwork}
-use Rattle.command_answers.specs.Answers.{IsSaid}
-use Rattle.command_answers.specs.Faults.{command_fault_text, fault_line}
+use Rattle.cli_queries.specs.declared.command_fault.CommandFault.TheVariants as fault
+use Rattle.cli_queries.specs.declared.argument_values.WordFault.TheVariants.{NotANetwork}
+use Rattle.cli_queries.specs.Answers.{IsSaid}
+use Rattle.cli_queries.specs.Faults.{command_fault_text, fault_line}
 use Rattle.abr_cli.specs.Replaying.{IsEndSaid}
 use Rattle.abr_cli.specs.Showing.{IsAdvanceTold}
 use Rattle.abr_cli.specs.declared.changing.Changes.{Changes}

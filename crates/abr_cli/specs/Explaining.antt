@@ -3,7 +3,7 @@ use Rattle.std.specs.Prelude.{ℕ, ◌≡◌, ◌⊎◌, List, Option, Some, Non
 use Rattle.std.specs.Borrow.{Bor}
 use Rattle.ospf_types.specs.declared.key.Dest.{Dest}
 use Rattle.ospf_types.specs.declared.key.Dest.TheVariants.{Net, Router}
-use Rattle.word_reading.specs.Writing.{WritesNetwork}
+use Rattle.cli_queries.specs.Writing.{WritesNetwork}
 use Rattle.recording.specs.Faults.{IsFaultOf}
 use Rattle.replay.specs.Advance.{ShowsProgress}
 use Rattle.replay.specs.Inputs.{ReadsAll}
@@ -14,12 +14,12 @@ use Rattle.explained_replay.specs.declared.question.Explaining.{Explaining}
 use Rattle.explained_replay.specs.declared.question.Question.{Question}
 use Rattle.explained_replay.specs.declared.question.Question.TheVariants.{Address, Due}
 use Rattle.worker_replay.specs.declared.fault.WorkerReplayFault.TheVariants.{Replay}
-use Rattle.command_answers.specs.declared.command_fault.CommandFault.TheVariants as fault
-use Rattle.command_answers.specs.declared.argument_values.WordFault.{WordFault}
-use Rattle.command_answers.specs.declared.argument_values.WordFault.TheVariants.{NotAnAddress, NotANetwork}
-use Rattle.command_answers.specs.Answers.{IsSaid}
-use Rattle.command_answers.specs.Faults.{command_fault_text, fault_line}
-use Rattle.command_answers.specs.Words.{IsAddress, IsNoNetwork, Writes}
+use Rattle.cli_queries.specs.declared.command_fault.CommandFault.TheVariants as fault
+use Rattle.cli_queries.specs.declared.argument_values.WordFault.{WordFault}
+use Rattle.cli_queries.specs.declared.argument_values.WordFault.TheVariants.{NotAnAddress, NotANetwork}
+use Rattle.cli_queries.specs.Answers.{IsSaid}
+use Rattle.cli_queries.specs.Faults.{command_fault_text, fault_line}
+use Rattle.cli_queries.specs.Words.{IsAddress, IsNoNetwork, Writes}
 use Rattle.abr_cli.specs.Replaying.{IsEndSaid}
 use Rattle.abr_cli.specs.Showing.{IsProgressTold}
 use Rattle.abr_cli.specs.declared.explaining.Explain.{Explain}

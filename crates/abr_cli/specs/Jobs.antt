@@ -1,20 +1,20 @@
 -- What the program wrote, whatever its words were.
 use Rattle.std.specs.Borrow.{Bor}
 use Rattle.std.specs.Prelude.{ℕ, ◌≡◌, ◌||◌, Bool, true, false, not, List, Option, None, Result, Ok, Err, codes}
-use Rattle.command_line.specs.declared.command.CaptureWords.{CaptureWords}
-use Rattle.command_line.specs.declared.command.Job.{Job}
-use Rattle.command_line.specs.declared.command.Job.TheVariants as job
-use Rattle.command_line.specs.declared.command.Usage.{Usage}
+use Rattle.cli_args.specs.declared.command.CaptureWords.{CaptureWords}
+use Rattle.cli_args.specs.declared.command.Job.{Job}
+use Rattle.cli_args.specs.declared.command.Job.TheVariants as job
+use Rattle.cli_args.specs.declared.command.Usage.{Usage}
 use Rattle.abr_cli.specs.declared.dispatch.Asked.{Asked}
 use Rattle.abr_cli.specs.declared.dispatch.Asked.TheVariants as asked
-use Rattle.command_line.specs.Command.{AreWorkers, texts_of}
-use Rattle.command_answers.specs.Answers.{Tells}
-use Rattle.command_answers.specs.One.{IsOneAnswer}
-use Rattle.command_answers.specs.Decode.{IsDecodeAnswer}
-use Rattle.command_answers.specs.Number.{IsNumberAnswer}
-use Rattle.output_format.specs.declared.Format.{Format}
+use Rattle.cli_args.specs.Command.{AreWorkers, texts_of}
+use Rattle.cli_queries.specs.Answers.{Tells}
+use Rattle.cli_queries.specs.One.{IsOneAnswer}
+use Rattle.cli_queries.specs.Decode.{IsDecodeAnswer}
+use Rattle.cli_queries.specs.Number.{IsNumberAnswer}
+use Rattle.output_lines.specs.declared.format.Format.{Format}
 use Rattle.replay.specs.declared.progress.Progress.{Progress}
-use Rattle.output_format.specs.declared.Show.{Show}
+use Rattle.output_lines.specs.declared.format.Show.{Show}
 use Rattle.abr_cli.specs.declared.changing.Changes.{Changes}
 use Rattle.abr_cli.specs.declared.replaying.Replay.{Replay}
 use Rattle.abr_cli.specs.Changing.{IsChangesTold}
@@ -25,7 +25,7 @@ use Rattle.abr_cli.specs.Paging.{IsPageTold}
 use Rattle.abr_cli.specs.declared.capturing.Capture.{Capture}
 use Rattle.abr_cli.specs.Capturing.{IsCaptureTold}
 use Rattle.abr_cli.specs.Replaying.{IsReplayTold}
-use Rattle.command_answers.specs.Usage.{IsUsageAnswer}
+use Rattle.cli_queries.specs.Usage.{IsUsageAnswer}
 
 -- how much is shown, where the words ask for it or not
 abbrev pub shown_progress : Bool → Progress → Progress

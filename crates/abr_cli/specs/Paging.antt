@@ -8,8 +8,8 @@ use Rattle.replay.specs.declared.fault.ReplayFault.{ReplayFault}
 use Rattle.replay.specs.declared.fault.ReplayFault.TheVariants.{Read, Write, Closed, Memory, Line}
 use Rattle.page_replay.specs.Outputs.{WritesPage, WritesPagePart}
 use Rattle.worker_replay.specs.declared.fault.WorkerReplayFault.TheVariants.{Replay}
-use Rattle.command_answers.specs.declared.command_fault.CommandFault.TheVariants as fault
-use Rattle.command_answers.specs.Answers.{IsSaidOf}
+use Rattle.cli_queries.specs.declared.command_fault.CommandFault.TheVariants as fault
+use Rattle.cli_queries.specs.Answers.{IsSaidOf}
 use Rattle.abr_cli.specs.Replaying.{IsEndSaid}
 use Rattle.abr_cli.specs.Showing.{IsProgressTold}
 use Rattle.abr_cli.specs.declared.paging.Page.{Page}

@@ -13,9 +13,9 @@ use Rattle.replay.specs.Outputs as one
 use Rattle.worker_replay.specs.declared.fault.WorkerReplayFault.{WorkerReplayFault}
 use Rattle.worker_replay.specs.declared.fault.WorkerReplayFault.TheVariants.{Replay, Spawn, Place, NoEntry}
 use Rattle.worker_replay.specs.Outputs as many
-use Rattle.command_answers.specs.declared.command_fault.CommandFault.{CommandFault}
-use Rattle.command_answers.specs.declared.command_fault.CommandFault.TheVariants as fault
-use Rattle.command_answers.specs.Answers.{IsSaidOf, IsUnwrittenSaid}
+use Rattle.cli_queries.specs.declared.command_fault.CommandFault.{CommandFault}
+use Rattle.cli_queries.specs.declared.command_fault.CommandFault.TheVariants as fault
+use Rattle.cli_queries.specs.Answers.{IsSaidOf, IsUnwrittenSaid}
 use Rattle.abr_cli.specs.Showing.{IsRunTold}
 
 -- the fault of a replay as one of the command, which names the file where it cannot be read; or why the output was not written whole

@@ -1,10 +1,11 @@
 //! The command `capture`.
 ghost use Rattle.std.specs.Prelude.{◌≡◌, IfErr, IfOk};
-ghost use Rattle.abr_cli.specs.Capturing.{BeginsWith, HasRouter, IsCaptureEndSaid, IsCaptureTold, IsRouterFault, LacksBeginning, fault_from_capture};
+ghost use Rattle.abr_cli.specs.Capturing.{BeginsWith, HasRouter, IsCaptureEndSaid, IsCaptureTold};
+ghost use Rattle.abr_cli.specs.Capturing.{IsRouterFault, LacksBeginning, fault_from_capture};
 
 use crate::replaying::say_fault;
-use capture_recording::{Preamble, Capturing, CapturingFault, Options, record_capture};
-use command_answers::{CommandFault, WordFault, read_address, say_unwritten};
+use capture_recording::{Capturing, CapturingFault, Options, Preamble, record_capture};
+use cli_queries::{CommandFault, WordFault, read_address, say_unwritten};
 use replay::WriteError;
 use std::alloc::Global;
 use std::hash::RandomState;

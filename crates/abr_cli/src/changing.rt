@@ -1,14 +1,14 @@
 //! The commands `changes` and `follow`.
 ghost use Rattle.std.specs.Prelude.{◌≡◌, IfOk, IfErr};
-ghost use Rattle.command_answers.specs.declared.command_fault.CommandFault.TheVariants as fault;
-ghost use Rattle.command_answers.specs.declared.argument_values.WordFault.TheVariants.{NotANetwork};
+ghost use Rattle.cli_queries.specs.declared.command_fault.CommandFault.TheVariants as fault;
+ghost use Rattle.cli_queries.specs.declared.argument_values.WordFault.TheVariants.{NotANetwork};
 ghost use Rattle.abr_cli.specs.Changing.{Asks, IsChangesTold, LacksNetwork, telling_of};
 
 use crate::replaying::{say_end, say_fault};
-use changes::{ChangeOptions, ChangeFilter, print_changes};
-use command_answers::{CommandFault, read_network};
+use change_log::{ChangeFilter, ChangeOptions, print_changes};
+use cli_queries::{CommandFault, read_network};
 use ospf_types::prefix::Prefix;
-use output_format::Format;
+use output_lines::Format;
 use replay::Progress;
 use std::alloc::Global;
 use std::hash::RandomState;

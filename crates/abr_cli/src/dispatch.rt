@@ -1,7 +1,9 @@
 //! The dispatch from the words of the program to its commands.
 ghost use Rattle.std.specs.Prelude.{◌≡◌, IfOk, codes};
-ghost use Rattle.command_line.specs.Command.{AreWorkers, IsFit};
-ghost use Rattle.abr_cli.specs.Jobs.{HasFitWorkers, IsAsked, IsJobTold, IsTold, capture_asked, changes_asked, explain_asked, follow_asked, page_asked, replay_asked, shown_progress};
+ghost use Rattle.cli_args.specs.Command.{AreWorkers, IsFit};
+ghost use Rattle.abr_cli.specs.Jobs.{HasFitWorkers, IsAsked, IsJobTold, IsTold, capture_asked};
+ghost use Rattle.abr_cli.specs.Jobs.{changes_asked, explain_asked, follow_asked, page_asked};
+ghost use Rattle.abr_cli.specs.Jobs.{replay_asked, shown_progress};
 
 use crate::capturing::Capture;
 use crate::changing::Changes;
@@ -9,9 +11,9 @@ use crate::explaining::Explain;
 use crate::paging::Page;
 use crate::replaying::Replay;
 use capture_recording::Options;
-use command_answers::{answer_usage, decode, fault, one, print_answer};
-use command_line::{CaptureWords, Job, OneWords, Usage};
-use output_format::{Format, Show};
+use cli_args::{CaptureWords, Job, OneWords, Usage};
+use cli_queries::{answer_usage, decode, fault, one, print_answer};
+use output_lines::{Format, Show};
 use replay::{PrintOptions, Progress};
 use std::alloc::Global;
 use std::hash::RandomState;

@@ -1,13 +1,13 @@
 //! The command `explain`.
 ghost use Rattle.std.specs.Prelude.{◌≡◌, IfErr, IfOk, OnErr};
-ghost use Rattle.command_answers.specs.Words.{IsAddress, IsNoNetwork};
+ghost use Rattle.cli_queries.specs.Words.{IsAddress, IsNoNetwork};
 ghost use Rattle.abr_cli.specs.Explaining.{Asks, IsExplainTold, IsWordFault, WritesDest};
 
 use crate::replaying::{say_end, say_fault};
-use command_answers::{CommandFault, WordFault, read_address, read_network};
+use cli_queries::{CommandFault, WordFault, read_address, read_network};
 use explained_replay::{Explaining, Question, explain_one};
 use ospf_types::key::Dest;
-use output_format::Format;
+use output_lines::Format;
 use replay::Progress;
 use std::alloc::Global;
 use std::hash::RandomState;

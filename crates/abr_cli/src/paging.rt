@@ -3,7 +3,7 @@ ghost use Rattle.std.specs.Prelude.{◌≡◌};
 ghost use Rattle.abr_cli.specs.Paging.{unwritten as unwritten_file, IsPageEndSaid, IsPageTold};
 
 use crate::replaying::{say_end, say_fault};
-use command_answers::CommandFault;
+use cli_queries::CommandFault;
 use page_replay::page_one;
 use replay::{Progress, ReplayFault};
 use std::alloc::Global;

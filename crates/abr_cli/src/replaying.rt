@@ -1,19 +1,20 @@
 //! The command `replay`.
 ghost use Rattle.std.specs.Prelude.{◌≡◌, ◌⊎◌};
-ghost use Rattle.command_answers.specs.Faults.{command_fault_text, fault_line, status_of};
-ghost use Rattle.command_answers.specs.Answers.{IsSaid};
-ghost use Rattle.command_line.specs.Command.{AreWorkers};
-ghost use Rattle.abr_cli.specs.Replaying.{fault_from as from_replay, EndsBy, IsEndSaid, IsReplayTold};
+ghost use Rattle.cli_queries.specs.Faults.{command_fault_text, fault_line, status_of};
+ghost use Rattle.cli_queries.specs.Answers.{IsSaid};
+ghost use Rattle.cli_args.specs.Command.{AreWorkers};
+ghost use Rattle.abr_cli.specs.Replaying.{fault_from as from_replay, EndsBy, IsEndSaid};
+ghost use Rattle.abr_cli.specs.Replaying.{IsReplayTold};
 ghost use Rattle.abr_cli.specs.Showing.{IsRunTold};
 
-use command_answers::{CommandFault, NO_MEMORY, line_of, print_fault, say_unwritten};
-use replay::{WriteError, Progress, ReplayFault, replay_one};
+use cli_queries::{CommandFault, NO_MEMORY, line_of, print_fault, say_unwritten};
+use replay::{Progress, ReplayFault, WriteError, replay_one};
 use std::alloc::Global;
 use std::hash::RandomState;
 use std::io;
 use std::sync::Wait;
 use std::thread::Threads;
-use worker_replay::{WorkerReplayFault, ReplayOptions, replay_many};
+use worker_replay::{ReplayOptions, WorkerReplayFault, replay_many};
 
 /// The command `replay`, with its words.
 #[derive(Clone, Copy)]

@@ -1,6 +1,6 @@
-pub use Rattle.engine_state.specs.Answers
+pub use Rattle.engine.specs.Answers
 pub use Rattle.engine.specs.Bytes
-pub use Rattle.engine_state.specs.Gates
+pub use Rattle.engine.specs.Gates
 pub use Rattle.engine.specs.Opens
 pub use Rattle.engine.specs.Texts
 pub use Rattle.event_core.specs.Cores
@@ -15,4 +15,4 @@ pub use Rattle.event_state.specs.Steps
 pub use Rattle.event_state.specs.Bases
 pub use Rattle.event_state.specs.BaseFaults
 pub use Rattle.event_state.specs.Rolls
-pub use Rattle.config_faults.specs.Configs
+pub use Rattle.ospf_types.specs.Configs

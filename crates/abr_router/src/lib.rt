@@ -6,8 +6,9 @@
 
 // The router: a core on one thread, or an engine that threads share, with its forwarders.
 pub use engine::{
-    Answer, Base, BaseFault, BytesFault, ConfigFault, Core, DueList, DueSummary, Engine, Event,
-    Forwarder, Gate, Open, OpenFault, Refusal, Refused, Reply, Seen, Status, Told, EntryFault, LookupError,
+    Answer, Base, BaseFault, BytesFault, ConfigFault, Core, DueList, DueSummary, Engine,
+    EntryFault, Event, Forwarder, Gate, LookupError, Open, OpenFault, Refusal, Refused, Reply,
+    Seen, Status, Told,
 };
 // The base, from which a router is opened again.
 pub use event_state::{Limits, fault_in_base};

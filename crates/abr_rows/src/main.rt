@@ -6,7 +6,14 @@
 #![tactic(auto)]
 
 mod commands;
+mod core_after;
+mod fates;
 mod input;
+mod lines;
+mod lsas;
+mod many;
+mod objects;
+mod reasons;
 mod recordings;
 mod replays;
 mod row;
@@ -62,7 +69,18 @@ fn main(rt: HostRuntime) -> Result<()> {
     }
     let Count { ran, differ } = count;
     println!(rt; "{ran} rows, {differ} differ")?;
-    run_others(&rt)
+    run_others(&rt)?;
+    run_printed(&rt)
+}
+
+// Prints explanations of addresses and due summaries, JSON objects, and LSAs as text.
+fn run_printed(rt: &HostRuntime) -> Result<()> {
+    fates::run(rt)?;
+    many::run(rt)?;
+    reasons::run(rt)?;
+    lines::run(rt)?;
+    objects::run(rt)?;
+    lsas::run(rt)
 }
 
 // Runs the tests that no row can describe, and prints their names.

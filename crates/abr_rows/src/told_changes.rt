@@ -4,7 +4,7 @@ use crate::replays::{RECORDING, some_device};
 use crate::trial::UNSHOWN;
 use abr_cli::Format;
 use anyhow::{Result, ensure};
-use changes::{ChangeOptions, ChangeFilter, print_changes};
+use change_log::{ChangeFilter, ChangeOptions, print_changes};
 use recording::{Fault, LineFault};
 use replay::ReplayFault;
 use std::alloc::Global;

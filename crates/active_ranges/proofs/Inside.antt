@@ -8,7 +8,7 @@ use Rattle.ospf_types.specs.declared.prefix.Prefix.{Prefix}
 use Rattle.ospf_types.specs.declared.entry.Entry.{Entry}
 use Rattle.ospf_types.specs.Address.{Covers}
 use Rattle.ospf_types.proofs.Elements.{no_element}
-use Rattle.result_map.specs.Lists.{IsOfSome}
+use Rattle.route_choice.specs.Lists.{IsOfSome}
 use Rattle.intra.specs.Intras.{EntriesByPrefix}
 use Rattle.active_ranges.specs.Active.{IsConfigured, IsMemberWithin}
 use Rattle.active_ranges.specs.Following.{HasMore, IsAddedWithin, IsCostIn, IsCostWithin}

@@ -8,7 +8,7 @@ use Rattle.ospf_types.specs.declared.key.Dest.TheVariants.{Net}
 use Rattle.ospf_types.specs.declared.prefix.Prefix.{Prefix}
 use Rattle.ospf_types.specs.Address.{Covers}
 use Rattle.ospf_types.proofs.Elements.{no_element}
-use Rattle.result_map.specs.Lists.{IsOfSome}
+use Rattle.route_choice.specs.Lists.{IsOfSome}
 use Rattle.active_ranges.specs.declared.member.AreaRange.{AreaRange}
 use Rattle.active_ranges.specs.declared.member.RangeMember.{RangeMember}
 use Rattle.active_ranges.specs.Following.{HasMore, IsNamed, IsNamedAs, IsNamedIn, IsNamedOf}

@@ -7,12 +7,12 @@ use Rattle.ospf_types.specs.declared.prefix.Prefix.{Prefix}
 use Rattle.ospf_types.specs.Network.{network_cmp}
 use Rattle.ospf_types.proofs.Elements.{no_element}
 use Rattle.ospf_types.proofs.Orders.{network_total, network_exact}
-use Rattle.result_map.specs.Lists.{IsOfSome}
+use Rattle.route_choice.specs.Lists.{IsOfSome}
 use Rattle.active_ranges.specs.Active.{ActiveValue}
 use Rattle.active_ranges.specs.Following.{HasMore, HasTurned, IsNotedOf, IsTold}
 use Rattle.active_ranges.specs.declared.active.Noted.{Noted}
 use Rattle.active_ranges.proofs.Ascending.{IsAscending, ascending_passed, ascending_pushed}
-use Rattle.result_map.proofs.Adding.{more_none, more_one, more_next, more_all}
+use Rattle.route_choice.proofs.Adding.{more_none, more_one, more_next, more_all}
 
 abbrev prefixes : List Noted → List Prefix
 prefixes = map (λ (n : Noted). n.prefix)

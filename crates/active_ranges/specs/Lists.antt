@@ -1,7 +1,7 @@
 -- What a list has, and the greatest of some numbers.
 use Rattle.std.specs.Prelude.{ℕ, ◌≡◌, ◌↔◌, ◌<◌, Option, Some}
 use Rattle.ospf_types.specs.Summaries.{IsGreatest}
-pub use Rattle.result_map.specs.Lists.{ListsExactly, HasMore}
+pub use Rattle.route_choice.specs.Lists.{ListsExactly, HasMore}
 
 -- the greatest of these numbers that are below the limit, if there is one
 abbrev pub IsGreatestBelow : ℕ → (ℕ → Type 0) → Option ℕ → Type 0

@@ -1,18 +1,24 @@
 //! The active ranges, which are the ranges that have a member.
-ghost use Rattle.std.specs.Prelude.{◌≡◌, ◌≢◌, ◌↔◌, ℕ, [], Some, None, Contains, IsTrue, IfOk, OnOk, OnErr, option_copied, map as list_map};
+ghost use Rattle.std.specs.Prelude.{◌≡◌, ◌≢◌, ◌↔◌, ℕ, [], Some, None, Contains, IsTrue, IfOk, OnOk};
+ghost use Rattle.std.specs.Prelude.{OnErr, option_copied, map as list_map};
 ghost use Rattle.std.specs.FinMap as map;
 ghost use Rattle.std.specs.List.Sorted.{IsStrictlySortedBy};
 ghost use Rattle.ospf_types.specs.declared.key.Dest.TheVariants as dest_value;
 ghost use Rattle.ospf_types.specs.declared.prefix.Prefix.{Prefix as PrefixValue};
 ghost use Rattle.ospf_types.specs.Network.{network_cmp};
-ghost use Rattle.active_ranges.specs.Active.{AreRangesOf, AreRangesBehind, AreRangesButAt, DiffersAt, HasCost, IsActiveIn, IsMemberWithin, spent_ranges};
-ghost use Rattle.active_ranges.specs.Following.{AreAlikeBut, AreFollowed, AreNotedOf, AreOfRange, AreTakenIn, HasCostBy, HasLeft, IsCostIn, IsMemberIn, IsTold, IsTurnedAmong, prefixes_of, ranges_in};
+ghost use Rattle.active_ranges.specs.Active.{AreRangesOf, AreRangesBehind, AreRangesButAt};
+ghost use Rattle.active_ranges.specs.Active.{DiffersAt, HasCost, IsActiveIn, IsMemberWithin};
+ghost use Rattle.active_ranges.specs.Active.{spent_ranges};
+ghost use Rattle.active_ranges.specs.Following.{AreAlikeBut, AreFollowed, AreNotedOf, AreOfRange};
+ghost use Rattle.active_ranges.specs.Following.{AreTakenIn, HasCostBy, HasLeft, IsCostIn};
+ghost use Rattle.active_ranges.specs.Following.{IsMemberIn, IsTold, IsTurnedAmong, prefixes_of};
+ghost use Rattle.active_ranges.specs.Following.{ranges_in};
 ghost use Rattle.active_ranges.specs.Grouped.{member_of};
 ghost use Rattle.active_ranges.specs.Lists.{ListsExactly, HasMore, IsGreatestBelow};
 ghost use Rattle.active_ranges.specs.Right.{IsRightWith};
 
-use crate::member::{AreaRange, RangeMember};
 use crate::covered_members::named_members;
+use crate::member::{AreaRange, RangeMember};
 use crate::networks::Networks;
 use crate::within::{costs_within, is_configured};
 use intra::Intra;
@@ -21,7 +27,7 @@ use ospf_types::entry::Entry;
 use ospf_types::key::Dest;
 use ospf_types::memory::Memory;
 use ospf_types::prefix::Prefix;
-use result_map::sorted_unique;
+use route_choice::sorted_unique;
 use std::alloc::Global;
 use std::collections::BTreeMap;
 use std::marker::Model;
@@ -263,7 +269,12 @@ impl ActiveRanges {
     }
 
     // Returns the members of the area's range.
-    fn members_in(&self, alloc: Global, area: u32, range: Prefix) -> Result<Vec<RangeMember>, Memory>
+    fn members_in(
+        &self,
+        alloc: Global,
+        area: u32,
+        range: Prefix,
+    ) -> Result<Vec<RangeMember>, Memory>
         ensures { IfOk result (λ members. ListsExactly (IsMemberIn self.now area range) members.items) }
     {
         let area_range = AreaRange {
@@ -355,7 +366,12 @@ impl ActiveRanges {
 
     // Sets the member to the cost of its network's entry. Removes it if that entry is not one of
     // the member's area.
-    fn follow_member(&mut self, alloc: Global, intra: &Intra, member: RangeMember) -> Result<(), Memory>
+    fn follow_member(
+        &mut self,
+        alloc: Global,
+        intra: &Intra,
+        member: RangeMember,
+    ) -> Result<(), Memory>
         ensures spent { OnOk result (self.new.spent ≡ self.old.spent) }
         ensures here { OnOk result (HasCostBy intra.now.entries self.new member) }
         ensures others { OnOk result (AreAlikeBut member self.old self.new) }

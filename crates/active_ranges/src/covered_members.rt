@@ -27,7 +27,11 @@ pub(crate) fn named_members(
 }
 
 // Appends the members of one area's ranges.
-fn push_named(area: &AreaConfig, dests: &[Dest], members: &mut Vec<RangeMember>) -> Result<(), Memory>
+fn push_named(
+    area: &AreaConfig,
+    dests: &[Dest],
+    members: &mut Vec<RangeMember>,
+) -> Result<(), Memory>
     ensures { OnOk result
         (HasMore (IsNamedIn area.now dests.now) members.old.items members.new.items) }
 {
@@ -42,7 +46,11 @@ fn push_named(area: &AreaConfig, dests: &[Dest], members: &mut Vec<RangeMember>)
 }
 
 // Appends the members of one range.
-fn push_covering(range: &AreaRange, dests: &[Dest], members: &mut Vec<RangeMember>) -> Result<(), Memory>
+fn push_covering(
+    range: &AreaRange,
+    dests: &[Dest],
+    members: &mut Vec<RangeMember>,
+) -> Result<(), Memory>
     ensures { OnOk result
         (HasMore (IsNamedOf range.now dests.now) members.old.items members.new.items) }
 {

@@ -21,8 +21,8 @@
 #![tactic(auto)]
 
 mod active;
-mod member;
 mod covered_members;
+mod member;
 mod networks;
 mod within;
 

@@ -1,9 +1,11 @@
 //! The networks of one range, each at the cost of its entry.
-ghost use Rattle.std.specs.Prelude.{◌≡◌, ◌↔◌, [], IsTrue, IfOk, IfErr, OnOk, length, map as list_map};
+ghost use Rattle.std.specs.Prelude.{◌≡◌, ◌↔◌, [], IsTrue, IfOk, IfErr, OnOk, length};
+ghost use Rattle.std.specs.Prelude.{map as list_map};
 ghost use Rattle.std.specs.List.Sorted.{IsStrictlySortedBy};
 ghost use Rattle.std.specs.Map.{keys_of};
 ghost use Rattle.ospf_types.specs.Network.{network_cmp};
-ghost use Rattle.active_ranges.specs.Grouped.{AreMadeOf, IsAt, IsCostOf, IsGapFor, IsPutIn, member_of};
+ghost use Rattle.active_ranges.specs.Grouped.{AreMadeOf, IsAt, IsCostOf, IsGapFor, IsPutIn};
+ghost use Rattle.active_ranges.specs.Grouped.{member_of};
 ghost use Rattle.active_ranges.specs.Lists.{IsGreatestBelow};
 
 use crate::member::{AreaRange, RangeMember};
@@ -94,7 +96,11 @@ impl Networks {
     }
 
     /// Returns the networks as members of the range.
-    pub(crate) fn as_members(&self, alloc: Global, range: AreaRange) -> Result<Vec<RangeMember>, Memory>
+    pub(crate) fn as_members(
+        &self,
+        alloc: Global,
+        range: AreaRange,
+    ) -> Result<Vec<RangeMember>, Memory>
         ensures { IfOk result
             (λ members. members.items ≡ list_map (λ e. member_of range e.0) self.now.entries) }
     {

@@ -44,7 +44,11 @@ pub(crate) fn costs_within(
 
 // Appends the member at its cost, if its network's entry is of its area and its range covers the
 // network.
-fn push_within(entry: &Entry, member: RangeMember, costs: &mut Vec<(RangeMember, u32)>) -> Result<(), Memory>
+fn push_within(
+    entry: &Entry,
+    member: RangeMember,
+    costs: &mut Vec<(RangeMember, u32)>,
+) -> Result<(), Memory>
     ensures { OnOk result (AddsWithin member entry.now costs.old.items costs.new.items) }
 {
     if !member.range.covers(member.network) {

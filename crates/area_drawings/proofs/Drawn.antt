@@ -6,8 +6,8 @@ use Rattle.std.proofs.lemmas.List.{take_more, map_push, get_or-map, length-map}
 use Rattle.std.proofs.lemmas.List.Sorted.{Contains-permutation, IsPermutation-sym}
 use Rattle.lsdb.specs.Databases.{Database}
 use Rattle.area_trees.specs.Areas.{AreaTreeValue}
-use Rattle.drawings.specs.declared.drawing.Drawing.{Drawing}
-use Rattle.drawings.specs.declared.drawing.DrawnVertex.{DrawnVertex}
+use Rattle.area_drawings.specs.declared.drawing.Drawing.{Drawing}
+use Rattle.area_drawings.specs.declared.drawing.DrawnVertex.{DrawnVertex}
 use Rattle.area_drawings.specs.declared.columns.Column.{Column}
 use Rattle.area_drawings.specs.declared.reached.ReachedVertex.{ReachedVertex}
 use Rattle.area_drawings.specs.declared.stands.Stand.{Stand}

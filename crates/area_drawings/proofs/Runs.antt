@@ -7,7 +7,7 @@ use Rattle.std.proofs.lemmas.List.{take_more, map_push}
 use Rattle.std.proofs.lemmas.List.Elements.{All-nil, All-cons, All-weaker}
 use Rattle.std.proofs.lemmas.List.Kept.{AllPairs-cons}
 use Rattle.ospf_types.proofs.Elements.{no_element, first_element, later_element, first_or_later}
-use Rattle.drawings.specs.declared.drawing.GridCell.{GridCell}
+use Rattle.area_drawings.specs.declared.drawing.GridCell.{GridCell}
 use Rattle.area_drawings.specs.declared.reached.ReachedVertex.{ReachedVertex}
 use Rattle.area_drawings.specs.declared.stands.Stand.{Stand}
 use Rattle.area_drawings.specs.Places.{AreInPlaces, HasRows, IsBefore, IsNext, IsRun, rows_of}

@@ -6,7 +6,7 @@ use Rattle.std.proofs.lemmas.List.{get_or_default}
 use Rattle.std.proofs.lemmas.List.Elements.{Contains-append_left, Contains-append_right, Contains-append_cases}
 use Rattle.ospf_types.specs.declared.entry.Vertex.{Vertex}
 use Rattle.ospf_types.proofs.Elements.{no_element}
-use Rattle.drawings.specs.declared.drawing.DrawnLink.{DrawnLink}
+use Rattle.area_drawings.specs.declared.drawing.DrawnLink.{DrawnLink}
 use Rattle.vertex_graph.specs.Graphs.{GraphValue, AreLinksFrom, LinksOf}
 use Rattle.vertex_graph.specs.Link.{Link}
 use Rattle.graph_links.proofs.Apart.{apart_append}

@@ -10,9 +10,9 @@ use Rattle.lsa_codec.specs.Readers.{flags_of}
 use Rattle.lsdb.specs.Databases.{Database}
 use Rattle.spf.specs.TreeValues.{listed_hops}
 use Rattle.area_trees.specs.Areas.{AreaTreeValue, IsStanding}
-use Rattle.drawings.specs.declared.drawing.Drawing.{Drawing}
-use Rattle.drawings.specs.declared.drawing.DrawnVertex.{DrawnVertex}
-use Rattle.drawings.specs.declared.drawing.Roles.{Roles}
+use Rattle.area_drawings.specs.declared.drawing.Drawing.{Drawing}
+use Rattle.area_drawings.specs.declared.drawing.DrawnVertex.{DrawnVertex}
+use Rattle.area_drawings.specs.declared.drawing.Roles.{Roles}
 use Rattle.area_drawings.specs.declared.columns.Column.{Column}
 use Rattle.area_drawings.specs.declared.reached.ReachedVertex.{ReachedVertex}
 use Rattle.area_drawings.specs.declared.stands.Stand.{Stand}

@@ -1,3 +1,8 @@
+pub mod Layout
+pub mod DrawnColumns
+pub mod DrawnLinks
+pub mod Vertices
+pub mod Pictures
 pub mod Columns
 pub mod Drawings
 pub mod Links

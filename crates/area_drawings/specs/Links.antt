@@ -3,8 +3,8 @@ use Rattle.std.specs.Prelude.{◌↔◌, ◌⊎◌, ◌==◌, ℕ, ◌+◌, ◌�
 use Rattle.std.specs.List.{AllPairs}
 use Rattle.ospf_types.specs.declared.entry.Vertex.{Vertex}
 use Rattle.ospf_types.specs.declared.label.Label.{Label}
-use Rattle.drawings.specs.declared.drawing.DrawnEnd.{DrawnEnd}
-use Rattle.drawings.specs.declared.drawing.DrawnLink.{DrawnLink}
+use Rattle.area_drawings.specs.declared.drawing.DrawnEnd.{DrawnEnd}
+use Rattle.area_drawings.specs.declared.drawing.DrawnLink.{DrawnLink}
 use Rattle.vertex_graph.specs.Graphs.{GraphValue, LinksOf}
 use Rattle.vertex_graph.specs.Link.{Link}
 use Rattle.area_drawings.specs.declared.stands.Stand.{Stand}

@@ -1,7 +1,7 @@
 -- Where vertices stand in a picture.
 use Rattle.std.specs.Prelude.{◌↔◌, ◌⊎◌, ℕ, ◌+◌, ◌≡◌, ◌<◌, List, [], ◌∷◌, Contains, Option, None, Some, slice_get}
 use Rattle.std.specs.List.{AllPairs}
-use Rattle.drawings.specs.declared.drawing.GridCell.{GridCell}
+use Rattle.area_drawings.specs.declared.drawing.GridCell.{GridCell}
 use Rattle.area_drawings.specs.declared.columns.Column.{Column}
 use Rattle.area_drawings.specs.declared.stands.Stand.{Stand}
 use Rattle.area_drawings.specs.Columns.{column_of}

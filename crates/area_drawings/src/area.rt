@@ -7,6 +7,7 @@ ghost use Rattle.area_drawings.specs.Columns.{AreColumnsOf};
 ghost use Rattle.area_drawings.specs.Drawings.{IsDrawingOf, reached_of};
 ghost use Rattle.area_drawings.specs.Places.{AreInPlaces, HasRows, IsInColumn};
 
+use crate::Drawing;
 use crate::branches::list_branches;
 use crate::columns::{Column, distances, list_columns};
 use crate::links::draw_links;
@@ -15,7 +16,6 @@ use crate::reached::{ReachedVertex, list_reached};
 use crate::stands::{Stands, place_all};
 use crate::vertices::draw_vertices;
 use area_trees::AreaTree;
-use drawings::Drawing;
 use lsdb::Database;
 use ospf_types::listed::Listed;
 use ospf_types::memory::Memory;

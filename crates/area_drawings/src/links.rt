@@ -1,12 +1,14 @@
 //! The links of the picture: the links of the graph between vertices that are drawn.
 ghost use Rattle.std.specs.Prelude.{◌≡◌, ◌≢◌, ◌↔◌, IfOk, IfSome, IfNone, IsTrue, OnOk, Contains};
 ghost use Rattle.std.specs.List.{AllPairs};
-ghost use Rattle.area_drawings.specs.Links.{AddsLink, AreApart, AreLinksBetween, AreLinksOut, HasOneMore, KeepsApart, LacksVertex, IsStandOf, end_of, link_between};
+ghost use Rattle.area_drawings.specs.Links.{AddsLink, AreApart, AreLinksBetween, AreLinksOut};
+ghost use Rattle.area_drawings.specs.Links.{HasOneMore, KeepsApart, LacksVertex, IsStandOf, end_of};
+ghost use Rattle.area_drawings.specs.Links.{link_between};
 
 use crate::branches::is_least;
 use crate::stands::Stand;
+use crate::{DrawnEnd, DrawnLink};
 use area_trees::AreaTree;
-use drawings::{DrawnEnd, DrawnLink};
 use ospf_types::entry::Vertex;
 use ospf_types::memory::Memory;
 use std::alloc::Global;

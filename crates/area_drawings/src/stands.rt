@@ -2,12 +2,13 @@
 ghost use Rattle.std.specs.Prelude.{◌≡◌, map, IfOk, Contains};
 ghost use Rattle.std.specs.List.{All};
 ghost use Rattle.area_drawings.specs.Columns.{AreColumnsOf, column_of};
-ghost use Rattle.area_drawings.specs.Places.{AreInPlaces, HasRows, IsInColumn, IsNext, IsNextRow, rows_of};
+ghost use Rattle.area_drawings.specs.Places.{AreInPlaces, HasRows, IsInColumn, IsNext, IsNextRow};
+ghost use Rattle.area_drawings.specs.Places.{rows_of};
 
+use crate::GridCell;
 use crate::branches::{Branch, parent_of};
 use crate::columns::{Column, place_of};
 use crate::reached::ReachedVertex;
-use drawings::GridCell;
 use ospf_types::entry::Vertex;
 use ospf_types::memory::Memory;
 use std::alloc::Global;

@@ -5,8 +5,8 @@ ghost use Rattle.area_trees.specs.Areas.{IsTreeIn};
 ghost use Rattle.area_drawings.specs.Drawings.{AreRoles, HasFlags, IsTold, stand_of};
 
 use crate::stands::Stand;
+use crate::{DrawnVertex, Roles};
 use area_trees::AreaTree;
-use drawings::{DrawnVertex, Roles};
 use lsdb::Database;
 use ospf_types::entry::Vertex;
 use ospf_types::listed::Listed;

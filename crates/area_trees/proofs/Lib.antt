@@ -1,3 +1,4 @@
+pub mod LeastPaths
 pub mod Named
 pub mod NetworkSets
 pub mod Following

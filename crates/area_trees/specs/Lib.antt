@@ -1,2 +1,3 @@
+pub mod LeastPaths
 pub mod Areas
 pub mod Work

@@ -4,10 +4,11 @@ ghost use Rattle.std.specs.FinMap as map;
 ghost use Rattle.lsdb.specs.Databases.{Database as Lsas};
 ghost use Rattle.ospf_types.specs.Lsa.{key_of};
 ghost use Rattle.vertex_graph.specs.Graphs.{AreLinkChanges, HasEnds, max_routers};
-ghost use Rattle.area_trees.specs.Areas.{IsGraphBut, IsGraphOf, IsStanding, IsStandingKey, vertex_of};
+ghost use Rattle.area_trees.specs.Areas.{IsGraphBut, IsGraphOf, IsStanding, IsStandingKey};
+ghost use Rattle.area_trees.specs.Areas.{vertex_of};
 
 use crate::networks::Networks;
-use crate::vertices::{list_vertices, lsa_of, lsa_for_vertex};
+use crate::vertices::{list_vertices, lsa_for_vertex, lsa_of};
 use lsa_codec::Checked;
 use lsdb::Database;
 use ospf_types::entry::Vertex;
@@ -101,7 +102,11 @@ impl AreaGraph {
     }
 
     /// Returns the LSA that describes the vertex, or `None` if there is none.
-    pub(crate) fn lsa_for_vertex<'a>(&self, database: &'a Database, vertex: Vertex) -> Option<&'a Checked>
+    pub(crate) fn lsa_for_vertex<'a>(
+        &self,
+        database: &'a Database,
+        vertex: Vertex,
+    ) -> Option<&'a Checked>
         requires { IsGraphOf database.now.lsas self.now }
         ensures body { IsStanding database.now.lsas vertex (option_map (λ l. l.now.body) result) }
         ensures own { IfSome result (λ l. vertex_of (key_of l.now) ≡ Some vertex) }

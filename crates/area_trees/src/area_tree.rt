@@ -1,5 +1,6 @@
 //! The graph of an area and its shortest-path tree, updated together.
-ghost use Rattle.std.specs.Prelude.{◌≡◌, ◌≢◌, ◌≤◌, ◌<◌, [], Some, true, OnOk, OnErr, IfOk, IfSome, option_map};
+ghost use Rattle.std.specs.Prelude.{◌≡◌, ◌≢◌, ◌≤◌, ◌<◌, [], Some, true, OnOk, OnErr, IfOk, IfSome};
+ghost use Rattle.std.specs.Prelude.{option_map};
 ghost use Rattle.std.specs.FinMap as map;
 ghost use Rattle.std.specs.List.{AllPairs};
 ghost use Rattle.std.specs.List.Sorted.{IsStrictlySortedBy};
@@ -7,9 +8,12 @@ ghost use Rattle.ospf_types.specs.Lsa.{key_of};
 ghost use Rattle.ospf_types.specs.Hops.{hop_cmp};
 ghost use Rattle.spf.specs.Maps.{most_distance};
 ghost use Rattle.spf.specs.TreeValues.{AreOthersKept, listed_hops};
-ghost use Rattle.tree_paths.specs.LeastPaths.{IsPathOver, links_at};
+ghost use Rattle.area_trees.specs.LeastPaths.{IsPathOver, links_at};
 ghost use Rattle.vertex_graph.specs.Graphs.{AreLinksFrom, max_routers};
-ghost use Rattle.area_trees.specs.Areas.{FollowsInterfaces, FollowsLsas, HasBoundedWork, IsBuiltByWork, IsBuiltFor, IsStanding, IsStandingKey, IsTreeBut, IsTreeIn, IsTreeOfSome, IsWorkBetween, NamesChanged, vertex_of};
+ghost use Rattle.area_trees.specs.Areas.{FollowsInterfaces, FollowsLsas, HasBoundedWork};
+ghost use Rattle.area_trees.specs.Areas.{IsBuiltByWork, IsBuiltFor, IsStanding, IsStandingKey};
+ghost use Rattle.area_trees.specs.Areas.{IsTreeBut, IsTreeIn, IsTreeOfSome, IsWorkBetween};
+ghost use Rattle.area_trees.specs.Areas.{NamesChanged, vertex_of};
 
 use crate::area_graph::AreaGraph;
 use lsa_codec::Checked;
@@ -216,7 +220,7 @@ impl AreaTree {
         requires { IsTreeOfSome self.now }
         ensures { IfOk result (λ links. IsPathOver self.now.area.graph vertex hop (links_at links.items)) }
     {
-        tree_paths::links_of_path(alloc, self.area.graph(), &self.tree, vertex, hop)
+        crate::links_of_path(alloc, self.area.graph(), &self.tree, vertex, hop)
     }
 
     /// Returns the vertices whose distance or next hops the last update changed, in ascending

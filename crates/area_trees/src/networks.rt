@@ -1,6 +1,7 @@
 //! The usable network-LSAs of an area, in the order of Link State ID.
 ghost use Rattle.std.specs.Prelude.{◌≡◌, ◌<◌, ◌^◌, ℕ, IfSome, IfNone, OnOk, Contains};
-ghost use Rattle.area_trees.specs.Areas.{AreNetworksBut, AreNetworksOf, FollowsKey, IsGreatest, KeepsOthers};
+ghost use Rattle.area_trees.specs.Areas.{AreNetworksBut, AreNetworksOf, FollowsKey, IsGreatest};
+ghost use Rattle.area_trees.specs.Areas.{KeepsOthers};
 
 use crate::vertices::is_usable;
 use lsdb::Database;

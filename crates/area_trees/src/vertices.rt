@@ -4,7 +4,9 @@ ghost use Rattle.std.specs.List.{filter_map};
 ghost use Rattle.std.specs.List.Sorted.{IsStrictlySortedBy};
 ghost use Rattle.ospf_types.specs.Lsa.{key_of};
 ghost use Rattle.ospf_types.specs.Vertices.{vertex_cmp};
-ghost use Rattle.area_trees.specs.Areas.{vertex_of as vertex_of_key, AddsVertexOf, AreNetworksOf, AreVerticesOf, IsStanding, IsStandingKey, IsUsed, StandFor};
+ghost use Rattle.area_trees.specs.Areas.{vertex_of as vertex_of_key, AddsVertexOf, AreNetworksOf};
+ghost use Rattle.area_trees.specs.Areas.{AreVerticesOf, IsStanding, IsStandingKey, IsUsed};
+ghost use Rattle.area_trees.specs.Areas.{StandFor};
 
 use crate::networks::Networks;
 use lsa_codec::Checked;

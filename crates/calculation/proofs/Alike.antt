@@ -29,12 +29,12 @@ use Rattle.external.proofs.Right.{external_right}
 use Rattle.event_state.specs.States.{State, LooksAlike, database_of, inputs_of}
 use Rattle.event_state.specs.Held.{AreFit}
 use Rattle.calculation.specs.Calculations.{CalculationValue, IsCalculationOf}
-use Rattle.state_trees.specs.Trees.{lsas_in, areas_with, inputs_with, AreUpsOf, IsTreeFor, AreTreesOf}
+use Rattle.route_layers.specs.Trees.{lsas_in, areas_with, inputs_with, AreUpsOf, IsTreeFor, AreTreesOf}
 use Rattle.route_layers.specs.Layers.{inter_inputs, external_inputs}
 use Rattle.route_layers.proofs.Above.{configured, inter_are, external_are}
 use Rattle.calculation.proofs.AlikeAbove.{looks_back, bodies_alike, inter_alike, external_alike}
-use Rattle.state_trees.proofs.InputsAre.{inputs_are}
-use Rattle.state_trees.proofs.Standing.{standing_alike, alike_tree}
+use Rattle.route_layers.proofs.InputsAre.{inputs_are}
+use Rattle.route_layers.proofs.Standing.{standing_alike, alike_tree}
 
 -- ---- an area with another database that is used alike
 

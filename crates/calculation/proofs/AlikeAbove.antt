@@ -24,8 +24,8 @@ use Rattle.ospf_types.specs.Ranges.{IsExamined}
 use Rattle.lsdb.specs.Databases.{Database}
 use Rattle.lsdb.specs.Contents.{body_at}
 use Rattle.intra.specs.Intras.{IntraValue}
-use Rattle.offer_index.specs.AdvertisedRoute.{advertised_at}
-use Rattle.offer_index.specs.Indexes.{OfferIndexValue}
+use Rattle.advertised_index.specs.AdvertisedRoute.{advertised_at}
+use Rattle.advertised_index.specs.Indexes.{OfferIndexValue}
 use Rattle.active_ranges.specs.Active.{ActiveValue}
 use Rattle.inter.specs.Inputs.{ExaminedValue, InterInputsValue}
 use Rattle.inter.specs.Inters.{InterValue, IsEntryFor, IsInterOf}
@@ -35,11 +35,11 @@ use Rattle.external.specs.Externals.{ExternalValue, IsEntryFor as IsExternalFor,
 use Rattle.external.specs.Forwards.{ForwardValue, WayValue, IsMatchOf, WayOffers, LeadsBy}
 use Rattle.external.specs.Offers.{OffersBy as ExternalOffersBy}
 use Rattle.event_state.specs.States.{State, LooksAlike, database_of, inputs_of}
-use Rattle.state_trees.specs.Trees.{lsas_in}
+use Rattle.route_layers.specs.Trees.{lsas_in}
 use Rattle.route_layers.specs.Layers.{IsExaminedOf, IsUpIn, inter_inputs, external_inputs}
-use Rattle.state_trees.specs.Works.{area_of}
+use Rattle.route_layers.specs.Works.{area_of}
 use Rattle.route_layers.proofs.Examining.{area_in, area_from, active_in, active_from}
-use Rattle.state_trees.proofs.Places.{body_used}
+use Rattle.route_layers.proofs.Places.{body_used}
 
 -- ---- other LSAs that are used alike
 

@@ -35,11 +35,11 @@ use Rattle.route_table.specs.declared.table.Item.TheVariants.{Route, Discard}
 use Rattle.event_state.specs.States.{State}
 use Rattle.calculation.specs.Summaries.{RoutesDifferAmong}
 use Rattle.calculation.specs.Calculations.{CalculationValue, IsCalculationOf, AreItemsKept, IsItem, entry_else, entry_at}
-use Rattle.state_trees.specs.Trees.{StatesDifferAmong, AreTreesOf, inputs_with}
+use Rattle.route_layers.specs.Trees.{StatesDifferAmong, AreTreesOf, inputs_with}
 use Rattle.route_layers.specs.Layers.{IsExaminedOf, inter_inputs, external_inputs}
 use Rattle.calculation.specs.Followed.{range_dests, routers_in}
 use Rattle.calculation.proofs.Networks.{routers_within}
-use Rattle.state_trees.proofs.OtherRanges.{any_ranges}
+use Rattle.route_layers.proofs.OtherRanges.{any_ranges}
 use Rattle.route_layers.proofs.Above.{kept_ids, inter_differ, external_differ}
 use Rattle.calculation.proofs.Staying.{networks_stay, routers_stay, ranges_stay, inter_stays, external_stays, preferred_stays}
 

@@ -7,5 +7,5 @@ pub mod Following
 pub mod Summaries
 pub mod Named
 pub mod NewItems
-pub use Rattle.state_trees.proofs.InputsAre
-pub use Rattle.state_trees.proofs.OtherRanges
+pub use Rattle.route_layers.proofs.InputsAre
+pub use Rattle.route_layers.proofs.OtherRanges

@@ -23,7 +23,7 @@ use Rattle.calculation.specs.Calculations.{CalculationValue, IsCalculationOf}
 use Rattle.route_layers.specs.Layers.{IsUpIn}
 use Rattle.route_layers.specs.Layers.{AreActiveIn, AreActive}
 use Rattle.calculation.specs.Summaries.{AreSummariesFor, SummariesDifferAmong, summary_inputs}
-use Rattle.state_trees.specs.Works.{area_of}
+use Rattle.route_layers.specs.Works.{area_of}
 use Rattle.route_layers.proofs.Above.{apart_areas}
 use Rattle.route_layers.proofs.Examining.{active_in, active_from}
 use Rattle.event_state.proofs.Sorted.{value_from}

@@ -20,7 +20,7 @@ use Rattle.event_state.specs.Held.{AreFit}
 use Rattle.event_state.specs.States.{State, inputs_of}
 use Rattle.route_table.specs.declared.table.Item.{Item}
 use Rattle.route_table.specs.declared.table.Item.TheVariants.{Route, Discard}
-use Rattle.state_trees.specs.Trees.{inputs_with, AreTreesOf}
+use Rattle.route_layers.specs.Trees.{inputs_with, AreTreesOf}
 use Rattle.route_layers.specs.Layers.{IsExaminedOf, inter_inputs, external_inputs}
 
 pub record CalculationValue : Type 0 where

@@ -12,8 +12,8 @@ use Rattle.intra.specs.Changes.{InputsDifferAmong}
 use Rattle.active_ranges.specs.Active.{RangesDifferAt}
 use Rattle.event_state.specs.States.{State}
 use Rattle.calculation.specs.Calculations.{CalculationValue, IsCalculationOf}
-use Rattle.state_trees.specs.Trees.{inputs_with, StatesDifferAmong}
-use Rattle.state_trees.specs.Works.{IsEventWork}
+use Rattle.route_layers.specs.Trees.{inputs_with, StatesDifferAmong}
+use Rattle.route_layers.specs.Works.{IsEventWork}
 
 -- a state of which this is the calculation, and from which the state now differs in no more than is named
 abbrev pub IsOutOfDateBy : List (Scope × Key) → List ℕ → Option (ℕ × Prefix) → CalculationValue → State → Type 0

@@ -4,7 +4,7 @@ use Rattle.spf.specs.Touched.{Touched}
 use Rattle.area_trees.specs.Areas.{AreaTreeValue}
 use Rattle.calculation.specs.Calculations.{CalculationValue, IsCalculationOf}
 use Rattle.event_state.specs.States.{State}
-use Rattle.state_trees.specs.Works.{AreWorksForAll, IsTotal}
+use Rattle.route_layers.specs.Works.{AreWorksForAll, IsTotal}
 
 -- the work of building these trees
 abbrev pub IsWorkOfTrees : List AreaTreeValue → Touched → Type 0

@@ -2,12 +2,12 @@
 use Rattle.std.proofs.Common.{◌≡◌, ◌∙◌, ◌++◌, List, [], ℕ, Option, Some, ◌⊎◌, inl, inr, Result, Err, Bool, refl, ap, sym, subst, append_assoc}
 use Rattle.std.specs.Prelude.{length, string_bytes}
 use Rattle.std.specs.Io.KnownBytes.{Appends}
-use Rattle.config_faults.specs.Configs.{config_fault_of}
-use Rattle.config_faults.specs.declared.fault.ConfigFault.{ConfigFault}
+use Rattle.ospf_types.specs.Configs.{config_fault_of}
+use Rattle.ospf_types.specs.declared.fault.ConfigFault.{ConfigFault}
 use Rattle.captured_config.specs.Configs.{config_of as config_by}
 use Rattle.captured_config.specs.Facts.{facts_of}
 use Rattle.captured_config.specs.Fronts.{captured_recording}
-use Rattle.capture_lines.specs.Counts.{counts_line}
+use Rattle.capture_recording.specs.Counts.{counts_line}
 use Rattle.capture_recording.specs.Rules.{Rules}
 use Rattle.recording.specs.Recordings.{IsText}
 use Rattle.replay.specs.Writing.{AppendsPart}

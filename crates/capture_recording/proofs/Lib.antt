@@ -1,3 +1,7 @@
+mod PaddedDigits
+mod Counted
+pub mod Gained
+mod LsTypes
 pub mod Gaining
 pub mod Stepping
 pub mod Said

@@ -2,9 +2,9 @@
 use Rattle.std.proofs.Common.{◌≡◌, ◌++◌, List, [], ℕ, Bool, true, false, Option, ◌⊎◌, inl, inr, Err, refl, sym, subst}
 use Rattle.std.specs.Prelude.{string_bytes}
 use Rattle.std.specs.Io.KnownBytes.{Appends}
-use Rattle.config_faults.specs.declared.fault.ConfigFault.{ConfigFault}
+use Rattle.ospf_types.specs.declared.fault.ConfigFault.{ConfigFault}
 use Rattle.capture_recording.specs.Rules.{Rules}
-use Rattle.capture_reader.specs.Positions.{Position}
+use Rattle.captures.specs.Positions.{Position}
 use Rattle.capture_recording.proofs.Gaining.{appended_none}
 use Rattle.replay.specs.Writing.{AppendsPart}
 use Rattle.replay.proofs.Written.{appends_none}

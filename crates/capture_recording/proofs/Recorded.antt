@@ -4,12 +4,12 @@ use Rattle.std.specs.Prelude.{string_bytes, String}
 use Rattle.std.specs.Io.KnownBytes.{Keeps}
 use Rattle.std.proofs.lemmas.List.{map-append}
 use Rattle.captures.specs.Reading.{unread}
-use Rattle.capture_reader.specs.Positions.{Position, GoesOn}
-use Rattle.capture_reader.proofs.Going.{both_ways, reads_none}
+use Rattle.captures.specs.Positions.{Position, GoesOn}
+use Rattle.captures.proofs.Going.{both_ways, reads_none}
 use Rattle.capture_recording.specs.Rules.{Rules}
-use Rattle.capture_lines.proofs.Gained.{appended_more}
+use Rattle.capture_recording.proofs.Gained.{appended_more}
 use Rattle.capture_recording.proofs.Gaining.{appended_none}
-use Rattle.capture_lines.specs.Events.{AreAppended}
+use Rattle.capture_recording.specs.Events.{AreAppended}
 use Rattle.capture_recording.specs.declared.ending.Ending.{Ending}
 use Rattle.capture_recording.specs.declared.session.Session.{Session}
 use Rattle.capture_recording.specs.Ending.{first_position}

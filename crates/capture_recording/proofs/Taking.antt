@@ -1,7 +1,7 @@
 -- What a packet comes to that was heard.
 use Rattle.std.proofs.Common.{◌≡◌, ◌∙◌, ◌++◌, List, [], ℕ, Option, None, Some, inl, inr, refl, ap, sym, subst, append-nil}
 use Rattle.std.specs.Prelude.{◌⊎◌, option_map, String, string_bytes}
-use Rattle.datagrams.specs.declared.fault.DatagramFault.{DatagramFault}
+use Rattle.packets.specs.declared.datagram_fault.DatagramFault.{DatagramFault}
 use Rattle.captures.specs.Runs.{Shown}
 use Rattle.captured_config.specs.Facts.{facts_of}
 use Rattle.captured_lsas.specs.declared.heard.Heard.{Heard}
@@ -10,9 +10,9 @@ use Rattle.captured_lsas.specs.declared.heard.Payload.{Payload}
 use Rattle.captured_lsas.specs.Hearing.{IsHeard}
 use Rattle.captured_lsas.specs.Packets.{IsTaken, with_packet}
 use Rattle.captured_lsas.specs.Payloads.{bytes_of}
-use Rattle.capture_lines.specs.Counts.{with_heard, with_taken}
+use Rattle.capture_recording.specs.Counts.{with_heard, with_taken}
 use Rattle.capture_recording.proofs.Gaining.{appended_none}
-use Rattle.capture_lines.specs.Notes.{datagram_note}
+use Rattle.capture_recording.specs.Notes.{datagram_note}
 use Rattle.capture_recording.specs.declared.gathered.Gathered.{Gathered}
 use Rattle.capture_recording.specs.declared.session.Session.{Session}
 use Rattle.capture_recording.specs.Steps.{IsTakenOf}

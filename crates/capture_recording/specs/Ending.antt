@@ -1,9 +1,9 @@
 -- How a capture ended, and what is answered then.
 use Rattle.std.specs.Prelude.{ℕ, Bool, true, false, List, [], Option, Result, Ok, Err}
 use Rattle.captures.specs.Reading.{unread}
-use Rattle.capture_reader.specs.Positions.{Position, IsWhole, Stops}
-use Rattle.capture_reader.specs.declared.fault.CaptureError.TheVariants as error
-use Rattle.config_faults.specs.declared.fault.ConfigFault.{ConfigFault}
+use Rattle.captures.specs.Positions.{Position, IsWhole, Stops}
+use Rattle.captures.specs.declared.capture_error.CaptureError.TheVariants as error
+use Rattle.ospf_types.specs.declared.fault.ConfigFault.{ConfigFault}
 use Rattle.capture_recording.specs.declared.ending.Ending.{Ending}
 use Rattle.capture_recording.specs.declared.ending.Ending.TheVariants.{Whole, Fault, Unread}
 use Rattle.capture_recording.specs.declared.fault.CapturingFault.{CapturingFault}

@@ -7,8 +7,8 @@ use Rattle.captured_config.specs.declared.fault.PreambleFault.TheVariants as fro
 use Rattle.captured_config.specs.Lsas.{Captured}
 use Rattle.captured_config.specs.Unknown.{unknown_text}
 use Rattle.capture_recording.specs.Rules.{Rules}
-use Rattle.config_faults.specs.Configs.{config_fault_of}
-use Rattle.config_faults.specs.declared.fault.ConfigFault.{ConfigFault}
+use Rattle.ospf_types.specs.Configs.{config_fault_of}
+use Rattle.ospf_types.specs.declared.fault.ConfigFault.{ConfigFault}
 use Rattle.capture_recording.specs.declared.capturing.Preamble.{Preamble}
 use Rattle.capture_recording.specs.declared.capturing.Preamble.TheVariants.{Given, Router}
 use Rattle.capture_recording.specs.declared.going.Ended.{Ended}

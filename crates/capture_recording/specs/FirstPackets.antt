@@ -1,6 +1,6 @@
 -- The packets that an input has at first.
 use Rattle.std.specs.Prelude.{ℕ, List, Option}
-use Rattle.capture_reader.specs.Positions.{Position, GoesOn}
+use Rattle.captures.specs.Positions.{Position, GoesOn}
 use Rattle.capture_recording.specs.Rules.{Rules}
 use Rattle.capture_recording.specs.Ending.{first_position}
 use Rattle.capture_recording.specs.Steps.{Step, packets_of, AreSteps}

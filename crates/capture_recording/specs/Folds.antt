@@ -5,8 +5,8 @@ use Rattle.captured_lsas.specs.declared.recorded.Recorded.{Recorded}
 use Rattle.captured_lsas.specs.declared.recorded.Recorded.TheVariants as recorded
 use Rattle.captured_lsas.specs.declared.taken.Taken.{Taken}
 use Rattle.captured_lsas.specs.declared.taken.Taken.TheVariants as taken
-use Rattle.capture_lines.specs.declared.counts.Counts.{Counts}
-use Rattle.capture_lines.specs.Counts.{with_heard, with_taken}
+use Rattle.capture_recording.specs.declared.counts.Counts.{Counts}
+use Rattle.capture_recording.specs.Counts.{with_heard, with_taken}
 use Rattle.captured_config.specs.Areas.{with_area}
 use Rattle.captured_config.specs.Lsas.{Captured, with_lsa}
 use Rattle.capture_recording.specs.Steps.{Step}

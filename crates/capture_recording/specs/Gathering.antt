@@ -7,9 +7,9 @@ use Rattle.capture_recording.specs.Rules.{Rules}
 use Rattle.captured_lsas.specs.declared.taken.Taken.{Taken}
 use Rattle.captured_lsas.specs.Packets.{IsTaken, with_packet}
 use Rattle.captured_lsas.specs.Progress.{start}
-use Rattle.capture_lines.specs.Counts.{with_taken}
-use Rattle.capture_lines.specs.Events.{GainsEvents, taken_events}
-use Rattle.capture_lines.specs.Notes.{taken_text}
+use Rattle.capture_recording.specs.Counts.{with_taken}
+use Rattle.capture_recording.specs.Events.{GainsEvents, taken_events}
+use Rattle.capture_recording.specs.Notes.{taken_text}
 use Rattle.capture_recording.specs.declared.gathered.Gathered.{Gathered}
 use Rattle.capture_recording.specs.declared.session.Session.{Session}
 use Rattle.capture_recording.specs.Steps.{Step, Past, IsStep, AreStepsTo, begun}

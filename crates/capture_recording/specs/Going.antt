@@ -1,8 +1,8 @@
 -- How far a capture is recorded.
 use Rattle.std.specs.Prelude.{ℕ, ◌≡◌, ◌++◌, List, [], ◌∷◌, Option, None, Some, string_bytes}
-use Rattle.capture_reader.specs.Positions.{Position, GoesOn}
+use Rattle.captures.specs.Positions.{Position, GoesOn}
 use Rattle.capture_recording.specs.Rules.{Rules}
-use Rattle.capture_lines.specs.Events.{GainsEvents}
+use Rattle.capture_recording.specs.Events.{GainsEvents}
 use Rattle.capture_recording.specs.declared.ending.Ending.{Ending}
 use Rattle.capture_recording.specs.declared.going.Ended.{Ended}
 use Rattle.capture_recording.specs.declared.session.Session.{Session}

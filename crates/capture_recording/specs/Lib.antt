@@ -1,3 +1,7 @@
+pub mod Seconds
+pub mod Notes
+pub mod Counts
+pub mod Events
 pub mod Rules
 pub mod Steps
 pub mod Texts

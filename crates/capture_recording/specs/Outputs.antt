@@ -1,16 +1,16 @@
 -- What is written and said of a capture.
 use Rattle.std.specs.Prelude.{ℕ, ◌≡◌, ◌++◌, ◌⊎◌, List, [], length, map, Option, None, Some, Result, MatchResult}
 use Rattle.std.specs.Io.KnownBytes.{Appends}
-use Rattle.capture_reader.specs.Positions.{Position, IsWhole, Stops}
-use Rattle.capture_reader.specs.declared.fault.CaptureError.TheVariants as error
+use Rattle.captures.specs.Positions.{Position, IsWhole, Stops}
+use Rattle.captures.specs.declared.capture_error.CaptureError.TheVariants as error
 use Rattle.captured_config.specs.Configs.{config_of}
 use Rattle.captured_config.specs.Fronts.{captured_recording}
 use Rattle.captured_config.specs.Unknown.{unknown_text}
-use Rattle.config_faults.specs.Configs.{config_fault_of}
+use Rattle.ospf_types.specs.Configs.{config_fault_of}
 use Rattle.captured_lsas.specs.declared.options.Options.{Options}
 use Rattle.capture_recording.specs.Rules.{Rules}
-use Rattle.capture_lines.specs.Counts.{counts_line}
-use Rattle.config_faults.specs.declared.fault.ConfigFault.{ConfigFault}
+use Rattle.capture_recording.specs.Counts.{counts_line}
+use Rattle.ospf_types.specs.declared.fault.ConfigFault.{ConfigFault}
 use Rattle.recording.specs.Faults.{IsFaultOf}
 use Rattle.recording.specs.Recordings.{RecordingValue, IsText}
 use Rattle.recording.specs.declared.fault.LineFault.{LineFault}

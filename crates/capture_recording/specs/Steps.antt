@@ -1,7 +1,7 @@
 -- The packets of a capture, one after the other: what each brings, and what is taken of it.
 use Rattle.std.specs.Prelude.{ℕ, ◌≡◌, List, [], ◌∷◌, map, Option, None, Some}
 use Rattle.captures.specs.Runs.{Shown}
-use Rattle.datagrams.specs.Kept.{Kept}
+use Rattle.packets.specs.Kept.{Kept}
 use Rattle.captured_lsas.specs.declared.heard.Heard.{Heard}
 use Rattle.captured_lsas.specs.declared.heard.Heard.TheVariants.{Other, Fault, Part, Whole}
 use Rattle.capture_recording.specs.Rules.{Rules}

@@ -5,8 +5,8 @@ use Rattle.event_state.specs.declared.event.Event.{Event}
 use Rattle.captured_lsas.specs.declared.heard.Heard.{Heard}
 use Rattle.captured_lsas.specs.declared.heard.Heard.TheVariants.{Other, Fault, Part, Whole}
 use Rattle.captured_lsas.specs.declared.taken.Taken.{Taken}
-use Rattle.capture_lines.specs.Events.{taken_events, AreAppended}
-use Rattle.capture_lines.specs.Notes.{datagram_note, taken_text}
+use Rattle.capture_recording.specs.Events.{taken_events, AreAppended}
+use Rattle.capture_recording.specs.Notes.{datagram_note, taken_text}
 use Rattle.capture_recording.specs.Steps.{Step}
 
 -- ---- the events of the recording

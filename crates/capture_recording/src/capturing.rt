@@ -2,7 +2,8 @@
 ghost use Rattle.std.specs.Prelude.{◌≡◌, IfOk};
 ghost use Rattle.recording.specs.Recordings.{IsText};
 ghost use Rattle.capture_recording.specs.declared.capturing.Preamble.TheVariants.{Given, Router};
-ghost use Rattle.capture_recording.specs.Outputs.{areas_in, IsOnly, IsRecordingText, Outcome, RuledOutcome};
+ghost use Rattle.capture_recording.specs.Outputs.{areas_in, IsOnly, IsRecordingText, Outcome};
+ghost use Rattle.capture_recording.specs.Outputs.{RuledOutcome};
 
 use crate::fault::CapturingFault;
 use crate::going::{gather, stream};

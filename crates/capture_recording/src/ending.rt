@@ -4,7 +4,7 @@ ghost use Rattle.capture_recording.specs.Ending.{fault_lacking, result_of};
 
 use crate::fault::CapturingFault;
 use captures::FaultKind;
-use config_faults::ConfigFault;
+use ospf_types::ConfigFault;
 
 /// The reason why there are no more packets.
 #[derive(Clone, Copy)]

@@ -1,5 +1,5 @@
 use captures::FaultKind;
-use config_faults::ConfigFault;
+use ospf_types::ConfigFault;
 use ospf_types::memory::Memory;
 use recording::LineFault;
 

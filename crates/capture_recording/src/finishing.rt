@@ -1,26 +1,28 @@
 //! The output after a capture was read.
-ghost use Rattle.std.specs.Prelude.{◌≡◌, ◌++◌, ℕ, List, Option, Some, OnOk, IfOk, IfErr, length, string_bytes};
+ghost use Rattle.std.specs.Prelude.{◌≡◌, ◌++◌, ℕ, List, Option, Some, OnOk, IfOk, IfErr, length};
+ghost use Rattle.std.specs.Prelude.{string_bytes};
 ghost use Rattle.std.specs.Io.KnownBytes.{Appends};
 ghost use Rattle.captured_config.specs.Facts.{facts_of};
 ghost use Rattle.captured_config.specs.Fronts.{captured_recording};
 ghost use Rattle.captured_config.specs.Lsas.{Captured};
 ghost use Rattle.capture_recording.specs.Rules.{Rules};
-ghost use Rattle.capture_lines.specs.Counts.{counts_line};
+ghost use Rattle.capture_recording.specs.Counts.{counts_line};
 ghost use Rattle.recording.specs.Recordings.{IsText};
 ghost use Rattle.capture_recording.specs.declared.capturing.Preamble.{Preamble};
 ghost use Rattle.capture_recording.specs.declared.capturing.Preamble.TheVariants.{Router};
 ghost use Rattle.capture_recording.specs.Going.{GoesThrough};
-ghost use Rattle.capture_recording.specs.Finishing.{IsBegun, IsBehind, IsLacking, IsNoFront, IsWhollyWritten, unknown_if};
+ghost use Rattle.capture_recording.specs.Finishing.{IsBegun, IsBehind, IsLacking, IsNoFront};
+ghost use Rattle.capture_recording.specs.Finishing.{IsWhollyWritten, unknown_if};
 ghost use Rattle.capture_recording.specs.Gathering.{AreFactsOf};
 ghost use Rattle.capture_recording.specs.Outputs.{RuledOutcome};
 
 use crate::fault::CapturingFault;
 use crate::gathered::Gathered;
 use crate::going::{Ended, Kept};
+use crate::put_counts;
 use crate::writing::write_out;
-use capture_lines::put_counts;
 use captured_config::PreambleFault;
-use config_faults::ConfigFault;
+use ospf_types::ConfigFault;
 use ospf_types::memory::Memory;
 use std::alloc::Global;
 use std::io;

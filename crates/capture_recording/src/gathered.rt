@@ -4,12 +4,13 @@ ghost use Rattle.std.specs.List.{fold};
 ghost use Rattle.captured_config.specs.Facts.{AreFacts};
 ghost use Rattle.captured_config.specs.Lsas.{Captured};
 ghost use Rattle.captured_lsas.specs.Hearing.{IsHeard};
-ghost use Rattle.capture_lines.specs.Counts.{with_heard};
+ghost use Rattle.capture_recording.specs.Counts.{with_heard};
 ghost use Rattle.capture_recording.specs.Folds.{with_installed, with_taken_area, with_taken_lsas};
-ghost use Rattle.capture_recording.specs.Gathering.{AreFactsOf, HearsOnly, NotesOnly, first_gathered};
+ghost use Rattle.capture_recording.specs.Gathering.{AreFactsOf, HearsOnly, NotesOnly};
+ghost use Rattle.capture_recording.specs.Gathering.{first_gathered};
 
+use crate::Counts;
 use crate::start::Start;
-use capture_lines::Counts;
 use captured_config::{CapturedConfig, SeenAreas};
 use captured_lsas::{Heard, Listener, Recorded, Recorder, Taken};
 use captures::Packet;

@@ -1,6 +1,7 @@
 //! A text in less memory.
 
-ghost use Rattle.std.specs.Prelude.{◌≡◌, ◌≤◌, ◌<◌, ◌%◌, ◌++◌, [], length, take, ℕ, List, IfOk, IfSome, OnOk, OnErr};
+ghost use Rattle.std.specs.Prelude.{◌≡◌, ◌≤◌, ◌<◌, ◌%◌, ◌++◌, [], length, take, ℕ, List, IfOk};
+ghost use Rattle.std.specs.Prelude.{IfSome, OnOk, OnErr};
 ghost use Rattle.capture_recording.specs.Digits.{AreDigits};
 ghost use Rattle.capture_recording.specs.Packed.{second_lines, AreWithin, IsWithin};
 

@@ -1,6 +1,7 @@
 //! The bytes of the pieces of a packed text.
 
-ghost use Rattle.std.specs.Prelude.{◌≡◌, ◌≤◌, ◌<◌, ◌+◌, ◌/◌, ◌%◌, length, drop, IfOk, IfSome, OnOk, true, slice_index};
+ghost use Rattle.std.specs.Prelude.{◌≡◌, ◌≤◌, ◌<◌, ◌+◌, ◌/◌, ◌%◌, length, drop, IfOk, IfSome, OnOk};
+ghost use Rattle.std.specs.Prelude.{true, slice_index};
 ghost use Rattle.hex.specs.Hex.{encode_lower, lower_digits};
 ghost use Rattle.capture_recording.specs.Digits.{is_digit, AreDigits};
 ghost use Rattle.capture_recording.specs.Packed.{Gains, IsWithin, IsPiece, IsPart};

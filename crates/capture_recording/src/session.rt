@@ -1,12 +1,12 @@
 //! A capture that is recorded, packet by packet.
 ghost use Rattle.std.specs.Prelude.{◌≡◌, ℕ, OnOk};
-ghost use Rattle.capture_reader.specs.Positions.{shown_packet};
+ghost use Rattle.captures.specs.Positions.{shown_packet};
 ghost use Rattle.capture_recording.specs.Gathering.{TakesPacket, TakesPayload, IsFirstSession};
 
 use crate::gathered::Gathered;
 use crate::notes::Notes;
 use crate::start::Start;
-use capture_lines::{put_fault_note, put_notes, put_taken};
+use crate::{put_fault_note, put_notes, put_taken};
 use captured_lsas::Heard;
 use captures::Packet;
 use ospf_types::memory::Memory;

@@ -5,8 +5,7 @@ ghost use Rattle.capture_recording.specs.Going.{HandsNext, IsDue};
 
 use crate::ending::Ending;
 use crate::session::Session;
-use capture_reader::{CaptureError, PacketReader};
-use captures::Packet;
+use captures::{CaptureError, Packet, PacketReader};
 use ospf_types::memory::Memory;
 use std::alloc::Global;
 use std::io;

@@ -1,7 +1,8 @@
 //! The output of packed text.
 ghost use Rattle.std.specs.Prelude.{◌≡◌, ◌++◌, OnOk, IfErr};
 ghost use Rattle.std.specs.Io.KnownBytes.{Appends};
-ghost use Rattle.capture_recording.specs.Packed.{part_text, piece_text, second_lines, text_of, IsPartWithin, IsWithin, AreWithin};
+ghost use Rattle.capture_recording.specs.Packed.{part_text, piece_text, second_lines, text_of};
+ghost use Rattle.capture_recording.specs.Packed.{IsPartWithin, IsWithin, AreWithin};
 ghost use Rattle.capture_recording.specs.Said.{WritesPart};
 
 use crate::fault::CapturingFault;

@@ -6,7 +6,7 @@ use Rattle.std.proofs.lemmas.List.Elements.{All-nil, All-cons}
 use Rattle.ospf_types.specs.declared.config.AreaConfig.{AreaConfig}
 use Rattle.ospf_types.specs.declared.config.Config.{Config}
 use Rattle.ospf_types.specs.declared.config.Interface.{Interface}
-use Rattle.config_faults.specs.Configs.{config_fault_of}
+use Rattle.ospf_types.specs.Configs.{config_fault_of}
 use Rattle.event_state.specs.declared.base.Base.{Base}
 use Rattle.event_state.specs.Bases.{bare}
 use Rattle.event_state.specs.BaseFaults.{unfit_of, has_overfull_area}

@@ -65,17 +65,17 @@ module _ (t : Told) (silent : tells t ≡ false) (area : ℕ) where
   not_own : tells_own area t ≡ false
   not_own = and_none (t.area == area) t.is_own (left t.is_own _ silent)
 
-  not_first : (t.lacks_externals || (is_some t.default || t.has_other_active_area)) ≡ false
+  not_first : (t.lacks_externals || (is_some t.default || t.has_other_summary)) ≡ false
   not_first = right t.is_own _ silent
 
   not_without : tells_no_externals area t ≡ false
   not_without = and_none (t.area == area) t.lacks_externals (left t.lacks_externals _ not_first)
 
-  not_second : (is_some t.default || t.has_other_active_area) ≡ false
+  not_second : (is_some t.default || t.has_other_summary) ≡ false
   not_second = right t.lacks_externals _ not_first
 
   not_other : tells_other area t ≡ false
-  not_other = and_none (t.area == area) t.has_other_active_area (right (is_some t.default) _ not_second)
+  not_other = and_none (t.area == area) t.has_other_summary (right (is_some t.default) _ not_second)
 
   no_default : (cost : Option ℕ) → option_or (tells_default area t) cost ≡ cost
   no_default cost =

@@ -45,12 +45,12 @@ told_of router x = record {
   is_own = is_own_router_lsa router x.lsa;
   lacks_externals = lacks_externals x.lsa;
   default = default_route router x.lsa;
-  has_other_active_area = is_some (other_network router x.lsa);
+  has_other_summary = is_some (other_network router x.lsa);
 }
 
 -- whether that is anything
 abbrev pub tells : Told → Bool
-tells t = t.is_own || (t.lacks_externals || (is_some t.default || t.has_other_active_area))
+tells t = t.is_own || (t.lacks_externals || (is_some t.default || t.has_other_summary))
 
 abbrev pub told_from : (router : ℕ) → AreaLsa → Option Told
 told_from router x = if tells (told_of router x) then Some (told_of router x) else None

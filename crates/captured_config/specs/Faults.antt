@@ -2,8 +2,8 @@
 use Rattle.std.specs.Prelude.{ℕ, ◌≡◌, List, Some, String, string_bytes}
 use Rattle.ospf_types.specs.declared.config.Config.{Config}
 use Rattle.ospf_types.specs.Text.{memory_text}
-use Rattle.config_faults.specs.Configs.{config_fault_of}
-use Rattle.config_faults.specs.Texts.{config_fault_text}
+use Rattle.ospf_types.specs.Configs.{config_fault_of}
+use Rattle.ospf_types.specs.Texts.{config_fault_text}
 use Rattle.captured_config.specs.declared.fault.PreambleFault.{PreambleFault}
 use Rattle.captured_config.specs.declared.fault.PreambleFault.TheVariants as fault
 

@@ -51,7 +51,7 @@ abbrev pub tells_no_externals : (area : ℕ) → Told → Bool
 tells_no_externals area t = (t.area == area) && t.lacks_externals
 
 abbrev pub tells_other : (area : ℕ) → Told → Bool
-tells_other area t = (t.area == area) && t.has_other_active_area
+tells_other area t = (t.area == area) && t.has_other_summary
 
 abbrev pub tells_default : (area : ℕ) → Told → Option ℕ
 tells_default area t = if t.area == area then t.default else None

@@ -56,7 +56,7 @@ has_other_summary area router lsas = list_any (λ x. (x.area == area) && is_some
 -- what a stub area is sent: a default cost that is not captured is taken to be 1, and summaries for networks are sent too, unless there is a default
 -- route and nothing else
 abbrev pub stub_with : (is_stub_area : Bool) → (cost : Option ℕ) → (has_other_summary : Bool) → Option Stub
-stub_with is cost has_other_active_area = if is then Some (record { cost = unwrap_or cost 1; summaries = is_none cost || has_other_active_area }) else None
+stub_with is cost has_other_summary = if is then Some (record { cost = unwrap_or cost 1; summaries = is_none cost || has_other_summary }) else None
 
 abbrev pub stub_of : (area router : ℕ) → List AreaLsa → Option Stub
 stub_of area router lsas = stub_with (is_stub_area area lsas) (default_cost area router lsas) (has_other_summary area router lsas)

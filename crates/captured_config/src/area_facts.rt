@@ -1,7 +1,11 @@
 //! The facts about one area.
 ghost use Rattle.std.specs.Prelude.{◌≡◌};
 ghost use Rattle.std.specs.List.{list_any};
-ghost use Rattle.captured_config.specs.Finding.{default_cost_by, is_cost_unknown_by, is_stub_area_by, stub_by, tells_default as tells_default_of, tells_no_externals as tells_no_externals_test, tells_other, tells_own};
+ghost use Rattle.captured_config.specs.Finding.{default_cost_by, is_cost_unknown_by};
+ghost use Rattle.captured_config.specs.Finding.{is_stub_area_by, stub_by};
+ghost use Rattle.captured_config.specs.Finding.{tells_default as tells_default_of};
+ghost use Rattle.captured_config.specs.Finding.{tells_no_externals as tells_no_externals_test};
+ghost use Rattle.captured_config.specs.Finding.{tells_other, tells_own};
 
 use crate::fact::Told;
 use ospf_types::config::Stub;
@@ -86,7 +90,7 @@ impl<'a> AreaFacts<'a> {
         let area = self.area;
         self.told
             .iter()
-            .any(|told| told.area == area && told.has_other_active_area)
+            .any(|told| told.area == area && told.has_other_summary)
     }
 }
 

@@ -1,8 +1,13 @@
 //! The links of an area, and the neighbours that they lead to (RFC 2328, 12.4.1.1).
 ghost use Rattle.std.specs.Prelude.{◌≡◌, IfOk, OnOk, List};
 ghost use Rattle.std.specs.List.{list_any};
-ghost use Rattle.captured_config.specs.Finding.{back_in as back_in_area, first_back, leads_back as leads_back_test, own_in as own_in_area, peer_by};
-ghost use Rattle.captured_config.specs.Hosts.{AreHosts, agree as agree_test, leads_around as leads_around_test, masks_around as masks_around_in, with_mask_around as with_mask_if};
+ghost use Rattle.captured_config.specs.Finding.{back_in as back_in_area, first_back};
+ghost use Rattle.captured_config.specs.Finding.{leads_back as leads_back_test};
+ghost use Rattle.captured_config.specs.Finding.{own_in as own_in_area, peer_by};
+ghost use Rattle.captured_config.specs.Hosts.{AreHosts, agree as agree_test};
+ghost use Rattle.captured_config.specs.Hosts.{leads_around as leads_around_test};
+ghost use Rattle.captured_config.specs.Hosts.{masks_around as masks_around_in};
+ghost use Rattle.captured_config.specs.Hosts.{with_mask_around as with_mask_if};
 ghost use Rattle.captured_config.specs.Interfaces.{joins};
 
 use crate::fact::{LinkBack, OwnLink};

@@ -1,6 +1,6 @@
 //! The configuration of a router, as far as a capture shows it.
 ghost use Rattle.std.specs.Prelude.{◌≡◌, [], None, IfOk, IfErr, OnOk, OnErr};
-ghost use Rattle.config_faults.specs.Configs.{config_fault_of};
+ghost use Rattle.ospf_types.specs.Configs.{config_fault_of};
 ghost use Rattle.captured_config.specs.Lsas.{Captured, with_lsa};
 ghost use Rattle.captured_config.specs.Facts.{AreFacts, facts_of};
 ghost use Rattle.captured_config.specs.Finding.{area_by, config_by, interfaces_by};
@@ -13,10 +13,10 @@ use crate::fault::PreambleFault;
 use crate::finding::find_interfaces;
 use crate::found::Found;
 use crate::telling::is_counted;
-use config_faults::{ConfigFault, MAX_AREAS, fault_in};
 use lsa_codec::Checked;
 use ospf_types::config::{AreaConfig, Areas, Config, Ranges};
 use ospf_types::memory::Memory;
+use ospf_types::{ConfigFault, MAX_AREAS, fault_in};
 use std::alloc::Global;
 use std::marker::Model;
 

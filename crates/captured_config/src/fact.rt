@@ -33,5 +33,5 @@ pub(crate) struct Told {
     /// The metric at which the router advertises a default route into the area (RFC 2328, 12.4.3).
     pub(crate) default: Option<u32>,
     /// True if the router advertises another network into the area.
-    pub(crate) has_other_active_area: bool,
+    pub(crate) has_other_summary: bool,
 }

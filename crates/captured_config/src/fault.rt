@@ -1,7 +1,7 @@
 ghost use Rattle.std.specs.Prelude.{Some};
 ghost use Rattle.captured_config.specs.Faults.{front_fault_text};
 
-use config_faults::ConfigFault;
+use ospf_types::ConfigFault;
 use ospf_types::memory::Memory;
 use std::fmt;
 use thiserror::Error;

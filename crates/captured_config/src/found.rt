@@ -1,6 +1,12 @@
 //! The interfaces that were found, in order.
 ghost use Rattle.std.specs.Prelude.{◌≡◌, OnOk};
-ghost use Rattle.captured_config.specs.Interfaces.{none_found, with_interface, is_full as is_full_test, has_address as has_address_test, is_new as is_new_test, is_alone as is_alone_test, is_on as is_on_test, reaches as reaches_test, with_stub_link, with_stub_links};
+ghost use Rattle.captured_config.specs.Interfaces.{none_found, with_interface};
+ghost use Rattle.captured_config.specs.Interfaces.{is_full as is_full_test};
+ghost use Rattle.captured_config.specs.Interfaces.{has_address as has_address_test};
+ghost use Rattle.captured_config.specs.Interfaces.{is_new as is_new_test};
+ghost use Rattle.captured_config.specs.Interfaces.{is_alone as is_alone_test, is_on as is_on_test};
+ghost use Rattle.captured_config.specs.Interfaces.{reaches as reaches_test, with_stub_link};
+ghost use Rattle.captured_config.specs.Interfaces.{with_stub_links};
 
 use crate::links::{is_attached, is_stub, lies_in};
 use ospf_types::config::Interface;

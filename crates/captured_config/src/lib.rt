@@ -14,14 +14,14 @@ mod facts;
 mod fault;
 mod finding;
 mod found;
-mod preamble;
 mod hosts;
 mod links;
+mod preamble;
 mod telling;
 mod unknown;
 
 pub use areas::SeenAreas;
 pub use config::CapturedConfig;
-pub use config_faults::ConfigFault;
 pub use fault::PreambleFault;
+pub use ospf_types::ConfigFault;
 pub use ospf_types::memory::Memory;

@@ -1,6 +1,9 @@
 //! The links of a router-LSA (RFC 2328, 12.4.1).
 ghost use Rattle.std.specs.Prelude.{◌≡◌};
-ghost use Rattle.captured_config.specs.Interfaces.{is_point_to_point as is_point_to_point_test, is_attached as is_attached_test, is_stub as is_stub_test, lies_in as lies_in_test};
+ghost use Rattle.captured_config.specs.Interfaces.{is_point_to_point as is_point_to_point_test};
+ghost use Rattle.captured_config.specs.Interfaces.{is_attached as is_attached_test};
+ghost use Rattle.captured_config.specs.Interfaces.{is_stub as is_stub_test};
+ghost use Rattle.captured_config.specs.Interfaces.{lies_in as lies_in_test};
 
 use ospf_types::lsa::{Link, LinkKind};
 

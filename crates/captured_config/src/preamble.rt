@@ -1,6 +1,6 @@
 //! The preamble of a recording.
 ghost use Rattle.std.specs.Prelude.{◌≡◌, All, IfErr, None, OnOk};
-ghost use Rattle.config_faults.specs.Configs.{config_fault_of};
+ghost use Rattle.ospf_types.specs.Configs.{config_fault_of};
 ghost use Rattle.recording.specs.Forms.{IsForm};
 ghost use Rattle.recording.specs.Recordings.{GainsLine, GainsLines, form_of, forms_of};
 ghost use Rattle.captured_config.specs.Configs.{config_of};
@@ -8,7 +8,8 @@ ghost use Rattle.captured_config.specs.Facts.{AreFacts};
 ghost use Rattle.captured_config.specs.Finding.{config_by};
 ghost use Rattle.captured_config.specs.Lsas.{Captured};
 ghost use Rattle.captured_config.specs.Faults.{IsRefused};
-ghost use Rattle.captured_config.specs.Fronts.{HasText, captured_recording, interface_event, interface_forms, recording_by, recording_with};
+ghost use Rattle.captured_config.specs.Fronts.{HasText, captured_recording, interface_event};
+ghost use Rattle.captured_config.specs.Fronts.{interface_forms, recording_by, recording_with};
 
 use crate::areas::SeenAreas;
 use crate::config::CapturedConfig;
@@ -46,7 +47,12 @@ impl CapturedConfig {
         self.put_front_of(alloc, &ids, text)
     }
 
-    fn put_front_of(&self, alloc: Global, ids: &[u32], text: &mut String) -> Result<(), PreambleFault>
+    fn put_front_of(
+        &self,
+        alloc: Global,
+        ids: &[u32],
+        text: &mut String,
+    ) -> Result<(), PreambleFault>
         ensures text { OnOk result
             (GainsLines text.old text.new (forms_of (recording_by self.now ids.now))) }
         ensures forms { OnOk result (All IsForm (forms_of (recording_by self.now ids.now))) }

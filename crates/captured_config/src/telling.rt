@@ -1,9 +1,19 @@
 //! The facts that one LSA gives about the router.
 ghost use Rattle.std.specs.Prelude.{◌≡◌, ◌++◌, ◌∷◌, [], IfOk, OnOk};
 ghost use Rattle.std.specs.List.{filter_map};
-ghost use Rattle.captured_config.specs.Facts.{back_from, link_back_at, own_from, own_link, tells as tells_anything, told_from as told_from_lsa, told_of as told_of_lsa};
-ghost use Rattle.captured_config.specs.Lsas.{is_counted as is_counted_test, is_own_router_lsa as is_own_router_lsa_test, lacks_externals as lacks_externals_test, links_within, lsa_in};
-ghost use Rattle.captured_config.specs.StubAreas.{is_default as is_default_test, is_own_summary as is_own_summary_test, advertised_metric as advertised_metric_of, default_route as default_route_of, other_network as other_network_of, reachable as reachable_of};
+ghost use Rattle.captured_config.specs.Facts.{back_from, link_back_at, own_from, own_link};
+ghost use Rattle.captured_config.specs.Facts.{tells as tells_anything, told_from as told_from_lsa};
+ghost use Rattle.captured_config.specs.Facts.{told_of as told_of_lsa};
+ghost use Rattle.captured_config.specs.Lsas.{is_counted as is_counted_test};
+ghost use Rattle.captured_config.specs.Lsas.{is_own_router_lsa as is_own_router_lsa_test};
+ghost use Rattle.captured_config.specs.Lsas.{lacks_externals as lacks_externals_test, links_within};
+ghost use Rattle.captured_config.specs.Lsas.{lsa_in};
+ghost use Rattle.captured_config.specs.StubAreas.{is_default as is_default_test};
+ghost use Rattle.captured_config.specs.StubAreas.{is_own_summary as is_own_summary_test};
+ghost use Rattle.captured_config.specs.StubAreas.{advertised_metric as advertised_metric_of};
+ghost use Rattle.captured_config.specs.StubAreas.{default_route as default_route_of};
+ghost use Rattle.captured_config.specs.StubAreas.{other_network as other_network_of};
+ghost use Rattle.captured_config.specs.StubAreas.{reachable as reachable_of};
 
 use crate::fact::{LinkBack, OwnLink, Told};
 use crate::links::is_point_to_point;
@@ -98,7 +108,7 @@ pub(crate) fn told_from(router: u32, area: u32, lsa: &Checked) -> Option<Told>
 fn tells(told: &Told) -> bool
     ensures { result ≡ tells_anything told.now }
 {
-    told.is_own || told.lacks_externals || told.default.is_some() || told.has_other_active_area
+    told.is_own || told.lacks_externals || told.default.is_some() || told.has_other_summary
 }
 
 fn told_of(router: u32, area: u32, lsa: &Checked) -> Told
@@ -109,7 +119,7 @@ fn told_of(router: u32, area: u32, lsa: &Checked) -> Told
         is_own: is_own_router_lsa(router, lsa),
         lacks_externals: lacks_externals(lsa),
         default: default_route(router, lsa),
-        has_other_active_area: other_network(router, lsa).is_some(),
+        has_other_summary: other_network(router, lsa).is_some(),
     }
 }
 

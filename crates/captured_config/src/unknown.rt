@@ -3,7 +3,9 @@ ghost use Rattle.std.specs.Prelude.{◌≡◌, ◌++◌, OnOk, string_bytes};
 ghost use Rattle.std.specs.List.{flat_map};
 ghost use Rattle.captured_config.specs.Facts.{AreFacts};
 ghost use Rattle.captured_config.specs.Lsas.{Captured};
-ghost use Rattle.captured_config.specs.Unknown.{area_lines_by, line_if, no_interface_line, router_lines, unknown_by, unknown_cost_line, unknown_text};
+ghost use Rattle.captured_config.specs.Unknown.{area_lines_by, line_if, no_interface_line};
+ghost use Rattle.captured_config.specs.Unknown.{router_lines, unknown_by, unknown_cost_line};
+ghost use Rattle.captured_config.specs.Unknown.{unknown_text};
 
 use crate::areas::SeenAreas;
 use crate::config::CapturedConfig;

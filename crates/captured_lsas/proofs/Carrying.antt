@@ -1,10 +1,10 @@
 -- From what the steps of a call found to what a captured packet brings.
 use Rattle.std.proofs.Common.{◌≡◌, ℕ, List, Option, Some, None, option_map, Bor, Result, Ok, Err, IfOk, refl}
-use Rattle.datagrams.specs.Frames.{Finds}
-use Rattle.datagrams.specs.declared.datagram.Datagram.{Datagram}
-use Rattle.datagrams.specs.Layout.{fault_of}
-use Rattle.datagrams.specs.Reading.{IsDatagram}
-use Rattle.datagrams.specs.Kept.{Kept}
+use Rattle.packets.specs.Frames.{Finds}
+use Rattle.packets.specs.declared.datagram.Datagram.{Datagram}
+use Rattle.packets.specs.Layout.{fault_of}
+use Rattle.packets.specs.Reading.{IsDatagram}
+use Rattle.packets.specs.Kept.{Kept}
 use Rattle.captured_lsas.specs.declared.heard.Heard.{Heard}
 use Rattle.captured_lsas.specs.declared.heard.Heard.TheVariants.{Other, Fault, Part, Whole}
 use Rattle.captured_lsas.specs.Hearing.{CarriesOspf, Carried, CarriesNone, IsGiven, IsHeard}

@@ -1,14 +1,14 @@
 -- What a captured packet brings.
 use Rattle.std.specs.Prelude.{ℕ, ◌≡◌, ◌==◌, ◌&&◌, not, nat_lt, Bool, false, if◌then◌else◌, List, length, slice_index, Option, Some, None}
-use Rattle.datagrams.specs.declared.link.LinkType.{LinkType}
-use Rattle.datagrams.specs.declared.datagram.Datagram.{Datagram}
-use Rattle.datagrams.specs.declared.fault.DatagramFault.{DatagramFault}
-use Rattle.datagrams.specs.Links.{link_of_number, Carries}
-use Rattle.datagrams.specs.Layout.{fault_of}
-use Rattle.datagrams.specs.Reading.{IsDatagram}
-use Rattle.datagrams.specs.Kept.{Kept, key_of}
-use Rattle.datagrams.specs.Parts.{part_of}
-use Rattle.datagrams.specs.Taking.{IsTaken, kept_with, payload_with}
+use Rattle.packets.specs.declared.link.LinkType.{LinkType}
+use Rattle.packets.specs.declared.datagram.Datagram.{Datagram}
+use Rattle.packets.specs.declared.datagram_fault.DatagramFault.{DatagramFault}
+use Rattle.packets.specs.Links.{link_of_number, Carries}
+use Rattle.packets.specs.Layout.{fault_of}
+use Rattle.packets.specs.Reading.{IsDatagram}
+use Rattle.packets.specs.Kept.{Kept, key_of}
+use Rattle.packets.specs.Parts.{part_of}
+use Rattle.packets.specs.Taking.{IsTaken, kept_with, payload_with}
 use Rattle.captured_lsas.specs.declared.heard.Heard.{Heard}
 use Rattle.captured_lsas.specs.declared.heard.Heard.TheVariants.{Other, Fault, Part, Whole}
 use Rattle.captured_lsas.specs.Payloads.{bytes_of}

@@ -1,7 +1,7 @@
 ghost use Rattle.std.specs.Prelude.{◌≡◌};
 ghost use Rattle.captured_lsas.specs.Payloads.{bytes_of};
 
-use datagrams::DatagramFault;
+use packets::DatagramFault;
 
 /// The content of a captured packet.
 #[derive(Debug, Drop)]

@@ -1,13 +1,14 @@
 //! The payloads of OSPF's datagrams.
 
 ghost use Rattle.std.specs.Prelude.{◌≡◌, [], IfOk, OnErr};
-ghost use Rattle.datagrams.specs.Frames.{Finds};
-ghost use Rattle.captured_lsas.specs.Hearing.{is_of_other_protocol as is_of_other_protocol_test, CarriesOspf, IsHeard, IsGiven};
+ghost use Rattle.packets.specs.Frames.{Finds};
+ghost use Rattle.captured_lsas.specs.Hearing.{is_of_other_protocol as is_of_other_protocol_test};
+ghost use Rattle.captured_lsas.specs.Hearing.{CarriesOspf, IsHeard, IsGiven};
 
 use crate::heard::{Heard, Payload};
 use captures::Packet;
-use datagrams::{Datagram, Fragments, LinkType, read_datagram};
 use ospf_types::memory::Memory;
+use packets::{Datagram, Fragments, LinkType, read_datagram};
 use std::alloc::Global;
 use std::marker::Model;
 
@@ -24,7 +25,7 @@ pub struct Listener {
 /// Contracts see the fragments kept of the datagrams that are not whole.
 impl Model for Listener {
     ghost use Rattle.std.specs.Prelude.{List};
-    ghost use Rattle.datagrams.specs.Kept.{Kept};
+    ghost use Rattle.packets.specs.Kept.{Kept};
 
     ghost Value = { List Kept };
 

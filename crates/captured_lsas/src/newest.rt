@@ -2,7 +2,10 @@
 
 ghost use Rattle.std.specs.Prelude.{◌≡◌, [], IfOk, OnOk, OnErr, option_copied};
 ghost use Rattle.indexmap.specs.IndexMap.{insert_entry};
-ghost use Rattle.captured_lsas.specs.Newest.{same_name, newest_of, is_discarded as is_discarded_test, is_installed as is_installed_test, is_max_age as is_max_age_test, is_old, with_instance};
+ghost use Rattle.captured_lsas.specs.Newest.{same_name, newest_of};
+ghost use Rattle.captured_lsas.specs.Newest.{is_discarded as is_discarded_test};
+ghost use Rattle.captured_lsas.specs.Newest.{is_installed as is_installed_test};
+ghost use Rattle.captured_lsas.specs.Newest.{is_max_age as is_max_age_test, is_old, with_instance};
 
 use crate::name::LsaName;
 use indexmap::IndexMap;

@@ -1,12 +1,18 @@
 //! The events that the packets of a capture become, packet by packet.
 
 ghost use Rattle.std.specs.Prelude.{◌≡◌, ◌≤◌, length, IfOk, OnOk, OnErr, option_map};
-ghost use Rattle.captured_lsas.specs.Seconds.{passed as passed_test, is_without_seconds as is_without_seconds_test, seconds_back, seconds_due, waiting_at, with_time};
+ghost use Rattle.captured_lsas.specs.Seconds.{passed as passed_test};
+ghost use Rattle.captured_lsas.specs.Seconds.{is_without_seconds as is_without_seconds_test};
+ghost use Rattle.captured_lsas.specs.Seconds.{seconds_back, seconds_due, waiting_at, with_time};
 ghost use Rattle.captured_lsas.specs.Progress.{start};
 ghost use Rattle.captured_lsas.specs.Reading.{IsRead};
-ghost use Rattle.captured_lsas.specs.Recording.{has_scope as has_scope_test, is_repeated, instance_in, scope_of as scope_of_test, IsGiven, IsInstalled, IsRecorded, IsStrange, with_lsa, with_noted, with_read_lsa, with_strange};
+ghost use Rattle.captured_lsas.specs.Recording.{has_scope as has_scope_test, is_repeated};
+ghost use Rattle.captured_lsas.specs.Recording.{instance_in, scope_of as scope_of_test, IsGiven};
+ghost use Rattle.captured_lsas.specs.Recording.{IsInstalled, IsRecorded, IsStrange, with_lsa};
+ghost use Rattle.captured_lsas.specs.Recording.{with_noted, with_read_lsa, with_strange};
 ghost use Rattle.packets.specs.Updates.{lent};
-ghost use Rattle.captured_lsas.specs.Updates.{pieces_in, pieces_for, with_piece, with_pieces, StopsIn, IsPieceRecorded, AreRecorded};
+ghost use Rattle.captured_lsas.specs.Updates.{pieces_in, pieces_for, with_piece, with_pieces};
+ghost use Rattle.captured_lsas.specs.Updates.{StopsIn, IsPieceRecorded, AreRecorded};
 ghost use Rattle.captured_lsas.specs.History.{HasHistory};
 ghost use Rattle.captured_lsas.specs.Packets.{IsTaken, IsOfPacket, with_packet, StopsWithin};
 

@@ -1,3 +1,9 @@
+pub mod Windows
+pub mod Fronts
+pub mod Going
+pub mod Parts
+pub mod Stepping
+pub mod ReaderWalking
 pub mod Units
 pub mod Walking
 pub mod Steady

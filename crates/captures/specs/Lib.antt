@@ -1,3 +1,7 @@
+pub mod Faults
+pub mod Window
+pub mod Positions
+pub mod ReaderSteps
 pub mod Numbers
 pub mod Text
 pub mod Steps

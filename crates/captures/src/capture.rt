@@ -1,7 +1,8 @@
 //! The state of a capture that is being read.
 
 ghost use Rattle.std.specs.Prelude.{◌≡◌, ◌≢◌, ◌↔◌, ◌+◌, ◌≤◌, IsTrue, IfOk, length};
-ghost use Rattle.captures.specs.Reading.{unread, front_of, Answers, IsPartInReach, IsSteady, IsPacketOf, has_begun};
+ghost use Rattle.captures.specs.Reading.{unread, front_of, Answers, IsPartInReach, IsSteady};
+ghost use Rattle.captures.specs.Reading.{IsPacketOf, has_begun};
 ghost use Rattle.captures.specs.Fronts.{IsInReach};
 ghost use Rattle.captures.specs.Written.{ReadsWritten};
 ghost use Rattle.captures.specs.Told.{WasWritten};

@@ -1,7 +1,8 @@
 //! The frames of the blocks of a pcapng.
 
 ghost use Rattle.std.specs.Prelude.{◌≡◌, ◌≤◌, IfOk, length};
-ghost use Rattle.captures.specs.Frames.{kind_of_number, least_length, most_length, is_wrong_length, section_order, order_of, frame_of, IsFrame};
+ghost use Rattle.captures.specs.Frames.{kind_of_number, least_length, most_length, is_wrong_length};
+ghost use Rattle.captures.specs.Frames.{section_order, order_of, frame_of, IsFrame};
 
 use crate::fault::FaultKind;
 use crate::order::Order;

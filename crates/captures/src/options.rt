@@ -1,7 +1,8 @@
 //! The options of an interface of a pcapng.
 
 ghost use Rattle.std.specs.Prelude.{◌≡◌, ◌+◌, ◌≤◌, false, length};
-ghost use Rattle.captures.specs.Options.{padded, code_of, length_of, size_of, is_end, is_cut, with_option, timing_of};
+ghost use Rattle.captures.specs.Options.{padded, code_of, length_of, size_of, is_end, is_cut};
+ghost use Rattle.captures.specs.Options.{with_option, timing_of};
 
 use crate::fault::FaultKind;
 use crate::order::Order;

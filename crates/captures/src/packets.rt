@@ -2,7 +2,8 @@
 
 ghost use Rattle.std.specs.Prelude.{◌≡◌, ◌≤◌, IfOk, length};
 ghost use Rattle.std.specs.List.{slice_get};
-ghost use Rattle.captures.specs.Packets.{is_too_long, units_in, snapped, simple_front, timed_front, timed_in, simple_in};
+ghost use Rattle.captures.specs.Packets.{is_too_long, units_in, snapped, simple_front, timed_front};
+ghost use Rattle.captures.specs.Packets.{timed_in, simple_in};
 ghost use Rattle.captures.specs.Fronts.{IsInReach};
 
 use crate::fault::FaultKind;

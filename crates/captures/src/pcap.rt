@@ -1,7 +1,8 @@
 //! The header and the packets of a pcap.
 
 ghost use Rattle.std.specs.Prelude.{◌≡◌, ◌+◌, ◌*◌, ◌≤◌, IfOk, length};
-ghost use Rattle.captures.specs.Pcap.{fraction_of, link_of, magic_of, file_front, packet_front, nanoseconds_of};
+ghost use Rattle.captures.specs.Pcap.{fraction_of, link_of, magic_of, file_front, packet_front};
+ghost use Rattle.captures.specs.Pcap.{nanoseconds_of};
 ghost use Rattle.captures.specs.Fronts.{IsInReach};
 
 use crate::fault::FaultKind;

@@ -11,10 +11,10 @@ use Rattle.summaries.specs.Inputs.{SummaryInputsValue}
 use Rattle.summaries.specs.Right.{AreInputsOf}
 use Rattle.summaries.proofs.Areas.{one_area}
 use Rattle.event_state.specs.States.{State, inputs_of}
-use Rattle.state_trees.specs.Works.{area_of}
+use Rattle.route_layers.specs.Works.{area_of}
 use Rattle.calculation.specs.Summaries.{summary_inputs}
-use Rattle.due_reasons.specs.Reasons.{IsExplainedAt, area_with}
-use Rattle.due_reasons.specs.declared.due.DueExplained.{DueExplained}
+use Rattle.due_explanation.specs.Reasons.{IsExplainedAt, area_with}
+use Rattle.due_explanation.specs.declared.due.DueExplained.{DueExplained}
 use Rattle.due_explanation.specs.Explained.{IsDueExplained, IsDueMetric}
 use Rattle.calculation.proofs.Summaries.{due_are}
 use Rattle.due_explanation.proofs.Defined.{due_same}

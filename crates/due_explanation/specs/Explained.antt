@@ -7,8 +7,8 @@ use Rattle.event_state.specs.States.{State, inputs_of}
 use Rattle.route_layers.specs.Layers.{AreActive}
 use Rattle.calculation.specs.Calculations.{CalculationValue, IsCalculationOf}
 use Rattle.calculation.specs.Summaries.{summary_inputs}
-use Rattle.due_reasons.specs.Reasons.{IsExplained}
-use Rattle.due_reasons.specs.declared.due.DueExplained.{DueExplained}
+use Rattle.due_explanation.specs.Reasons.{IsExplained}
+use Rattle.due_explanation.specs.declared.due.DueExplained.{DueExplained}
 
 -- by the definitions, the summary is due at this metric in the area with the Area ID
 abbrev pub IsDueAt : State → ℕ → Dest → ℕ → Type 0

@@ -1,1 +1,7 @@
+pub mod Sources
+pub mod Reasons
+pub mod ReasonLines
+pub mod Words
+pub mod Objects
+pub mod Lines
 pub mod Explained

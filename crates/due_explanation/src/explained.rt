@@ -4,7 +4,7 @@ ghost use Rattle.calculation.specs.Calculations.{IsCalculationOf};
 ghost use Rattle.event_core.specs.Cores.{IsCurrent, state_of};
 ghost use Rattle.due_explanation.specs.Explained.{IsDueExplained, IsDueMetric};
 
-use due_reasons::{DueExplained, due_reason};
+use crate::{DueExplained, due_reason};
 use event_core::{Calculated, Core};
 use ospf_types::key::Dest;
 use ospf_types::memory::Memory;

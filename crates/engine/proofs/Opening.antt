@@ -8,7 +8,7 @@ use Rattle.event_state.specs.BaseFaults.{after_config, base_fault_of}
 use Rattle.event_state.specs.Steps.{standard_limits}
 use Rattle.event_state.specs.declared.base.Base.{Base}
 use Rattle.event_state.specs.declared.base_fault.BaseFault.{BaseFault}
-use Rattle.engine_state.specs.EngineStates.{AreReaders}
+use Rattle.engine.specs.EngineStates.{AreReaders}
 use Rattle.engine.specs.Opens.{IsOpenFaultFrom}
 use Rattle.engine.specs.declared.open_fault.OpenFault.{OpenFault}
 use Rattle.engine.specs.declared.open_fault.OpenFault.TheVariants as opens

@@ -1,8 +1,8 @@
 -- One more event of a worker passes its gate.
 use Rattle.std.proofs.Common.{◌≡◌, ℕ, ◌+◌, List, [], ◌∷◌, ◌++◌, Result, length, subst, arith}
-use Rattle.engine_state.specs.declared.answer.Answer.{Answer}
-use Rattle.engine_state.specs.declared.answer.Refused.{Refused}
-use Rattle.engine_state.specs.Gates.{Calls, HasPassed, HavePassed}
+use Rattle.engine.specs.declared.answer.Answer.{Answer}
+use Rattle.engine.specs.declared.answer.Refused.{Refused}
+use Rattle.engine.specs.Gates.{Calls, HasPassed, HavePassed}
 
 module _ (came passed left : Calls) (worker : ℕ) where
   pub passed_more : (place : ℕ) (rs : List (Result Answer Refused)) (r : Result Answer Refused) → HavePassed came passed left worker place rs → HasPassed came passed left worker (place + length rs) r

@@ -3,7 +3,7 @@ use Rattle.std.proofs.Common.{◌≡◌, ℕ, zero, suc, List, [], ◌∷◌, Op
 use mathlib.Core.Option.{some, none}
 use lib.ListN.{get_elem?}
 use Rattle.atomic_table.specs.Table.{State, Me, Arrives, Allows, keeps, takes, gives, step, Act, Valid, homes_after, carried_after}
-use Rattle.engine_state.specs.EngineStates.{Held}
+use Rattle.engine.specs.EngineStates.{Held}
 use Rattle.publication.specs.Names.{Name}
 use Rattle.engine.specs.EngineSlots.{Fits, Locks, Took, Gave}
 

@@ -1,11 +1,11 @@
 -- The answers of jobs are those of the lists that they were made of.
 use Rattle.std.proofs.Common.{◌≡◌, List, Vec, Global, Result, Ok, Err, IfOk, subst}
 use Rattle.std.specs.List.{AllZip}
-use Rattle.engine_state.specs.Answers.{AreAnswered}
+use Rattle.engine.specs.Answers.{AreAnswered}
 use Rattle.publication.specs.Names.{Name}
 use Rattle.event_state.specs.declared.event.Event.{Event}
-use Rattle.engine_state.specs.declared.answer.Answer.{Answer}
-use Rattle.engine_state.specs.declared.answer.Refused.{Refused}
+use Rattle.engine.specs.declared.answer.Answer.{Answer}
+use Rattle.engine.specs.declared.answer.Refused.{Refused}
 use Rattle.engine.specs.declared.workers.Job.{Job}
 use Rattle.engine.proofs.Zips.{zip_through}
 

@@ -7,8 +7,8 @@ use Rattle.lsa_codec.specs.Faults.{fault_of}
 use Rattle.lsa_codec.specs.Spelling.{Spells}
 use Rattle.event_state.specs.declared.event.Event.TheVariants as event
 use Rattle.publication.specs.Names.{Name}
-use Rattle.engine_state.specs.Answers.{Answers, Refusals}
-use Rattle.engine_state.specs.declared.answer.Answer.{Answer}
+use Rattle.engine.specs.Answers.{Answers, Refusals}
+use Rattle.engine.specs.declared.answer.Answer.{Answer}
 use Rattle.engine.specs.declared.bytes_fault.BytesFault.{BytesFault}
 use Rattle.engine.specs.declared.bytes_fault.BytesFault.TheVariants as bytes
 

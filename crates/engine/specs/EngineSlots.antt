@@ -2,7 +2,7 @@
 use Rattle.std.specs.Prelude.{◌≡◌, ◌≢◌, ℕ, [], ◌∷◌, Option, IfSome}
 use mathlib.Core.Option.{some}
 use Rattle.atomic_table.specs.Table.{State, Step, Me}
-use Rattle.engine_state.specs.EngineStates.{Held}
+use Rattle.engine.specs.EngineStates.{Held}
 use Rattle.publication.specs.Names.{Name}
 
 abbrev pub Fits : Name → Option Held → Type 0

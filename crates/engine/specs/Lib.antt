@@ -1,3 +1,7 @@
+pub mod Answers
+pub mod Gates
+pub mod EngineStates
+pub mod RefusedText
 pub mod Bytes
 pub mod EngineSlots
 pub mod Opens
@@ -8,5 +12,3 @@ pub use Rattle.event_core.specs.Listings
 pub use Rattle.event_core.specs.DueSummary
 pub use Rattle.event_core.specs.declared.reply.Reply
 pub use Rattle.event_core.specs.declared.reply.Status
-pub use Rattle.engine_state.specs.Answers
-pub use Rattle.engine_state.specs.Gates

@@ -13,7 +13,7 @@ use Rattle.event_state.specs.Rolls.{IsRolled}
 use Rattle.publication.specs.Forwarders.{ForwarderValue}
 use Rattle.publication.specs.Names.{Name}
 use Rattle.publication.specs.Published.{IsLegal}
-use Rattle.engine_state.specs.EngineStates.{AreReaders}
+use Rattle.engine.specs.EngineStates.{AreReaders}
 use Rattle.engine.specs.declared.open_fault.OpenFault.{OpenFault}
 use Rattle.engine.specs.declared.open_fault.OpenFault.TheVariants as opens
 

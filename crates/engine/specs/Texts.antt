@@ -3,7 +3,7 @@ use Rattle.std.specs.Prelude.{ℕ, List, codes}
 use Rattle.event_core.specs.Texts.{config_fault_text}
 use Rattle.lsa_codec.specs.Text.{wire_fault_text}
 use Rattle.event_state.specs.Texts.{unfit_text}
-use Rattle.engine_state.specs.Texts.{refused_text}
+use Rattle.engine.specs.RefusedText.{refused_text}
 use Rattle.engine.specs.declared.bytes_fault.BytesFault.{BytesFault}
 use Rattle.engine.specs.declared.bytes_fault.BytesFault.TheVariants as bytes_fault
 use Rattle.engine.specs.declared.open_fault.OpenFault.{OpenFault}

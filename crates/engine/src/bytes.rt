@@ -2,9 +2,9 @@
 ghost use Rattle.std.specs.Prelude.{MatchResult};
 ghost use Rattle.engine.specs.Bytes.{AreInstalled, AreRefused};
 
+use crate::Answer;
 use crate::bytes_fault::BytesFault;
 use crate::engine::Engine;
-use engine_state::Answer;
 use event_core::Event;
 use lsa_codec::read;
 use ospf_types::key::Scope;

@@ -2,7 +2,7 @@
 ghost use Rattle.std.specs.Prelude.{Some};
 ghost use Rattle.engine.specs.Texts.{bytes_fault_text};
 
-use engine_state::Refused;
+use crate::Refused;
 use lsa_codec::WireFault;
 use std::fmt;
 use thiserror::Error;

@@ -1,5 +1,6 @@
 //! The engine that threads share.
-ghost use Rattle.std.specs.Prelude.{List, ◌≡◌, ◌⊎◌, ◌↔◌, ◌++◌, [], ◌∷◌, length, All, None, Ok, Err, IfOk, IfErr, IfSome, OnOk, MatchResult};
+ghost use Rattle.std.specs.Prelude.{List, ◌≡◌, ◌⊎◌, ◌↔◌, ◌++◌, [], ◌∷◌, length, All, None, Ok, Err};
+ghost use Rattle.std.specs.Prelude.{IfOk, IfErr, IfSome, OnOk, MatchResult};
 ghost use Rattle.event_core.specs.Cores.{IsCore};
 ghost use Rattle.event_core.specs.Configs.{config_fault_of};
 ghost use Rattle.event_state.specs.Bases.{bare};
@@ -9,16 +10,19 @@ ghost use Rattle.event_state.specs.Steps.{standard_limits};
 ghost use Rattle.event_state.specs.declared.event.Event.{Event as EventValue};
 ghost use Rattle.publication.specs.Forwarders.{ForwarderValue};
 ghost use Rattle.publication.specs.Published.{IsLegal};
-ghost use Rattle.engine_state.specs.Answers.{IsAnswered, IsDueListOf, IsForArea};
-ghost use Rattle.engine_state.specs.EngineStates.{AreReaders};
-ghost use Rattle.engine.specs.Opens.{AreNew, CanOpen, CanOpenFrom, IsLastFault, IsNewAdded, IsOpenFaultOf, IsOpenFaultFrom, IsRolledFrom, IsRolledSerial, open_fault_of};
+ghost use Rattle.engine.specs.Answers.{IsAnswered, IsDueListOf, IsForArea};
+ghost use Rattle.engine.specs.EngineStates.{AreReaders};
+ghost use Rattle.engine.specs.Opens.{AreNew, CanOpen, CanOpenFrom, IsLastFault, IsNewAdded};
+ghost use Rattle.engine.specs.Opens.{IsOpenFaultOf, IsOpenFaultFrom, IsRolledFrom, IsRolledSerial};
+ghost use Rattle.engine.specs.Opens.{open_fault_of};
 ghost use Rattle.engine.specs.declared.open_fault.OpenFault.TheVariants as open_value;
 ghost use Rattle.event_core.specs.ConfigFault.TheVariants as fault;
-ghost use Rattle.event_state.specs.declared.refusal.Refusal.TheVariants.{Memory as NoMemory, NoArea, NotCurrent};
+ghost use Rattle.event_state.specs.declared.refusal.Refusal.TheVariants.{Memory as NoMemory};
+ghost use Rattle.event_state.specs.declared.refusal.Refusal.TheVariants.{NoArea, NotCurrent};
 
 use crate::open_fault::OpenFault;
 use crate::slot::EngineSlot;
-use engine_state::{Answer, DueList, EngineState, Gate, Open, Refused};
+use crate::{Answer, DueList, EngineState, Gate, Open, Refused};
 use event_core::{ConfigFault, Core, Event, Refusal, fault_in};
 use event_state::{Base, BaseFault, Limits, fault_in_base};
 use ospf_types::config::Config;

@@ -5,8 +5,8 @@
 ghost use Rattle.std.specs.Prelude.{◌≡◌, IfOk, IfSome};
 ghost use Rattle.engine.specs.EngineSlots.{Fits};
 
+use crate::EngineState;
 use atomic_table::{Play, Table, TableRule};
-use engine_state::EngineState;
 use publication::EngineName;
 use std::alloc::{AllocError, Global};
 use std::marker::Model;

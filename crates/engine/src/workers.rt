@@ -1,12 +1,13 @@
 //! Several workers on one engine, each with its own list of events.
-ghost use Rattle.std.specs.Prelude.{◌≡◌, ◌<◌, ◌≤◌, ◌⊎◌, [], length, vec_len, vec_capacity, IfOk, IfErr, IfSome, IsTrue};
+ghost use Rattle.std.specs.Prelude.{◌≡◌, ◌<◌, ◌≤◌, ◌⊎◌, [], length, vec_len, vec_capacity, IfOk};
+ghost use Rattle.std.specs.Prelude.{IfErr, IfSome, IsTrue};
 ghost use Rattle.std.specs.List.{AllZip};
-ghost use Rattle.engine_state.specs.Answers.{AreAnswered};
-ghost use Rattle.engine_state.specs.Gates.{HavePassed};
+ghost use Rattle.engine.specs.Answers.{AreAnswered};
+ghost use Rattle.engine.specs.Gates.{HavePassed};
 ghost use Rattle.event_state.specs.declared.refusal.Refusal.TheVariants.{Memory, Spawn, Workers};
 
 use crate::engine::Engine;
-use engine_state::{Answer, Gate, Refused};
+use crate::{Answer, Gate, Refused};
 use event_core::{Event, Refusal};
 use std::alloc::{AllocError, Global};
 use std::snapshot::Snapshot;
@@ -65,7 +66,7 @@ struct Answering<'a> {
 }
 
 impl<'a> Promise<Answers> for Answering<'a> {
-    ghost use Rattle.engine_state.specs.Answers.{AreAnswered};
+    ghost use Rattle.engine.specs.Answers.{AreAnswered};
 
     ghost kept_by = { λ p r. AreAnswered p.engine.now p.events.value.items r.items };
 }

@@ -9,7 +9,7 @@ use Rattle.std.proofs.lemmas.List.Elements.{Contains-push, Contains-push_cases, 
 use Rattle.ospf_types.specs.declared.prefix.Prefix.{Prefix}
 use Rattle.ospf_types.specs.Network.{network_cmp}
 use Rattle.ospf_types.proofs.Elements.{no_element, contains_more}
-use Rattle.result_map.proofs.ChosenAnew.{sorted_without}
+use Rattle.route_choice.proofs.ChosenAnew.{sorted_without}
 use Rattle.route_table.specs.declared.table.Item.{Item}
 use Rattle.calculation.specs.Calculations.{CalculationValue, IsItemOf, IsNewItemOf}
 use Rattle.event_core.specs.Following.{AreOtherItems, IsOneMore}

@@ -19,7 +19,7 @@ use Rattle.event_core.specs.declared.reply.Status.TheVariants.{Current, Behind}
 use Rattle.event_core.specs.Cores.{CoreValue, IsCore, IsTaken, Rolls, Applies, Tells, MatchesStatus, HasBoundedWork, NamesChanges, state_of}
 use Rattle.event_core.specs.Kept.{core_of, IsCoherent}
 use Rattle.event_state.specs.declared.refusal.Refusal.{Refusal}
-use Rattle.config_faults.specs.Configs.{config_fault_of}
+use Rattle.ospf_types.specs.Configs.{config_fault_of}
 use Rattle.ospf_types.specs.declared.memory.Memory.{Memory}
 use Rattle.calculation.specs.Totals.{IsBuildWork}
 use Rattle.calculation.specs.Works.{IsEventWork}

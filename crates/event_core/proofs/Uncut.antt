@@ -18,7 +18,7 @@ use Rattle.calculation.specs.Totals.{IsBuildWork}
 use Rattle.calculation.specs.Trees.{AreTreesOf}
 use Rattle.calculation.specs.Works.{area_of, AreWorksOf, AreWorksForAll, IsEventWork, IsTotal, most_count}
 use Rattle.calculation.proofs.InputsAre.{area_is}
-use Rattle.config_faults.specs.Configs.{config_fault_of}
+use Rattle.ospf_types.specs.Configs.{config_fault_of}
 use Rattle.event_core.proofs.SmallWorks.{small_area, change_small, build_small}
 use Rattle.event_core.specs.Sums.{IsSum, IsFollowingWork, IsBuildingWork}
 use Rattle.event_state.proofs.Configs.{sound_few}

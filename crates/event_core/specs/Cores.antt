@@ -10,10 +10,10 @@ use Rattle.event_core.specs.declared.reply.Status.{Status}
 use Rattle.event_core.specs.declared.reply.Status.TheVariants.{Current, Behind}
 use Rattle.event_state.specs.declared.refusal.Refusal.{Refusal}
 use Rattle.event_state.specs.declared.refusal.Refusal.TheVariants as refusal
-use Rattle.config_faults.specs.declared.fault.ConfigFault.{ConfigFault}
-use Rattle.config_faults.specs.declared.fault.ConfigFault.TheVariants.{Memory}
+use Rattle.ospf_types.specs.declared.fault.ConfigFault.{ConfigFault}
+use Rattle.ospf_types.specs.declared.fault.ConfigFault.TheVariants.{Memory}
 use Rattle.event_state.specs.declared.limits.Limits.{Limits}
-use Rattle.config_faults.specs.Configs.{config_fault_of}
+use Rattle.ospf_types.specs.Configs.{config_fault_of}
 use Rattle.event_state.specs.declared.base_fault.BaseFault.{BaseFault}
 use Rattle.event_state.specs.declared.base_fault.BaseFault.TheVariants as base_fault
 use Rattle.event_state.specs.BaseFaults.{base_fault_of}

@@ -4,9 +4,9 @@ pub mod Kept
 pub mod Following
 pub mod Affected
 pub mod Sums
-pub use Rattle.config_faults.specs.Configs
-pub use Rattle.config_faults.specs.Texts
-pub use Rattle.config_faults.specs.declared.fault.ConfigFault
+pub use Rattle.ospf_types.specs.Configs
+pub use Rattle.ospf_types.specs.Texts
+pub use Rattle.ospf_types.specs.declared.fault.ConfigFault
 pub use Rattle.event_state.specs.Listings
 pub use Rattle.summaries.specs.DueSummaries
 pub use Rattle.summaries.specs.Lists

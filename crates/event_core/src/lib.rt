@@ -3,18 +3,18 @@
 //! them.
 #![tactic(auto)]
 
+mod affected;
 mod calculated;
 mod core_state;
 mod listing;
-mod affected;
 mod reply;
 mod routes;
 
 pub use calculated::Calculated;
 pub use calculation::Calculation;
-pub use config_faults::{ConfigFault, fault_in};
 pub use core_state::Core;
 pub use event_state::{Base, Event, Limits, Refusal, State};
+pub use ospf_types::{ConfigFault, fault_in};
 pub use reply::{Reply, Status};
 pub use route_table as table;
 pub use spf::Touched;

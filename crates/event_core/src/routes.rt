@@ -14,7 +14,8 @@ ghost use Rattle.calculation.specs.Trees.{StatesDifferAmong};
 ghost use Rattle.calculation.specs.Summaries.{AreSummariesFor};
 ghost use Rattle.calculation.specs.Totals.{IsBuildWork};
 ghost use Rattle.calculation.specs.Works.{IsEventWork};
-ghost use Rattle.event_core.specs.Following.{AreRoutesOf, AreOtherItems, IsOneMore, IsStill, TellsChanges, no_work};
+ghost use Rattle.event_core.specs.Following.{AreRoutesOf, AreOtherItems, IsOneMore, IsStill};
+ghost use Rattle.event_core.specs.Following.{TellsChanges, no_work};
 ghost use Rattle.event_core.specs.Affected.{IsNamedBetween, IsRangeNamedBetween};
 
 use crate::affected::Affected;

@@ -5,11 +5,11 @@ use Rattle.std.specs.List.{list_any}
 use Rattle.std.proofs.lemmas.Bool.Decides.{eqb_tells, nat_tests}
 use Rattle.ospf_types.specs.declared.config.Config.{Config}
 use Rattle.ospf_types.specs.declared.config.AreaConfig.{AreaConfig}
-use Rattle.config_faults.specs.declared.fault.ConfigFault.{ConfigFault}
-use Rattle.config_faults.specs.declared.fault.ConfigFault.TheVariants as fault
+use Rattle.ospf_types.specs.declared.fault.ConfigFault.{ConfigFault}
+use Rattle.ospf_types.specs.declared.fault.ConfigFault.TheVariants as fault
 use Rattle.ospf_types.specs.FirstOf.{first_of}
 use Rattle.event_state.specs.States.{AreApart}
-use Rattle.config_faults.specs.Configs.{config_fault_of, has_alike, has_overlap, has_wrong_areas, is_costly, is_stub_backbone}
+use Rattle.ospf_types.specs.Configs.{config_fault_of, has_alike, has_overlap, has_wrong_areas, is_costly, is_stub_backbone}
 
 -- where no line of the table holds, its first does not
 first_false : (a : Bool) (x : ConfigFault) (more : List (Bool × ConfigFault)) → first_of ((a, x) ∷ more) ≡ None → a ≡ false

@@ -20,8 +20,8 @@ use Rattle.ospf_types.specs.declared.key.Scope.TheVariants as scope
 use Rattle.ospf_types.specs.Keys.{key_cmp}
 use Rattle.ospf_types.specs.Lsa.{Lsa, key_of}
 use Rattle.ospf_types.proofs.Orders.{key_total, key_exact}
-use Rattle.config_faults.specs.Configs.{config_fault_of}
-use Rattle.config_faults.specs.declared.fault.ConfigFault.{ConfigFault}
+use Rattle.ospf_types.specs.Configs.{config_fault_of}
+use Rattle.ospf_types.specs.declared.fault.ConfigFault.{ConfigFault}
 use Rattle.lsdb.specs.Databases.{Database, install_refusal_of, is_older_than, is_same_as, is_full_for}
 use Rattle.lsdb.specs.declared.refusal.InstallRefusal.TheVariants as install
 use Rattle.event_state.specs.declared.base.Base.{Base}

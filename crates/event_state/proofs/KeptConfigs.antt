@@ -5,7 +5,7 @@ use Rattle.ospf_types.specs.declared.config.AreaConfig.{AreaConfig}
 use Rattle.ospf_types.specs.Lsa.{key_of}
 use Rattle.ospf_types.specs.RangeChanges.{set_range, drop_range, without_ranges}
 use Rattle.ospf_types.proofs.RangeChanges.{others_kept}
-use Rattle.config_faults.specs.Configs.{config_fault_of}
+use Rattle.ospf_types.specs.Configs.{config_fault_of}
 use Rattle.lsdb.specs.Databases.{Database, aged_out}
 use Rattle.event_state.specs.declared.base.Base.{Base}
 use Rattle.event_state.specs.declared.event.Event.{Event}

@@ -12,7 +12,7 @@ use Rattle.ospf_types.specs.declared.config.AreaConfig.{AreaConfig}
 use Rattle.ospf_types.specs.declared.config.Range.{Range}
 use Rattle.ospf_types.specs.RangeChanges.{in_order, with_others, areas_without_ranges}
 use Rattle.ospf_types.proofs.KeyOrders.{prefixes_equal, prefixes_decided}
-use Rattle.config_faults.specs.Neighbours.{is_before}
+use Rattle.ospf_types.specs.Neighbours.{is_before}
 use Rattle.event_state.proofs.OneChange.{mapped_at}
 
 -- a greater range

@@ -23,7 +23,7 @@ use Rattle.ospf_types.specs.Keys.{key_cmp}
 use Rattle.ospf_types.specs.Lsa.{Lsa, key_of}
 use Rattle.ospf_types.proofs.Elements.{no_element, first_element, later_element, first_or_later, mapped_from}
 use Rattle.ospf_types.proofs.Orders.{key_total}
-use Rattle.config_faults.specs.Configs.{config_fault_of}
+use Rattle.ospf_types.specs.Configs.{config_fault_of}
 use Rattle.lsdb.specs.Databases.{Database}
 use Rattle.lsdb.specs.Contents.{IsSound}
 use Rattle.event_state.specs.declared.base.Base.{Base}

@@ -10,10 +10,10 @@ use Rattle.ospf_types.specs.declared.config.Range.{Range}
 use Rattle.ospf_types.specs.declared.prefix.Prefix.{Prefix}
 use Rattle.ospf_types.specs.RangeChanges.{has_range, set_range, drop_range, with_others, with_ranges, areas_without_ranges}
 use Rattle.ospf_types.proofs.RangeChanges.{others_kept}
-use Rattle.config_faults.specs.Configs.{areas_fault_of, has_alike, has_wrong_areas, has_overlap, is_stub_backbone, is_costly}
-use Rattle.config_faults.specs.declared.fault.ConfigFault.TheVariants as fault
-use Rattle.config_faults.specs.Overlaps.{overlaps_another}
-use Rattle.config_faults.proofs.RangeChanges.{overlap_set, overlap_dropped, long_set, long_dropped}
+use Rattle.ospf_types.specs.Configs.{areas_fault_of, has_alike, has_wrong_areas, has_overlap, is_stub_backbone, is_costly}
+use Rattle.ospf_types.specs.declared.fault.ConfigFault.TheVariants as fault
+use Rattle.ospf_types.specs.Overlaps.{overlaps_another}
+use Rattle.ospf_types.proofs.RangeFaults.{overlap_set, overlap_dropped, long_set, long_dropped}
 use Rattle.event_state.specs.RangeEvents.{most_ranges, ranges_of, is_one_too_many}
 use Rattle.event_state.proofs.SamePlaces.{long_same}
 

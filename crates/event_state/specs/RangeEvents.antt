@@ -6,7 +6,7 @@ use Rattle.ospf_types.specs.declared.config.Config.{Config}
 use Rattle.ospf_types.specs.declared.config.Range.{Range}
 use Rattle.ospf_types.specs.declared.prefix.Prefix.{Prefix}
 use Rattle.ospf_types.specs.RangeChanges.{has_range, set_range, drop_range, with_others, with_ranges}
-use Rattle.config_faults.specs.Overlaps.{overlaps_another}
+use Rattle.ospf_types.specs.Overlaps.{overlaps_another}
 use Rattle.event_state.specs.declared.refusal.Refusal.{Refusal}
 use Rattle.event_state.specs.declared.refusal.Refusal.TheVariants as refusal
 use Rattle.event_state.specs.declared.ranges.RangeChange.{RangeChange}

@@ -1,6 +1,6 @@
 -- What is printed of a refusal, and of a fault of a base: its number and its name.
 use Rattle.std.specs.Prelude.{ℕ, List, codes}
-use Rattle.config_faults.specs.Texts.{config_fault_text}
+use Rattle.ospf_types.specs.Texts.{config_fault_text}
 use Rattle.event_state.specs.declared.base_fault.BaseFault.{BaseFault}
 use Rattle.event_state.specs.declared.base_fault.BaseFault.TheVariants as base_fault
 use Rattle.event_state.specs.declared.base_fault.EntryFault.{EntryFault}

@@ -1,12 +1,14 @@
 //! The databases of the areas and, after them, the database of the AS: changes to the database at
 //! an index.
-ghost use Rattle.std.specs.Prelude.{◌≡◌, ◌↔◌, ◌<◌, None, false, OnOk, OnErr, IfOk, All, length, map as list_map};
+ghost use Rattle.std.specs.Prelude.{◌≡◌, ◌↔◌, ◌<◌, None, false, OnOk, OnErr, IfOk, All, length};
+ghost use Rattle.std.specs.Prelude.{map as list_map};
 ghost use Rattle.std.specs.FinMap as map;
 ghost use Rattle.lsa_codec.specs.Spelling.{IsLegal};
 ghost use Rattle.lsdb.specs.Databases.{aged_out};
 ghost use Rattle.lsdb.specs.Contents.{NoneComes};
 ghost use Rattle.event_state.specs.BaseFaults.{base_fault_of};
-ghost use Rattle.event_state.specs.Changes.{CanBePurgedAt, FitsAt, IsChange, PutsLsa, TellsAgedAt, TellsPutAt, aged_value, empty_values};
+ghost use Rattle.event_state.specs.Changes.{CanBePurgedAt, FitsAt, IsChange, PutsLsa, TellsAgedAt};
+ghost use Rattle.event_state.specs.Changes.{TellsPutAt, aged_value, empty_values};
 ghost use Rattle.event_state.specs.Held.{AreFilled};
 
 use crate::base::Base;

@@ -1,10 +1,16 @@
 //! The checks of a base before a state is made from it.
 ghost use Rattle.std.specs.Prelude.{◌≡◌, true, None, IfErr, IfOk, length, is_none, nat_lt};
 ghost use Rattle.std.specs.List.{list_any};
-ghost use Rattle.config_faults.specs.Configs.{config_fault_of};
+ghost use Rattle.ospf_types.specs.Configs.{config_fault_of};
 ghost use Rattle.event_state.specs.Bases.{lsas_under};
-ghost use Rattle.event_state.specs.BaseFaults.{base_fault_of, unfit_of, unfit_fault, is_doubled, has_twice, is_same_id, is_same_place, is_same_address, has_interface_outside, has_lsa_outside, has_overfull_area, lacks_an_area, is_overfull};
-ghost use Rattle.event_state.specs.Ascending.{scoped_key, scoped_cmp, is_ascending, is_before_first, ids_ascend, is_before_first_id, is_ordered};
+ghost use Rattle.event_state.specs.BaseFaults.{base_fault_of, unfit_of, unfit_fault, is_doubled};
+ghost use Rattle.event_state.specs.BaseFaults.{has_twice, is_same_id, is_same_place};
+ghost use Rattle.event_state.specs.BaseFaults.{is_same_address, has_interface_outside};
+ghost use Rattle.event_state.specs.BaseFaults.{has_lsa_outside, has_overfull_area, lacks_an_area};
+ghost use Rattle.event_state.specs.BaseFaults.{is_overfull};
+ghost use Rattle.event_state.specs.Ascending.{scoped_key, scoped_cmp, is_ascending};
+ghost use Rattle.event_state.specs.Ascending.{is_before_first, ids_ascend, is_before_first_id};
+ghost use Rattle.event_state.specs.Ascending.{is_ordered};
 ghost use Rattle.event_state.specs.States.{place_of};
 ghost use Rattle.event_state.specs.Steps.{is_out_of_scope};
 
@@ -12,9 +18,9 @@ use crate::base::Base;
 use crate::base_fault::{BaseFault, EntryFault};
 use crate::limits::Limits;
 use crate::scopes::{is_out_of_scope, is_scope, place_of};
-use config_faults::fault_in;
 use lsa_codec::Checked;
 use ospf_types::config::{AreaConfig, Interface};
+use ospf_types::fault_in;
 use ospf_types::key::{Key, Scope};
 use ospf_types::memory::Memory;
 use std::alloc::Global;

@@ -1,7 +1,7 @@
 ghost use Rattle.std.specs.Prelude.{Some};
 ghost use Rattle.event_state.specs.Texts.{unfit_text, base_fault_text};
 
-use config_faults::ConfigFault;
+use ospf_types::ConfigFault;
 use std::fmt;
 use thiserror::Error;
 

@@ -2,6 +2,7 @@
 //! address ranges, and the journal of the events that made them.
 #![tactic(auto)]
 
+mod affected;
 mod area_databases;
 mod base;
 mod base_checks;
@@ -9,14 +10,13 @@ mod base_fault;
 mod event;
 mod interfaces;
 mod limits;
-mod affected;
 mod ranges;
 mod refusal;
 mod scopes;
 mod state;
 
 pub use base::Base;
-pub use base_checks::{fault_in_base, fault_in_ordered, is_ordered, entry_fault_in};
+pub use base_checks::{entry_fault_in, fault_in_base, fault_in_ordered, is_ordered};
 pub use base_fault::{BaseFault, EntryFault};
 pub use event::Event;
 pub use limits::Limits;

@@ -1,11 +1,15 @@
 //! Area address ranges (RFC 2328, 3.5 and C.2): the refusals of a change, and the areas after it.
-ghost use Rattle.std.specs.Prelude.{◌≡◌, ◌↔◌, ◌≤◌, false, IfOk, IfSome, IsTrue, is_none, length, position, map as list_map};
+ghost use Rattle.std.specs.Prelude.{◌≡◌, ◌↔◌, ◌≤◌, false, IfOk, IfSome, IsTrue, is_none, length};
+ghost use Rattle.std.specs.Prelude.{position, map as list_map};
 ghost use Rattle.std.specs.List.{list_any, insert as list_insert};
-ghost use Rattle.ospf_types.specs.RangeChanges.{is_same_prefix, has_range, in_place, in_order, set_range, drop_range, with_ranges, areas_without_ranges};
-ghost use Rattle.config_faults.specs.Configs.{is_cover, is_overlap};
-ghost use Rattle.config_faults.specs.Overlaps.{overlaps_another};
-ghost use Rattle.config_faults.specs.Neighbours.{is_before};
-ghost use Rattle.event_state.specs.RangeEvents.{ranges_of, is_one_too_many, set_refusal_of, drop_refusal_of, changed_ranges, changed_area};
+ghost use Rattle.ospf_types.specs.RangeChanges.{is_same_prefix, has_range, in_place, in_order};
+ghost use Rattle.ospf_types.specs.RangeChanges.{set_range, drop_range, with_ranges};
+ghost use Rattle.ospf_types.specs.RangeChanges.{areas_without_ranges};
+ghost use Rattle.ospf_types.specs.Configs.{is_cover, is_overlap};
+ghost use Rattle.ospf_types.specs.Overlaps.{overlaps_another};
+ghost use Rattle.ospf_types.specs.Neighbours.{is_before};
+ghost use Rattle.event_state.specs.RangeEvents.{ranges_of, is_one_too_many, set_refusal_of};
+ghost use Rattle.event_state.specs.RangeEvents.{drop_refusal_of, changed_ranges, changed_area};
 ghost use Rattle.event_state.specs.States.{place_of};
 
 use crate::refusal::Refusal;

@@ -1,13 +1,18 @@
-ghost use Rattle.std.specs.Prelude.{◌≡◌, ◌<◌, ◌≤◌, None, IfErr, IfOk, IfSome, OnOk, OnErr, option_map};
+ghost use Rattle.std.specs.Prelude.{◌≡◌, ◌<◌, ◌≤◌, None, IfErr, IfOk, IfSome, OnOk, OnErr};
+ghost use Rattle.std.specs.Prelude.{option_map};
 ghost use Rattle.std.specs.List.{list_any};
 ghost use Rattle.std.specs.FinMap as map;
-ghost use Rattle.config_faults.specs.Configs.{config_fault_of};
+ghost use Rattle.ospf_types.specs.Configs.{config_fault_of};
 ghost use Rattle.event_state.specs.Bases.{bare, most_serial};
 ghost use Rattle.event_state.specs.BaseFaults.{base_fault_of};
 ghost use Rattle.event_state.specs.Rolls.{since, BeginsAgain, CanBeRolled, IsBaseOf};
 ghost use Rattle.event_state.specs.States.{TellsChange, serial_of, database_of};
 ghost use Rattle.event_state.specs.Changes.{empty_values};
-ghost use Rattle.event_state.specs.Steps.{changed_by, interface_event, range_set_event, with_interface, with_ranges_by, TellsChangeBy, TellsInterfaceChange, TellsRangeChange, refusal_of, IsAccepted, step, opening, has_address, limit_of, standard_limits};
+ghost use Rattle.event_state.specs.Steps.{changed_by, interface_event, range_set_event};
+ghost use Rattle.event_state.specs.Steps.{with_interface, with_ranges_by, TellsChangeBy};
+ghost use Rattle.event_state.specs.Steps.{TellsInterfaceChange, TellsRangeChange, refusal_of};
+ghost use Rattle.event_state.specs.Steps.{IsAccepted, step, opening, has_address, limit_of};
+ghost use Rattle.event_state.specs.Steps.{standard_limits};
 ghost use Rattle.event_state.specs.Held.{HasFitDatabases};
 ghost use Rattle.event_state.specs.Refusals.{IsRefusalOf};
 

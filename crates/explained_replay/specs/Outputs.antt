@@ -1,15 +1,15 @@
 -- What is answered behind the run of a recording.
 use Rattle.std.specs.Prelude.{ℕ, ◌≡◌, List, Option}
 use Rattle.std.specs.Io.KnownBytes.{Appends}
-use Rattle.output_format.specs.declared.Format.{Format}
+use Rattle.output_lines.specs.declared.format.Format.{Format}
 use Rattle.event_core.specs.Cores.{CoreValue, IsCurrent, state_of}
 use Rattle.explanation.specs.declared.explained.Candidate.{Candidate}
 use Rattle.explanation.specs.Explained.{IsExplained}
-use Rattle.explanation_lines.specs.Explanations.{IsExplanation}
+use Rattle.explained_replay.specs.Explanations.{IsExplanation}
 use Rattle.ospf_types.specs.declared.key.Dest.{Dest}
-use Rattle.due_reasons.specs.declared.due.DueExplained.{DueExplained}
+use Rattle.due_explanation.specs.declared.due.DueExplained.{DueExplained}
 use Rattle.due_explanation.specs.Explained.{IsDueExplained, IsDueMetric}
-use Rattle.due_lines.specs.Lines.{due_explanation_text}
+use Rattle.due_explanation.specs.Lines.{due_explanation_text}
 use Rattle.recording.specs.Recordings.{RecordingValue, IsText}
 use Rattle.replay.specs.Inputs.{ReadsAll}
 use Rattle.replay.specs.Pages.{IsRunTo}

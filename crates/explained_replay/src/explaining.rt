@@ -11,15 +11,14 @@ ghost use Rattle.explained_replay.specs.declared.question.Question.TheVariants a
 ghost use Rattle.explained_replay.specs.Outputs.{Explains, ExplainsPart, IsAnswer};
 
 use crate::question::{Explaining, Question};
-use due_explanation::explain_due;
-use due_lines::{ExplainedDue, put_due_explanation};
+use crate::{Explained, put_explanation};
+use due_explanation::{ExplainedDue, explain_due, put_due_explanation};
 use event_core::Core;
 use explanation::explain;
-use explanation_lines::{Explained, put_explanation};
 use ospf_types::key::Dest;
 use ospf_types::memory::Memory;
-use output_format::Format;
-use replay::{WriteError, OpenedRecording, ReplayFault, read_recording, write_whole};
+use output_lines::Format;
+use replay::{OpenedRecording, ReplayFault, WriteError, read_recording, write_whole};
 use std::alloc::Global;
 use std::hash::RandomState;
 use std::io;

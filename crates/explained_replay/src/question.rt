@@ -1,7 +1,7 @@
 //! Questions about the end of a recording.
 
 use ospf_types::key::Dest;
-use output_format::Format;
+use output_lines::Format;
 
 /// A question about the core that a replay leaves.
 #[derive(Clone, Copy, Debug, PartialEq, Eq)]

@@ -8,8 +8,8 @@ use Rattle.area_trees.specs.Areas.{AreaTreeValue}
 use Rattle.intra.specs.Inputs.{AreaValue}
 use Rattle.event_state.specs.States.{AreApart, State, place_of}
 use Rattle.event_state.proofs.Places.{place_at}
-use Rattle.state_trees.specs.Trees.{AreTreesOf, areas_with}
-use Rattle.state_trees.proofs.InputsAre.{ready_of}
+use Rattle.route_layers.specs.Trees.{AreTreesOf, areas_with}
+use Rattle.route_layers.proofs.InputsAre.{ready_of}
 use Rattle.calculation.specs.Calculations.{CalculationValue}
 use Rattle.explanation.specs.Layers.{AreAreas, AreLayers}
 use Rattle.explanation.proofs.Rivals.{some_same}

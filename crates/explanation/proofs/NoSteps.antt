@@ -7,7 +7,7 @@ use Rattle.std.proofs.lemmas.List.{nil_from_length}
 use Rattle.ospf_types.specs.declared.entry.Vertex.{Vertex}
 use Rattle.ospf_types.specs.declared.hop.NextHop.{NextHop}
 use Rattle.vertex_graph.specs.Link.{Link}
-use Rattle.tree_paths.specs.LeastPaths.{HasHop, IsPathOver}
+use Rattle.area_trees.specs.LeastPaths.{HasHop, IsPathOver}
 use Rattle.intra.specs.Inputs.{AreaValue}
 use Rattle.explanation.specs.Layers.{AreAreas, HasArea}
 use Rattle.explanation.specs.Traces.{AreLinkSteps, AreSteps}

@@ -6,7 +6,7 @@ use Rattle.ospf_types.specs.declared.entry.Vertex.TheVariants.{Router}
 use Rattle.ospf_types.specs.declared.key.Scope.{Scope}
 use Rattle.ospf_types.specs.declared.key.Scope.TheVariants.{Area}
 use Rattle.ospf_types.specs.declared.prefix.Prefix.{Prefix}
-use Rattle.path_choice.specs.ReachedRouter.{ReachedValue}
+use Rattle.route_choice.specs.ReachedRouter.{ReachedValue}
 use Rattle.explanation.specs.declared.verdict.Verdict.{Verdict}
 use Rattle.explanation.specs.declared.verdict.Verdict.TheVariants as verdict
 use Rattle.explanation.specs.declared.judging.Judged.{Judged}

@@ -9,7 +9,7 @@ use Rattle.ospf_types.specs.declared.entry.Vertex.TheVariants.{Router}
 use Rattle.ospf_types.specs.Distances.{Leads}
 use Rattle.vertex_graph.specs.Graphs.{GraphValue, LinksOf}
 use Rattle.vertex_graph.specs.Link.{Link}
-use Rattle.tree_paths.specs.LeastPaths.{AreEndToEnd, IsPathOver, links_at, way_over}
+use Rattle.area_trees.specs.LeastPaths.{AreEndToEnd, IsPathOver, links_at, way_over}
 use Rattle.intra.specs.Inputs.{AreaValue}
 use Rattle.explanation.specs.declared.trace.Step.{Step}
 use Rattle.explanation.specs.Traces.{AreLinksIn, AreLinkSteps, IsLinkStep, IsOneMore}

@@ -10,7 +10,7 @@ use Rattle.ospf_types.specs.declared.prefix.Prefix.{Prefix}
 use Rattle.area_trees.specs.Areas.{IsStanding, IsStandingKey}
 use Rattle.intra.specs.Inputs.{AreaValue, HasTree, distance_at}
 use Rattle.event_state.specs.States.{State}
-use Rattle.state_trees.specs.Trees.{areas_with}
+use Rattle.route_layers.specs.Trees.{areas_with}
 use Rattle.calculation.specs.Calculations.{CalculationValue, IsCalculationOf, entry_else}
 
 -- what is calculated is that of the state, and so are the areas

@@ -9,7 +9,7 @@ use Rattle.ospf_types.specs.declared.prefix.Prefix.{Prefix}
 use Rattle.ospf_types.specs.Inter.{LSInfinity}
 use Rattle.ospf_types.specs.Intra.{B, LiesIn}
 use Rattle.ospf_types.specs.Lsa.{MaxAge}
-use Rattle.path_choice.specs.ReachedRouter.{ReachedValue}
+use Rattle.route_choice.specs.ReachedRouter.{ReachedValue}
 use Rattle.intra.specs.Intras.{reached_at}
 use Rattle.active_ranges.specs.Active.{IsActiveIn}
 use Rattle.external.specs.AsbrRoute.{PreferredValue}

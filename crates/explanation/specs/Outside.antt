@@ -14,7 +14,7 @@ use Rattle.ospf_types.specs.External.{toward}
 use Rattle.ospf_types.specs.Intra.{E}
 use Rattle.ospf_types.specs.Lsa.{Lsa, MaxAge}
 use Rattle.lsa_codec.specs.Readers.{metric_of}
-use Rattle.path_choice.specs.ReachedRouter.{ReachedValue}
+use Rattle.route_choice.specs.ReachedRouter.{ReachedValue}
 use Rattle.intra.specs.Inputs.{AreaValue}
 use Rattle.intra.specs.Intras.{reached_at}
 use Rattle.external.specs.Forwards.{ForwardValue}

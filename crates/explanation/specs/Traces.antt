@@ -9,7 +9,7 @@ use Rattle.ospf_types.specs.Lsa.{Lsa, MaxAge}
 use Rattle.vertex_graph.specs.Graphs.{LinksOf}
 use Rattle.vertex_graph.specs.Link.{Link}
 use Rattle.area_trees.specs.Areas.{IsStandingKey}
-use Rattle.tree_paths.specs.LeastPaths.{HasHop, IsPathOver}
+use Rattle.area_trees.specs.LeastPaths.{HasHop, IsPathOver}
 use Rattle.intra.specs.Inputs.{AreaValue}
 use Rattle.std.specs.FinMap.{entries, get}
 use Rattle.ospf_types.specs.declared.config.Interface.{Interface}

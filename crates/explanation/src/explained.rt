@@ -5,10 +5,10 @@ ghost use Rattle.event_core.specs.Cores.{IsCurrent, state_of};
 ghost use Rattle.explanation.specs.Layers.{AreAreas};
 ghost use Rattle.explanation.specs.Networks.{all_offers};
 ghost use Rattle.explanation.specs.Outside.{AreForwards, AreMatched, AreTraces, IsMatched};
-ghost use Rattle.explanation.specs.Explained.{AddsJudged, AddsNetwork, AreCandidates, AreInOrder, AreNetworks, AreTracesFor, IsExplained};
+ghost use Rattle.explanation.specs.Explained.{AddsJudged, AddsNetwork, AreCandidates, AreInOrder};
+ghost use Rattle.explanation.specs.Explained.{AreNetworks, AreTracesFor, IsExplained};
 
 use crate::all_offers::of_network;
-use crate::verdict::Verdict;
 use crate::forward::{Forwarded, Forwards, is_taken};
 use crate::judging::{Judged, Rivals};
 use crate::layers::Layers;
@@ -16,13 +16,13 @@ use crate::networks::Networks;
 use crate::offer::{Offer, OfferKind};
 use crate::offers::Wanted;
 use crate::trace::Trace;
+use crate::verdict::Verdict;
 use event_core::{Calculated, Core};
 use ospf_types::hop::Path;
 use ospf_types::key::Scope;
 use ospf_types::memory::Memory;
 use ospf_types::prefix::Prefix;
-use route_layers::active_areas;
-use state_trees::area_inputs;
+use route_layers::{active_areas, area_inputs};
 use std::alloc::Global;
 
 /// An offer with its verdict.

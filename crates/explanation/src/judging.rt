@@ -1,12 +1,17 @@
 //! The verdict on an offer among the other offers for its network (RFC 2328, 16.1, 16.2 and 16.4).
-ghost use Rattle.std.specs.Prelude.{◌≡◌, ◌↔◌, ◌<◌, IfErr, IfNone, IfOk, IfSome, IsTrue, option_copied};
+ghost use Rattle.std.specs.Prelude.{◌≡◌, ◌↔◌, ◌<◌, IfErr, IfNone, IfOk, IfSome, IsTrue};
+ghost use Rattle.std.specs.Prelude.{option_copied};
 ghost use Rattle.explanation.specs.Layers.{AreAreas};
-ghost use Rattle.explanation.specs.Judging.{HasKey, HasNoKey, IsCostWithin, IsFateOutside, IsFateWithin, IsGreater, IsGreatestId, IsJudged, IsJudgedBy, IsLeastKey, IsLesser, IsRivalsOf, IsSummary, IsTransitAt, LacksCostWithin, fate_beside, rank};
+ghost use Rattle.explanation.specs.Judging.{HasKey, HasNoKey, IsCostWithin, IsFateOutside};
+ghost use Rattle.explanation.specs.Judging.{IsFateWithin, IsGreater, IsGreatestId, IsJudged};
+ghost use Rattle.explanation.specs.Judging.{IsJudgedBy, IsLeastKey, IsLesser, IsRivalsOf};
+ghost use Rattle.explanation.specs.Judging.{IsSummary, IsTransitAt, LacksCostWithin, fate_beside};
+ghost use Rattle.explanation.specs.Judging.{rank};
 
-use crate::verdict::Verdict;
 use crate::layers::Layers;
 use crate::offer::{Offer, OfferKind};
 use crate::offered::ExternalKey;
+use crate::verdict::Verdict;
 use ospf_types::entry::{Entry, PathType};
 use ospf_types::key::Scope;
 use ospf_types::prefix::Prefix;
@@ -42,7 +47,10 @@ impl Rivals<'_> {
                 cost: Some(cost),
                 verdict: self.fate_within(offer, area, cost),
             },
-            Err(verdict) => Judged { cost: None, verdict },
+            Err(verdict) => Judged {
+                cost: None,
+                verdict,
+            },
         }
     }
 
@@ -81,7 +89,10 @@ impl Rivals<'_> {
                 cost: Some(key.cost),
                 verdict: self.fate_outside(key),
             },
-            Err(verdict) => Judged { cost: None, verdict },
+            Err(verdict) => Judged {
+                cost: None,
+                verdict,
+            },
         }
     }
 

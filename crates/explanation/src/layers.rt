@@ -3,7 +3,8 @@
 ghost use Rattle.std.specs.Prelude.{◌≡◌, ◌<◌, IfSome, IfNone, option_copied};
 ghost use Rattle.spf.specs.Maps.{most_distance};
 ghost use Rattle.intra.specs.Intras.{most_cost, reached_at};
-ghost use Rattle.explanation.specs.Layers.{AreAreas, HasArea, IsDistanceOf, IsKeyStanding, LacksArea, internal_at, is_examined};
+ghost use Rattle.explanation.specs.Layers.{AreAreas, HasArea, IsDistanceOf, IsKeyStanding};
+ghost use Rattle.explanation.specs.Layers.{LacksArea, internal_at, is_examined};
 
 use calculation::Calculation;
 use event_state::State;
@@ -11,7 +12,7 @@ use intra::AreaInputs;
 use ospf_types::entry::{Entry, Vertex};
 use ospf_types::key::{Dest, Key};
 use ospf_types::prefix::Prefix;
-use path_choice::ReachedRouter;
+use route_choice::ReachedRouter;
 
 // The Area ID of the backbone (RFC 2328, 3.1).
 const BACKBONE: u32 = 0;

@@ -5,7 +5,6 @@
 
 mod all_offers;
 mod explained;
-mod verdict;
 mod forward;
 mod grouping;
 mod judging;
@@ -18,8 +17,9 @@ mod outside;
 mod own_traces;
 mod trace;
 mod traces;
+mod verdict;
 
 pub use explained::{Candidate, explain};
+pub use offer::{LsaInstance, Offer, OfferKind};
+pub use trace::{Step, Trace, TraceNode};
 pub use verdict::Verdict;
-pub use offer::{Offer, OfferKind, LsaInstance};
-pub use trace::{TraceNode, Step, Trace};

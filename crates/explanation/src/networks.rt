@@ -2,11 +2,11 @@
 ghost use Rattle.std.specs.Prelude.{◌≡◌, Contains, IfNone, IfSome};
 ghost use Rattle.std.specs.List.Sorted.{IsStrictlySortedBy};
 ghost use Rattle.ospf_types.specs.Network.{network_cmp};
-ghost use Rattle.result_map.specs.Lists.{ListsExactly};
+ghost use Rattle.route_choice.specs.Lists.{ListsExactly};
 ghost use Rattle.explanation.specs.Offers.{IsPlaceOf, is_one_of};
 
 use ospf_types::prefix::Prefix;
-use result_map::sorted_unique;
+use route_choice::sorted_unique;
 use std::marker::Model;
 
 /// Networks in the order of addresses and then of prefix lengths, without duplicates.

@@ -5,16 +5,19 @@ ghost use Rattle.ospf_types.specs.Inter.{LSInfinity};
 ghost use Rattle.ospf_types.specs.Intra.{LiesIn};
 ghost use Rattle.intra.specs.Intras.{most_cost};
 ghost use Rattle.explanation.specs.Layers.{AreAreas};
-ghost use Rattle.explanation.specs.Offered.{HasInterfaceOn, IsExternalKey, IsFit, IsForwardedKey, IsOn, IsStubCost, IsSummaryCost, IsTransitCost, IsUnfit, LacksKey, LacksStubCost, LacksSummaryCost, LacksTransitCost, LeadsAt, LeadsNowhere, key_by};
+ghost use Rattle.explanation.specs.Offered.{HasInterfaceOn, IsExternalKey, IsFit, IsForwardedKey};
+ghost use Rattle.explanation.specs.Offered.{IsOn, IsStubCost, IsSummaryCost, IsTransitCost};
+ghost use Rattle.explanation.specs.Offered.{IsUnfit, LacksKey, LacksStubCost, LacksSummaryCost};
+ghost use Rattle.explanation.specs.Offered.{LacksTransitCost, LeadsAt, LeadsNowhere, key_by};
 
-use crate::verdict::Verdict;
 use crate::layers::Layers;
 use crate::offer::Offer;
+use crate::verdict::Verdict;
 use ospf_types::config::Interface;
 use ospf_types::entry::Vertex;
 use ospf_types::lsa::{ExternalFields, LS_INFINITY, MAX_AGE};
 use ospf_types::prefix::Prefix;
-use state_trees::is_up_in;
+use route_layers::is_up_in;
 
 /// The values by which AS-external-LSAs for one network are compared, in this order (16.4 (6)):
 /// type 1 before type 2, the metric of type 2, the class of 16.4.1, and the cost.
@@ -145,7 +148,11 @@ impl Layers<'_, '_> {
         ensures bounded { IfSome result (λ found. found.1 < most_cost) }
         ensures none { IfNone result (LeadsNowhere self.entry address) }
     {
-        let way = self.calculation.external().forwarding_match(address)?.way()?;
+        let way = self
+            .calculation
+            .external()
+            .forwarding_match(address)?
+            .way()?;
         Some((way.class(), way.cost()))
     }
 

@@ -4,7 +4,7 @@ ghost use Rattle.explanation.specs.Offers as said;
 ghost use Rattle.explanation.specs.Offers.{is_wanted, offers_among, offers_of, own_if};
 
 use crate::networks::Networks;
-use crate::offer::{Offer, OfferKind, LsaInstance};
+use crate::offer::{LsaInstance, Offer, OfferKind};
 use lsa_codec::Checked;
 use ospf_types::key::Scope;
 use ospf_types::lsa::{Link, LinkKind};

@@ -4,11 +4,12 @@ ghost use Rattle.std.specs.Prelude.{ℕ, ◌↔◌, Contains, IfNone, IfOk, IfSo
 ghost use Rattle.explanation.specs.Layers.{AreAreas};
 ghost use Rattle.explanation.specs.declared.trace.Step.{Step};
 ghost use Rattle.explanation.specs.Giving.{Adds};
-ghost use Rattle.explanation.specs.Outside.{AreOutside, AreTold, AreWithin, GivesTold, IsBoundaryIn, IsOwnStub, IsToldStep};
+ghost use Rattle.explanation.specs.Outside.{AreOutside, AreTold, AreWithin, GivesTold};
+ghost use Rattle.explanation.specs.Outside.{IsBoundaryIn, IsOwnStub, IsToldStep};
 
 use crate::layers::Layers;
-use crate::offer::{Offer, OfferKind, LsaInstance};
-use crate::trace::{TraceNode, Step, Trace};
+use crate::offer::{LsaInstance, Offer, OfferKind};
+use crate::trace::{Step, Trace, TraceNode};
 use ospf_types::entry::Vertex;
 use ospf_types::hop::Path;
 use ospf_types::key::{Dest, Key, Scope};

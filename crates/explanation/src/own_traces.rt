@@ -7,7 +7,7 @@ ghost use Rattle.explanation.specs.Traces.{AreOwnTraces, GivesOwn, IsOver};
 use crate::layers::Layers;
 use crate::offer::Offer;
 use crate::offered::is_on;
-use crate::trace::{TraceNode, Trace};
+use crate::trace::{Trace, TraceNode};
 use ospf_types::entry::Vertex;
 use ospf_types::hop::{NextHop, Path};
 use ospf_types::memory::Memory;

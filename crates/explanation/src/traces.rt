@@ -1,16 +1,19 @@
 //! The traces of the paths that an offer gives to a route (RFC 2328, 16.1.1 and 16.2).
-ghost use Rattle.std.specs.Prelude.{◌≡◌, ◌≢◌, [], ◌∷◌, IfNone, IfOk, IfSome, None, OnOk, All, Contains};
-ghost use Rattle.tree_paths.specs.LeastPaths.{links_at};
+ghost use Rattle.std.specs.Prelude.{◌≡◌, ◌≢◌, [], ◌∷◌, IfNone, IfOk, IfSome, None, OnOk, All};
+ghost use Rattle.std.specs.Prelude.{Contains};
+ghost use Rattle.area_trees.specs.LeastPaths.{links_at};
 ghost use Rattle.vertex_graph.specs.Graphs.{LinksOf};
 ghost use Rattle.area_trees.specs.Areas.{IsStanding};
 ghost use Rattle.intra.specs.Inputs.{HasTree};
 ghost use Rattle.explanation.specs.Layers.{AreAreas};
 ghost use Rattle.explanation.specs.Giving.{Adds};
-ghost use Rattle.explanation.specs.Traces.{AreLinksIn, AreLinkSteps, AreSteps, AreTracesBy, AreTracesTo, GivesTo, IsOneMore, IsSourceAt, advertiser_by, last_from, metric_by, vertex_by};
+ghost use Rattle.explanation.specs.Traces.{AreLinksIn, AreLinkSteps, AreSteps, AreTracesBy};
+ghost use Rattle.explanation.specs.Traces.{AreTracesTo, GivesTo, IsOneMore, IsSourceAt};
+ghost use Rattle.explanation.specs.Traces.{advertiser_by, last_from, metric_by, vertex_by};
 
 use crate::layers::Layers;
-use crate::offer::{Offer, OfferKind, LsaInstance};
-use crate::trace::{TraceNode, Step, Trace};
+use crate::offer::{LsaInstance, Offer, OfferKind};
+use crate::trace::{Step, Trace, TraceNode};
 use intra::AreaInputs;
 use ospf_types::entry::Vertex;
 use ospf_types::hop::{NextHop, Path};

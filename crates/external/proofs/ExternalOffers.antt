@@ -12,12 +12,12 @@ use Rattle.ospf_types.specs.declared.prefix.Prefix.{Prefix}
 use Rattle.ospf_types.specs.External.{ExternalPreference, external_cmp}
 use Rattle.ospf_types.specs.Hops.{path_cmp}
 use Rattle.ospf_types.specs.Routes.{entry_of, external_type}
-use Rattle.path_choice.specs.Choices.{Chosen, IsChosen}
-use Rattle.path_choice.specs.Takes.{OfferedBySome}
-use Rattle.path_choice.proofs.Taking.{takes_none, takes_same, taken_chosen}
-use Rattle.offer_index.specs.AdvertisedRoute.{AdvertisedValue}
-use Rattle.offer_index.specs.Indexes.{OfferIndexValue, IsInGroup}
-use Rattle.offer_index.specs.declared.index_key.IndexKey.TheVariants.{To}
+use Rattle.route_choice.specs.Choices.{Chosen, IsChosen}
+use Rattle.route_choice.specs.Takes.{OfferedBySome}
+use Rattle.route_choice.proofs.Taking.{takes_none, takes_same, taken_chosen}
+use Rattle.advertised_index.specs.AdvertisedRoute.{AdvertisedValue}
+use Rattle.advertised_index.specs.Indexes.{OfferIndexValue, IsInGroup}
+use Rattle.advertised_index.specs.declared.index_key.IndexKey.TheVariants.{To}
 use Rattle.external.specs.Choosing.{TakesPaths, PathsOffer, LeadsOffer, KeyOffers, NetworkOffers}
 use Rattle.external.specs.Externals.{IsEntryFor}
 use Rattle.external.specs.Forwards.{ForwardValue, ForwardsByAddress, internal_entry}

@@ -29,8 +29,8 @@ use Rattle.ospf_types.specs.Network.{network_cmp}
 use Rattle.intra.specs.Intras.{reached_at}
 use Rattle.intra.specs.ReachedRouter.{ReachedValue, HandsOut}
 use Rattle.intra.proofs.Frame.{best_same}
-use Rattle.offer_index.specs.AdvertisedRoute.{AdvertisedValue}
-use Rattle.offer_index.specs.Indexes.{OfferIndexValue, ChangedOffersValue, AreTouched, IsIndexOf, IsForwardedInto, IsForwardedTo, IsLedTo}
+use Rattle.advertised_index.specs.AdvertisedRoute.{AdvertisedValue}
+use Rattle.advertised_index.specs.Indexes.{OfferIndexValue, ChangedOffersValue, AreTouched, IsIndexOf, IsForwardedInto, IsForwardedTo, IsLedTo}
 use Rattle.external.specs.Changes.{InputsDifferAmong}
 use Rattle.external.specs.Externals.{ExternalValue, IsEntryFor, IsExternalOf, IsForwardIn}
 use Rattle.external.specs.Forwards.{ForwardValue, ForwardsByAddress, IsForwardOf, IsMatchOf, LeadsBy, Matches, class_in, internal_entry}

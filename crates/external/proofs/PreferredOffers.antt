@@ -10,10 +10,10 @@ use Rattle.ospf_types.specs.declared.key.Dest.TheVariants.{Router}
 use Rattle.ospf_types.specs.Boundary.{Preference, preference_cmp, class_of}
 use Rattle.ospf_types.specs.Hops.{hop_cmp}
 use Rattle.ospf_types.specs.Intra.{E}
-use Rattle.path_choice.specs.Choices.{Chosen, IsChosen}
+use Rattle.route_choice.specs.Choices.{Chosen, IsChosen}
 use Rattle.intra.specs.ReachedRouter.{ReachedValue}
-use Rattle.path_choice.specs.Takes.{OnlyOffer, OfferedBySome}
-use Rattle.path_choice.proofs.Taking.{takes_none, takes_same, takes_two, taken_chosen}
+use Rattle.route_choice.specs.Takes.{OnlyOffer, OfferedBySome}
+use Rattle.route_choice.proofs.Taking.{takes_none, takes_same, takes_two, taken_chosen}
 use Rattle.external.specs.Choosing.{TakesHops, HopsOffer, AreaOffers}
 use Rattle.external.specs.Inputs.{ExternalInputsValue}
 use Rattle.external.specs.AsbrRoute.{PreferredValue, ReachedOffers, EntryOffers, RouterOffers, IsPreferredFor}

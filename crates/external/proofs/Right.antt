@@ -23,7 +23,7 @@ use Rattle.ospf_types.proofs.Orders.{preference_total, preference_exact}
 use Rattle.lsdb.specs.Contents.{body_at}
 use Rattle.area_trees.proofs.Held.{under_key, among_values, held_by, used_of}
 use Rattle.intra.proofs.Frame.{best_same}
-use Rattle.offer_index.specs.AdvertisedRoute.{AdvertisedValue, advertised_at, unless_useless}
+use Rattle.advertised_index.specs.AdvertisedRoute.{AdvertisedValue, advertised_at, unless_useless}
 use Rattle.external.specs.Externals.{ExternalValue, IsEntryFor, IsExternalOf, IsForwardIn}
 use Rattle.external.specs.Forwards.{ForwardValue}
 use Rattle.external.specs.Inputs.{ExternalInputsValue}

@@ -12,11 +12,11 @@ use Rattle.ospf_types.specs.declared.key.Key.{Key}
 use Rattle.ospf_types.specs.declared.key.Scope.TheVariants.{As}
 use Rattle.ospf_types.specs.declared.prefix.Prefix.{Prefix}
 use Rattle.ospf_types.specs.External.{ExternalPreference}
-use Rattle.result_map.specs.Lists.{GainsAll, HasMore, IsOfSome}
-use Rattle.result_map.proofs.Among.{net_among, router_among}
+use Rattle.route_choice.specs.Lists.{GainsAll, HasMore, IsOfSome}
+use Rattle.route_choice.proofs.Among.{net_among, router_among}
 use Rattle.intra.specs.Intras.{EntriesByPrefix}
-use Rattle.offer_index.specs.AdvertisedRoute.{AdvertisedValue}
-use Rattle.offer_index.specs.Indexes.{ChangedOffersValue, IsIndexOf, OfferIndexValue}
+use Rattle.advertised_index.specs.AdvertisedRoute.{AdvertisedValue}
+use Rattle.advertised_index.specs.Indexes.{ChangedOffersValue, IsIndexOf, OfferIndexValue}
 use Rattle.external.specs.Changes.{DiffersAt}
 use Rattle.external.specs.Externals.{ExternalValue, IsEntryFor}
 use Rattle.external.specs.Forwards.{ForwardValue, ForwardsByAddress}

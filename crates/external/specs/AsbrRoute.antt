@@ -13,7 +13,7 @@ use Rattle.ospf_types.specs.Hops.{hop_cmp}
 use Rattle.ospf_types.specs.Intra.{E}
 use Rattle.intra.specs.Intras.{reached_at}
 use Rattle.intra.specs.ReachedRouter.{HandsOut}
-use Rattle.result_map.specs.Results.{Results}
+use Rattle.route_choice.specs.Results.{Results}
 use Rattle.external.specs.Inputs.{ExternalInputsValue}
 
 pub record PreferredValue : Type 0 where

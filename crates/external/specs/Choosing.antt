@@ -11,12 +11,12 @@ use Rattle.ospf_types.specs.External.{ExternalPreference, external_cmp}
 use Rattle.ospf_types.specs.Hops.{hop_cmp, path_cmp}
 use Rattle.ospf_types.specs.Inter.{through}
 use Rattle.ospf_types.specs.Intra.{E}
-use Rattle.path_choice.specs.Choices.{Chosen}
+use Rattle.route_choice.specs.Choices.{Chosen}
 use Rattle.intra.specs.ReachedRouter.{ReachedValue, HandsOut}
-use Rattle.path_choice.specs.Takes.{Takes, OnlyOffer, OfferedBySome}
-use Rattle.offer_index.specs.AdvertisedRoute.{AdvertisedValue}
-use Rattle.offer_index.specs.Indexes.{AdvertisedByKey, OfferIndexValue, IsInGroup}
-use Rattle.offer_index.specs.declared.index_key.IndexKey.TheVariants.{To}
+use Rattle.route_choice.specs.Takes.{Takes, OnlyOffer, OfferedBySome}
+use Rattle.advertised_index.specs.AdvertisedRoute.{AdvertisedValue}
+use Rattle.advertised_index.specs.Indexes.{AdvertisedByKey, OfferIndexValue, IsInGroup}
+use Rattle.advertised_index.specs.declared.index_key.IndexKey.TheVariants.{To}
 use Rattle.external.specs.Inputs.{ExternalInputsValue}
 use Rattle.external.specs.AsbrRoute.{PreferredByRouter, ReachedOffers}
 use Rattle.external.specs.Forwards.{ForwardsByAddress}

@@ -11,7 +11,7 @@ use Rattle.ospf_types.specs.External.{ExternalPreference, external_cmp}
 use Rattle.ospf_types.specs.Hops.{path_cmp}
 use Rattle.ospf_types.specs.Routes.{entry_of, external_type}
 use Rattle.intra.specs.Intras.{EntriesByPrefix}
-use Rattle.offer_index.specs.Indexes.{OfferIndexValue, IsIndexOf, IsForwardedTo}
+use Rattle.advertised_index.specs.Indexes.{OfferIndexValue, IsIndexOf, IsForwardedTo}
 use Rattle.external.specs.Inputs.{ExternalInputsValue}
 use Rattle.external.specs.AsbrRoute.{PreferredByRouter, RouterOffers, IsPreferredFor}
 use Rattle.external.specs.Forwards.{ForwardValue, ForwardsByAddress, IsForwardOf}

@@ -11,7 +11,7 @@ use Rattle.ospf_types.specs.Address.{HasAddress}
 use Rattle.ospf_types.specs.Boundary.{class_of}
 use Rattle.ospf_types.specs.External.{toward}
 use Rattle.active_ranges.specs.Active.{IsActiveIn}
-use Rattle.result_map.specs.Results.{Results}
+use Rattle.route_choice.specs.Results.{Results}
 use Rattle.external.specs.Inputs.{ExternalInputsValue}
 
 -- the class and the cost of a way, and its next hops

@@ -10,7 +10,7 @@ use Rattle.ospf_types.specs.declared.prefix.Prefix.{Prefix}
 use Rattle.ospf_types.specs.External.{ExternalPreference}
 use Rattle.ospf_types.specs.Inter.{through}
 use Rattle.lsdb.specs.Contents.{body_at}
-use Rattle.offer_index.specs.AdvertisedRoute.{AdvertisedValue, advertised_at}
+use Rattle.advertised_index.specs.AdvertisedRoute.{AdvertisedValue, advertised_at}
 use Rattle.external.specs.Inputs.{ExternalInputsValue}
 use Rattle.external.specs.AsbrRoute.{PreferredValue, PreferredByRouter}
 use Rattle.external.specs.Forwards.{ForwardValue, ForwardsByAddress, WayOffers, internal_entry}

@@ -9,10 +9,10 @@ use Rattle.ospf_types.specs.declared.key.Scope.TheVariants.{As}
 use Rattle.ospf_types.specs.declared.prefix.Prefix.{Prefix}
 use Rattle.ospf_types.specs.Boundary.{Preference}
 use Rattle.ospf_types.specs.declared.hop.NextHop.{NextHop}
-use Rattle.result_map.specs.Dests.{IsNetworkAmong}
-use Rattle.offer_index.specs.declared.index_key.IndexKey.TheVariants.{By, Forwarded}
-use Rattle.offer_index.specs.AdvertisedRoute.{AdvertisedValue}
-use Rattle.offer_index.specs.Indexes.{OfferIndexValue, ChangedOffersValue, IsIndexOf, IsForwardedInto, IsLedTo, GroupLeadsTo}
+use Rattle.route_choice.specs.Dests.{IsNetworkAmong}
+use Rattle.advertised_index.specs.declared.index_key.IndexKey.TheVariants.{By, Forwarded}
+use Rattle.advertised_index.specs.AdvertisedRoute.{AdvertisedValue}
+use Rattle.advertised_index.specs.Indexes.{OfferIndexValue, ChangedOffersValue, IsIndexOf, IsForwardedInto, IsLedTo, GroupLeadsTo}
 use Rattle.external.specs.Inputs.{ExternalInputsValue}
 use Rattle.external.specs.AsbrRoute.{PreferredByRouter, RouterOffers, IsPreferredFor}
 use Rattle.external.specs.Forwards.{ForwardValue, ForwardsByAddress}

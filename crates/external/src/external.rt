@@ -4,7 +4,8 @@ ghost use Rattle.std.specs.List.{AllPairs};
 ghost use Rattle.std.specs.List.Sorted.{IsStrictlySortedBy};
 ghost use Rattle.ospf_types.specs.Keys.{dest_cmp};
 ghost use Rattle.active_ranges.specs.Lists.{ListsExactly};
-ghost use Rattle.external.specs.Externals.{HasEntry, HasPreferred, IsExternalOf, no_routes, spent_routes};
+ghost use Rattle.external.specs.Externals.{HasEntry, HasPreferred, IsExternalOf, no_routes};
+ghost use Rattle.external.specs.Externals.{spent_routes};
 ghost use Rattle.external.specs.Changes.{AreRoutesBehind, DiffersAt};
 ghost use Rattle.external.specs.Updating.{HasBoundaryRouters, StandsBut, StandsButRouters};
 ghost use Rattle.external.specs.Right.{IsRightWith};
@@ -16,13 +17,13 @@ use crate::preferred::AsbrRoute;
 use crate::update::{
     Forwarding, Preferring, list_dests_by_addresses, list_dests_by_routers, list_dests_led_to,
 };
+use advertised_index::{AdvertisedIndex, AffectedDests, ScopeDatabase};
 use intra::Dirty;
-use offer_index::{AffectedDests, AdvertisedIndex, ScopeDatabase};
 use ospf_types::entry::Entry;
 use ospf_types::key::{Dest, Scope};
 use ospf_types::memory::Memory;
 use ospf_types::prefix::Prefix;
-use result_map::{ResultMap, dests_of, networks_among, routers_among};
+use route_choice::{ResultMap, dests_of, networks_among, routers_among};
 use std::alloc::Global;
 use std::hash::RandomState;
 use std::marker::Model;
@@ -58,7 +59,7 @@ impl Model for External {
     ghost use Rattle.ospf_types.specs.Network.{network_code};
     ghost use Rattle.ospf_types.specs.contracts.entry.Entry as entry;
     ghost use Rattle.intra.specs.Intras.{EntriesByPrefix};
-    ghost use Rattle.offer_index.specs.contracts.index.AdvertisedIndex as kept_index;
+    ghost use Rattle.advertised_index.specs.contracts.index.AdvertisedIndex as kept_index;
     ghost use Rattle.external.specs.AsbrRoute.{PreferredByRouter};
     ghost use Rattle.external.specs.Forwards.{ForwardsByAddress};
     ghost use Rattle.external.specs.Externals.{ExternalValue};

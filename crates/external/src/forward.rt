@@ -1,8 +1,10 @@
 //! The longest match of a forwarding address, and the path there (RFC 2328, 16.4).
-ghost use Rattle.std.specs.Prelude.{◌≡◌, ◌↔◌, ◌<◌, Some, IfOk, IfSome, IsSome, IsTrue, option_copied};
+ghost use Rattle.std.specs.Prelude.{◌≡◌, ◌↔◌, ◌<◌, Some, IfOk, IfSome, IsSome, IsTrue};
+ghost use Rattle.std.specs.Prelude.{option_copied};
 ghost use Rattle.ospf_types.specs.External.{toward};
 ghost use Rattle.inter.specs.Inters.{most_cost};
-ghost use Rattle.external.specs.Forwards.{HaveOneCost, IsForwardOf, IsMatchOf, IsWayBy, Matches, class_at, hops_toward, internal_entry};
+ghost use Rattle.external.specs.Forwards.{HaveOneCost, IsForwardOf, IsMatchOf, IsWayBy, Matches};
+ghost use Rattle.external.specs.Forwards.{class_at, hops_toward, internal_entry};
 
 use crate::inputs::ExternalInputs;
 use crate::preferred::class_of;
@@ -11,7 +13,7 @@ use ospf_types::hop::{NextHop, Path};
 use ospf_types::key::Dest;
 use ospf_types::memory::Memory;
 use ospf_types::prefix::Prefix;
-use result_map::{Same, are_same};
+use route_choice::{Same, are_same};
 use std::alloc::Global;
 use std::marker::Model;
 

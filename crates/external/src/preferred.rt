@@ -1,18 +1,18 @@
 //! The preferred route of an AS boundary router (RFC 2328, 16.4 and 16.4.1).
 ghost use Rattle.std.specs.Prelude.{◌≡◌, ◌↔◌, ◌<◌, Some, IfOk, OnOk, IsTrue};
 ghost use Rattle.ospf_types.specs.Boundary.{class_of};
-ghost use Rattle.path_choice.specs.Takes.{OnlyOffer, OfferedBySome};
+ghost use Rattle.route_choice.specs.Takes.{OnlyOffer, OfferedBySome};
 ghost use Rattle.inter.specs.Inters.{most_cost};
 ghost use Rattle.external.specs.Choosing.{TakesHops, HopsOffer, AreaOffers, AreasOffer};
-ghost use Rattle.external.specs.AsbrRoute.{RouterOffers, ReachedOffers, EntryOffers, InterEntryOffers, IsPreferredFor};
+ghost use Rattle.external.specs.AsbrRoute.{RouterOffers, ReachedOffers, EntryOffers};
+ghost use Rattle.external.specs.AsbrRoute.{InterEntryOffers, IsPreferredFor};
 
 use crate::inputs::ExternalInputs;
 use ospf_types::entry::Entry;
 use ospf_types::hop::{NextHop, Path};
 use ospf_types::key::Dest;
 use ospf_types::memory::Memory;
-use path_choice::{Best, Choice, ExactOrd, ReachedRouter};
-use result_map::Same;
+use route_choice::{Best, Choice, ExactOrd, ReachedRouter, Same};
 use smallvec::SmallVec;
 use std::alloc::Global;
 use std::cmp::Reverse;

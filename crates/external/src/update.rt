@@ -1,22 +1,24 @@
 //! The updates of results: preferred routes, then matches of forwarding addresses, then networks.
 ghost use Rattle.std.specs.Prelude.{◌↔◌, IfOk, OnOk, IsTrue, option_copied};
 ghost use Rattle.std.specs.Ordering.{nat_cmp};
-ghost use Rattle.result_map.specs.Chosen.{AreChosen, HasChanged};
-ghost use Rattle.result_map.specs.Dests.{IsNetworkAmong};
-ghost use Rattle.result_map.specs.Lists.{GainsAll, HasAll, ListsExactly, HasMore, IsOfSome};
-ghost use Rattle.result_map.specs.Results.{result_at};
+ghost use Rattle.route_choice.specs.Chosen.{AreChosen, HasChanged};
+ghost use Rattle.route_choice.specs.Dests.{IsNetworkAmong};
+ghost use Rattle.route_choice.specs.Lists.{GainsAll, HasAll, ListsExactly, HasMore, IsOfSome};
+ghost use Rattle.route_choice.specs.Results.{result_at};
 ghost use Rattle.external.specs.Externals.{IsForwardIn};
 ghost use Rattle.external.specs.Forwards.{forwards_in};
-ghost use Rattle.external.specs.Updating.{IsAddressDue, IsAlso, IsDueAt, IsDueInDest, IsDueInNetwork, IsLedBy, IsLedByAddress, IsNoShorter, IsNoShorterThan, StandsButDue};
+ghost use Rattle.external.specs.Updating.{IsAddressDue, IsAlso, IsDueAt, IsDueInDest};
+ghost use Rattle.external.specs.Updating.{IsDueInNetwork, IsLedBy, IsLedByAddress, IsNoShorter};
+ghost use Rattle.external.specs.Updating.{IsNoShorterThan, StandsButDue};
 
 use crate::forward::{ForwardingMatch, look_up};
 use crate::inputs::ExternalInputs;
 use crate::preferred::{AsbrRoute, choose_preferred};
-use offer_index::{IndexKey, AdvertisedIndex};
+use advertised_index::{AdvertisedIndex, IndexKey};
 use ospf_types::key::Dest;
 use ospf_types::memory::Memory;
 use ospf_types::prefix::Prefix;
-use result_map::{Choose, ResultMap};
+use route_choice::{Choose, ResultMap};
 use std::alloc::Global;
 
 // ---- how results are chosen
@@ -236,7 +238,11 @@ pub(crate) fn list_dests_led_to(
 }
 
 // Appends the destination if an LSA leads to it.
-fn list_if_led_to(index: &AdvertisedIndex, dest: &Dest, leading: &mut Vec<Dest>) -> Result<(), Memory>
+fn list_if_led_to(
+    index: &AdvertisedIndex,
+    dest: &Dest,
+    leading: &mut Vec<Dest>,
+) -> Result<(), Memory>
     ensures { OnOk result (GainsAll (IsAlso index.now dest.now)
         leading.old.items leading.new.items) }
 {

@@ -4,10 +4,13 @@
 //! summaries due in the backbone. README quotes `main`.
 #![tactic(auto)]
 
+mod engine_sample;
+
 use abr_router::{
     Address, AreaConfig, Areas, Config, Core, Dest, DueSummary, Event, Memory, Ranges, Scope, read,
 };
 use anyhow::Result;
+use engine_sample::run_sample;
 use std::alloc::Global;
 use std::hash::RandomState;
 use std::io;
@@ -31,7 +34,7 @@ fn main(rt: HostRuntime) -> Result<()> {
     for due in core.due(0).unwrap_or(&[]) {
         print_due(&rt, due)?;
     }
-    Ok(())
+    run_sample(&rt)
 }
 
 // Returns the configuration of a router with the backbone and the area 0.0.0.1 (C.1, C.2).

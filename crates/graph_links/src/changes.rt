@@ -1,13 +1,17 @@
 //! The links that a change removes and adds, by the rows before and after it.
-ghost use Rattle.std.specs.Prelude.{◌≡◌, ◌↔◌, ◌≤◌, length, take, IsTrue, IfOk, OnOk, Contains, option_copied};
-ghost use Rattle.graph_links.specs.Differing.{AddsAtMost, AddsUnless, AddsUnlike, HaveSameBack, HaveSameLinks, IsByCost, IsCountCheaper, KeepsApartWith};
+ghost use Rattle.std.specs.Prelude.{◌≡◌, ◌↔◌, ◌≤◌, length, take, IsTrue, IfOk, OnOk, Contains};
+ghost use Rattle.std.specs.Prelude.{option_copied};
+ghost use Rattle.graph_links.specs.Differing.{AddsAtMost, AddsUnless, AddsUnlike, HaveSameBack};
+ghost use Rattle.graph_links.specs.Differing.{HaveSameLinks, IsByCost, IsCountCheaper};
+ghost use Rattle.graph_links.specs.Differing.{KeepsApartWith};
 ghost use Rattle.graph_links.specs.Pairs.{AreApart};
-ghost use Rattle.graph_links.specs.Sides.{AreOwn, HaveCome, HaveDifferentVertices, HaveGone, out_of};
+ghost use Rattle.graph_links.specs.Sides.{AreOwn, HaveCome, HaveDifferentVertices, HaveGone};
+ghost use Rattle.graph_links.specs.Sides.{out_of};
 
-use crate::row_update::RowUpdate;
+use crate::graph_view::find_row;
 use crate::link::{Link, LinkChanges};
 use crate::row::{Row, Rows};
-use crate::graph_view::find_row;
+use crate::row_update::RowUpdate;
 use ospf_types::memory::Memory;
 use std::alloc::Global;
 

@@ -6,10 +6,10 @@ ghost use Rattle.graph_links.specs.Pairs.{AreAllAt, KeepsApart};
 ghost use Rattle.graph_links.specs.Sides as sides;
 
 use crate::at_vertex::ends_at;
-use crate::link_end::LinkEnd;
 use crate::link::Link;
-use crate::vertex_pair::{Facing, RootInterfaces, VertexPair};
+use crate::link_end::LinkEnd;
 use crate::row::{Row, Rows, StagedEnds};
+use crate::vertex_pair::{Facing, RootInterfaces, VertexPair};
 use ospf_types::entry::Vertex;
 use ospf_types::memory::Memory;
 use std::alloc::Global;

@@ -8,22 +8,22 @@
 
 mod at_vertex;
 mod changes;
-mod link_end;
-mod row_update;
+mod graph_view;
 mod label;
 mod link;
-mod vertex_pair;
-mod row_hints;
-mod row;
-mod graph_view;
+mod link_end;
 mod parallel_links;
+mod row;
+mod row_hints;
+mod row_update;
+mod vertex_pair;
 
 pub use changes::{changed_links, out_links};
-pub use link_end::LinkEnd;
-pub use row_update::{RowUpdate, RowPool, row_updates, place};
+pub use graph_view::{GraphView, ends_of_row, ends_or_empty, find_row, staged_ends};
 pub use label::LinkLabel;
 pub use link::{Link, LinkChanges, Up};
-pub use vertex_pair::RootInterfaces;
-pub use row_hints::hinted_by;
+pub use link_end::LinkEnd;
 pub use row::{Row, Rows, StagedEnds};
-pub use graph_view::{GraphView, ends_of_row, find_row, staged_ends, ends_or_empty};
+pub use row_hints::hinted_by;
+pub use row_update::{RowPool, RowUpdate, place, row_updates};
+pub use vertex_pair::RootInterfaces;

@@ -3,8 +3,8 @@ ghost use Rattle.std.specs.Prelude.{◌<◌, ◌≢◌, ◌∷◌, [], OnOk, IfO
 ghost use Rattle.std.specs.List.{AllPairs};
 ghost use Rattle.graph_links.specs.Pairs.{AddsRootWays, AddsWays, AreWays};
 
-use crate::link_end::LinkEnd;
 use crate::link::Up;
+use crate::link_end::LinkEnd;
 use crate::vertex_pair::RootInterfaces;
 use ospf_types::memory::Memory;
 use smallvec::SmallVec;

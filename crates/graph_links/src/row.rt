@@ -1,9 +1,9 @@
 //! The rows of a graph, one for each vertex.
-use crate::link_end::LinkEnd;
 use crate::link::Link;
+use crate::link_end::LinkEnd;
 use indexmap::IndexMap;
+use ospf_types::WordHash;
 use ospf_types::entry::Vertex;
-use word_hash::WordHash;
 
 /// The row of a vertex: its link ends, and its links.
 pub struct Row {

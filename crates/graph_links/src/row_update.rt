@@ -2,14 +2,15 @@
 ghost use Rattle.std.specs.Prelude.{◌≡◌, ◌+◌, ◌≤◌, ◌<◌, [], ◌∷◌, IfOk, IfSome, OnOk, length};
 ghost use Rattle.std.specs.HashMap.{spare};
 ghost use Rattle.graph_links.specs.Places.{IsAt, PutsRow, PutsRowAt};
-ghost use Rattle.graph_links.specs.Sides.{AreFreshIn, IsFreshRowIn, IsInOrder, IsPlaced, IsRow, LinksIn, all_ends, ends_in};
+ghost use Rattle.graph_links.specs.Sides.{AreFreshIn, IsFreshRowIn, IsInOrder, IsPlaced, IsRow};
+ghost use Rattle.graph_links.specs.Sides.{LinksIn, all_ends, ends_in};
 
 use crate::at_vertex::past_from;
-use crate::link_end::LinkEnd;
-use crate::vertex_pair::Facing;
-use crate::row_hints::next_placed;
-use crate::row::{Row, Rows};
 use crate::graph_view::{GraphView, links_at};
+use crate::link_end::LinkEnd;
+use crate::row::{Row, Rows};
+use crate::row_hints::next_placed;
+use crate::vertex_pair::Facing;
 use ospf_types::entry::Vertex;
 use ospf_types::memory::Memory;
 use std::alloc::Global;

@@ -1,11 +1,13 @@
 //! The links from one vertex to another that links back to it.
 ghost use Rattle.std.specs.Prelude.{◌≡◌, ◌<◌, length, OnOk, IsOk, IfOk};
 ghost use Rattle.ospf_types.specs.declared.label.Label.TheVariants.{At};
-ghost use Rattle.graph_links.specs.Pairs.{AddsBetween, AddsBy, AddsOnce, AddsOnto, AddsOver, AddsPlain, AreCheap, KeepsApart, details_of, link_by, turned};
+ghost use Rattle.graph_links.specs.Pairs.{AddsBetween, AddsBy, AddsOnce, AddsOnto, AddsOver};
+ghost use Rattle.graph_links.specs.Pairs.{AddsPlain, AreCheap, KeepsApart, details_of, link_by};
+ghost use Rattle.graph_links.specs.Pairs.{turned};
 
-use crate::link_end::LinkEnd;
 use crate::label::LinkLabel;
 use crate::link::{Link, Up};
+use crate::link_end::LinkEnd;
 use crate::parallel_links::{ParallelLink, ways_over};
 use ospf_types::entry::Vertex;
 use ospf_types::listed::Listed;

@@ -1,1 +1,4 @@
+pub mod Shortened
+pub mod Tails
+pub mod Taking
 pub mod Faults

@@ -13,14 +13,14 @@ use Rattle.ospf_types.specs.Hops.{path_cmp}
 use Rattle.ospf_types.specs.Intra.{B}
 use Rattle.ospf_types.specs.Routes.{entry_of}
 use Rattle.ospf_types.proofs.Elements.{no_element}
-use Rattle.path_choice.specs.Choices.{Chosen, IsChosen}
+use Rattle.route_choice.specs.Choices.{Chosen, IsChosen}
 use Rattle.intra.specs.Intras.{AreaIntraValue, reached_at}
 use Rattle.intra.specs.ReachedRouter.{ReachedValue, HandsOut}
-use Rattle.path_choice.specs.Takes.{OfferedBySome}
-use Rattle.path_choice.proofs.Taking.{takes_none, takes_same, taken_chosen}
-use Rattle.offer_index.specs.AdvertisedRoute.{AdvertisedValue}
-use Rattle.offer_index.specs.Indexes.{OfferIndexValue, IsInGroup}
-use Rattle.offer_index.specs.declared.index_key.IndexKey.TheVariants.{To}
+use Rattle.route_choice.specs.Takes.{OfferedBySome}
+use Rattle.route_choice.proofs.Taking.{takes_none, takes_same, taken_chosen}
+use Rattle.advertised_index.specs.AdvertisedRoute.{AdvertisedValue}
+use Rattle.advertised_index.specs.Indexes.{OfferIndexValue, IsInGroup}
+use Rattle.advertised_index.specs.declared.index_key.IndexKey.TheVariants.{To}
 use Rattle.inter.specs.Choosing.{IsListed, IsChosenIn, TakesPaths, KeyOffers, HopsOffer}
 use Rattle.inter.specs.Inputs.{InterInputsValue}
 use Rattle.inter.specs.Inters.{IsEntryFor}

@@ -15,7 +15,7 @@ use Rattle.ospf_types.specs.Keys.{key_cmp}
 use Rattle.ospf_types.proofs.Elements.{no_element}
 use Rattle.lsdb.specs.Databases.{Database}
 use Rattle.ospf_types.proofs.Elements.{contains_more}
-use Rattle.offer_index.specs.Indexes.{OfferIndexValue, ChangedOffersValue, AreTouched, IsIndexOf, LsasDifferAmong, IsLedTo, HasDest}
+use Rattle.advertised_index.specs.Indexes.{OfferIndexValue, ChangedOffersValue, AreTouched, IsIndexOf, LsasDifferAmong, IsLedTo, HasDest}
 use Rattle.inter.specs.Following.{area_of, ExaminedDifferAmong, IsIndexBefore, IsIndexSince, AreLed, IsPushed, ArePushed, IsFollowed}
 use Rattle.inter.specs.Inputs.{ExaminedValue, InterInputsValue}
 use Rattle.inter.specs.Inters.{IsIndexFor}

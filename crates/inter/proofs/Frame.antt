@@ -21,8 +21,8 @@ use Rattle.ospf_types.specs.Keys.{dest_cmp}
 use Rattle.intra.specs.Intras.{reached_at}
 use Rattle.intra.specs.ReachedRouter.{ReachedValue, HandsOut}
 use Rattle.intra.proofs.Frame.{best_same}
-use Rattle.offer_index.specs.AdvertisedRoute.{AdvertisedValue}
-use Rattle.offer_index.specs.Indexes.{OfferIndexValue, HasDest}
+use Rattle.advertised_index.specs.AdvertisedRoute.{AdvertisedValue}
+use Rattle.advertised_index.specs.Indexes.{OfferIndexValue, HasDest}
 use Rattle.inter.specs.Changes.{InputsDifferAmong}
 use Rattle.inter.specs.Choosing.{IsListed, IsChosenWhere, IsChosenFor}
 use Rattle.inter.specs.Following.{area_of, IsFollowed}

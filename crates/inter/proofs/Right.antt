@@ -27,7 +27,7 @@ use Rattle.area_trees.proofs.Held.{under_key, among_values, held_by, used_of}
 use Rattle.intra.specs.Intras.{AreaIntraValue, reached_at, IsEntryFor as IsIntraEntry}
 use Rattle.intra.specs.ReachedRouter.{ReachedValue, HandsOut}
 use Rattle.intra.specs.Right.{AreRoutersRight}
-use Rattle.offer_index.specs.AdvertisedRoute.{AdvertisedValue, advertised_at, plain, unless_useless}
+use Rattle.advertised_index.specs.AdvertisedRoute.{AdvertisedValue, advertised_at, plain, unless_useless}
 use Rattle.inter.specs.Inputs.{ExaminedValue, InterInputsValue}
 use Rattle.inter.specs.Inters.{InterValue, IsEntryIn, IsInterOf, IsEntryFor}
 use Rattle.inter.specs.Offers.{OffersOf}

@@ -8,7 +8,7 @@ use Rattle.ospf_types.specs.declared.key.Scope.{Scope}
 use Rattle.ospf_types.specs.declared.key.Scope.TheVariants.{Area}
 use Rattle.ospf_types.specs.declared.prefix.Prefix.{Prefix}
 use Rattle.intra.specs.Intras.{reached_at}
-use Rattle.offer_index.specs.Indexes.{LsasDifferAmong}
+use Rattle.advertised_index.specs.Indexes.{LsasDifferAmong}
 use Rattle.active_ranges.specs.Active.{IsActiveIn}
 use Rattle.inter.specs.Inputs.{ExaminedValue, InterInputsValue}
 use Rattle.inter.specs.Inters.{InterValue, IsInterOf}

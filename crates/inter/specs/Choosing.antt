@@ -10,12 +10,12 @@ use Rattle.ospf_types.specs.declared.key.Key.{Key}
 use Rattle.ospf_types.specs.Hops.{path_cmp}
 use Rattle.ospf_types.specs.Inter.{through}
 use Rattle.ospf_types.specs.Intra.{B}
-use Rattle.path_choice.specs.Choices.{Chosen}
+use Rattle.route_choice.specs.Choices.{Chosen}
 use Rattle.intra.specs.Intras.{AreaIntraValue, reached_at}
 use Rattle.intra.specs.ReachedRouter.{HandsOut}
-use Rattle.path_choice.specs.Takes.{Takes, OnlyOffer, OfferedBySome}
-use Rattle.offer_index.specs.AdvertisedRoute.{AdvertisedValue}
-use Rattle.offer_index.specs.Indexes.{OfferIndexValue}
+use Rattle.route_choice.specs.Takes.{Takes, OnlyOffer, OfferedBySome}
+use Rattle.advertised_index.specs.AdvertisedRoute.{AdvertisedValue}
+use Rattle.advertised_index.specs.Indexes.{OfferIndexValue}
 use Rattle.inter.specs.Inputs.{InterInputsValue, examined_area}
 use Rattle.inter.specs.Inters.{IsEntryFor}
 use Rattle.inter.specs.Offers.{OffersBy}

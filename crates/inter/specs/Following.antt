@@ -7,8 +7,8 @@ use Rattle.ospf_types.specs.declared.key.Key.{Key}
 use Rattle.ospf_types.specs.declared.key.Scope.{Scope}
 use Rattle.ospf_types.specs.declared.key.Scope.TheVariants.{Area}
 use Rattle.lsdb.specs.Databases.{Database}
-use Rattle.offer_index.specs.Indexes.{OfferIndexValue, IsIndexOf, LsasDifferAmong, GroupLeadsTo, IsLedTo, HasDest}
-use Rattle.offer_index.specs.declared.index_key.IndexKey.TheVariants.{By}
+use Rattle.advertised_index.specs.Indexes.{OfferIndexValue, IsIndexOf, LsasDifferAmong, GroupLeadsTo, IsLedTo, HasDest}
+use Rattle.advertised_index.specs.declared.index_key.IndexKey.TheVariants.{By}
 use Rattle.inter.specs.Inputs.{ExaminedValue, InterInputsValue}
 use Rattle.inter.specs.Inters.{IsIndexFor}
 

@@ -13,7 +13,7 @@ use Rattle.ospf_types.specs.Hops.{path_cmp}
 use Rattle.ospf_types.specs.Keys.{dest_cmp}
 use Rattle.ospf_types.specs.Routes.{entry_of}
 pub use Rattle.intra.specs.Intras.{most_cost}
-use Rattle.offer_index.specs.Indexes.{OfferIndexValue, IsIndexOf}
+use Rattle.advertised_index.specs.Indexes.{OfferIndexValue, IsIndexOf}
 use Rattle.inter.specs.Inputs.{ExaminedValue, InterInputsValue, examined_area}
 use Rattle.inter.specs.Offers.{OffersOf}
 

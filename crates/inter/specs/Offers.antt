@@ -12,7 +12,7 @@ use Rattle.ospf_types.specs.Intra.{B, E}
 use Rattle.lsdb.specs.Contents.{body_at}
 use Rattle.intra.specs.Intras.{AreaIntraValue, reached_at}
 use Rattle.intra.specs.ReachedRouter.{HandsOut}
-use Rattle.offer_index.specs.AdvertisedRoute.{AdvertisedValue, advertised_at}
+use Rattle.advertised_index.specs.AdvertisedRoute.{AdvertisedValue, advertised_at}
 use Rattle.active_ranges.specs.Active.{IsActiveIn}
 use Rattle.inter.specs.Inputs.{ExaminedValue, InterInputsValue}
 

@@ -9,14 +9,13 @@ ghost use Rattle.inter.specs.Offers.{IsBoundaryIn, IsTakenBelow};
 
 use crate::cost::{InterEntry, SummaryCost};
 use crate::inputs::InterInputs;
+use advertised_index::{AdvertisedIndex, IndexKey};
 use intra::Intra;
-use offer_index::{IndexKey, AdvertisedIndex};
 use ospf_types::entry::{Entry, PathType, Paths};
 use ospf_types::hop::Path;
 use ospf_types::key::{Dest, Key};
 use ospf_types::memory::Memory;
-use path_choice::{Best, Choice, offer_hops};
-use result_map::Choose;
+use route_choice::{Best, Choice, Choose, offer_hops};
 use std::alloc::Global;
 
 /// The inputs of a choice, and the index of the summaries.

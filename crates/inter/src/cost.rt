@@ -4,8 +4,7 @@ ghost use Rattle.ospf_types.specs.Inter.{LSInfinity};
 ghost use Rattle.inter.specs.Inters.{most_cost};
 
 use ospf_types::entry::Entry;
-use path_choice::ExactOrd;
-use result_map::Same;
+use route_choice::{ExactOrd, Same};
 use std::marker::Model;
 
 /// The sum of the distance of a border router and the metric of its summary.

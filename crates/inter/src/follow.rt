@@ -1,14 +1,15 @@
 //! Updates of the index by the LSAs of the examined area, and the destinations whose entry may
 //! change.
 ghost use Rattle.std.specs.Prelude.{◌≡◌, Contains, OnOk};
-ghost use Rattle.offer_index.specs.Indexes.{AreTouched, IsLedTo, empty_index};
-ghost use Rattle.offer_index.specs.Lists.{KeepsAll};
-ghost use Rattle.inter.specs.Following.{IsIndexBefore, IsIndexSince, AreLed, HasAllBehind, IsPushed, ArePushed};
+ghost use Rattle.advertised_index.specs.Indexes.{AreTouched, IsLedTo, empty_index};
+ghost use Rattle.advertised_index.specs.Lists.{KeepsAll};
+ghost use Rattle.inter.specs.Following.{IsIndexBefore, IsIndexSince, AreLed, HasAllBehind};
+ghost use Rattle.inter.specs.Following.{IsPushed, ArePushed};
 ghost use Rattle.inter.specs.Inputs.{examined_area};
 ghost use Rattle.inter.specs.Inters.{IsIndexFor};
 
 use crate::inputs::InterInputs;
-use offer_index::{AffectedDests, IndexKey, AdvertisedIndex, ScopeDatabase};
+use advertised_index::{AdvertisedIndex, AffectedDests, IndexKey, ScopeDatabase};
 use ospf_types::key::{Dest, Key, Scope};
 use ospf_types::memory::Memory;
 
@@ -59,7 +60,11 @@ impl InterInputs<'_> {
     }
 
     // Adds all LSAs of the examined area to an empty index.
-    fn follow_all(&self, index: &mut AdvertisedIndex, affected: &mut AffectedDests) -> Result<(), Memory>
+    fn follow_all(
+        &self,
+        index: &mut AdvertisedIndex,
+        affected: &mut AffectedDests,
+    ) -> Result<(), Memory>
         requires { index.old ≡ empty_index }
         ensures index { OnOk result (IsIndexFor self.now.root self.now.examined index.new) }
         ensures touched { OnOk result (AreTouched index.old index.new affected.old affected.new) }

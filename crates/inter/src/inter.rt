@@ -14,12 +14,12 @@ use crate::choose::Choosing;
 use crate::cost::InterEntry;
 use crate::follow::push_named;
 use crate::inputs::InterInputs;
+use advertised_index::{AdvertisedIndex, AffectedDests};
 use intra::Dirty;
-use offer_index::{AffectedDests, AdvertisedIndex};
 use ospf_types::entry::Entry;
 use ospf_types::key::Dest;
 use ospf_types::memory::Memory;
-use result_map::ResultMap;
+use route_choice::ResultMap;
 use std::alloc::Global;
 use std::hash::RandomState;
 use std::marker::Model;
@@ -52,7 +52,7 @@ impl Model for Inter {
     ghost use Rattle.std.specs.Coded.{Coded, codes};
     ghost use Rattle.ospf_types.specs.contracts.entry.Entry as entry;
     ghost use Rattle.ospf_types.specs.contracts.key.Dest as dest;
-    ghost use Rattle.offer_index.specs.contracts.index.AdvertisedIndex as kept_index;
+    ghost use Rattle.advertised_index.specs.contracts.index.AdvertisedIndex as kept_index;
     ghost use Rattle.inter.specs.Inters.{InterValue, EntriesByDest};
 
     ghost Value = { InterValue };

@@ -21,8 +21,8 @@ use Rattle.intra.specs.Indexes.{IndexValue, IsIndex, IsIndexOf, IsOfferedFor, Ar
 use Rattle.intra.specs.Intras.{AreaIntraValue}
 use Rattle.intra.specs.Following.{LsasDifferAmong, NamesVertex, NamesIn, IsCurrent, IsTaken, HasOffered, IsGathered, AreRoutersUpdated, IsRouterNamed, flags_in, router_now, with_index_of}
 use Rattle.ospf_types.proofs.VertexOrder.{vertex_total, vertex_exact}
-use Rattle.result_map.proofs.Adding.{more_one}
-pub use Rattle.result_map.proofs.KeyedMaps.{one_or_other}
+use Rattle.route_choice.proofs.Adding.{more_one}
+pub use Rattle.route_choice.proofs.KeyedMaps.{one_or_other}
 
 -- ---- the index follows
 

@@ -20,7 +20,7 @@ use Rattle.intra.specs.Indexes.{IndexValue, OfferedValue, SourcesByPrefix, IsInd
 use Rattle.intra.specs.IndexSteps.{AreGone, HaveCome, IsPrefixOf, IsOfferOf, AreAlike}
 use Rattle.ospf_types.proofs.VertexOrder.{vertices_equal, vertices_decided, vertex_total, vertex_exact}
 use Rattle.ospf_types.proofs.KeyOrders.{prefixes_equal, prefixes_decided}
-use Rattle.result_map.proofs.KeyedMaps.{set_here, set_elsewhere, gone_here, gone_elsewhere}
+use Rattle.route_choice.proofs.KeyedMaps.{set_here, set_elsewhere, gone_here, gone_elsewhere}
 
 abbrev source_of : Vertex → ℕ → Source
 source_of w metric = record { vertex = w; metric = metric }

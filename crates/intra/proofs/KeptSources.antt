@@ -11,7 +11,7 @@ use Rattle.smallvec.specs.SmallVec.{SmallVec}
 use Rattle.ospf_types.specs.Network.{Network, network_cmp}
 use Rattle.ospf_types.proofs.KeyOrders.{prefixes_equal}
 use Rattle.ospf_types.proofs.Orders.{network_total, network_exact}
-use Rattle.result_map.proofs.KeyedMaps.{one_or_other, set_here, set_elsewhere, gone_here, gone_elsewhere}
+use Rattle.route_choice.proofs.KeyedMaps.{one_or_other, set_here, set_elsewhere, gone_here, gone_elsewhere}
 use Rattle.intra.specs.declared.area_index.Source.{Source}
 use Rattle.intra.specs.Indexes.{SourcesByPrefix, AreSourceLists}
 use Rattle.intra.proofs.SourceMaps.{sources_map, sources_written, sources_removed}

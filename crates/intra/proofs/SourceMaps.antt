@@ -9,7 +9,7 @@ use Rattle.ospf_types.proofs.Orders.{network_total, network_exact}
 use Rattle.intra.specs.declared.area_index.Source.{Source}
 use Rattle.intra.specs.Indexes.{SourcesByPrefix, sources_of}
 use Rattle.ospf_types.proofs.KeyOrders.{prefixes_equal, prefixes_order}
-use Rattle.result_map.proofs.KeyedMaps.{view_of, looked_up_viewed, inserted_viewed, removed_viewed}
+use Rattle.route_choice.proofs.KeyedMaps.{view_of, looked_up_viewed, inserted_viewed, removed_viewed}
 
 -- the list in a vector, none where there is no vector
 abbrev pub items_of : SmallVec Source → List Source

@@ -15,14 +15,14 @@ use Rattle.ospf_types.specs.Hops.{path_cmp}
 use Rattle.ospf_types.specs.Intra.{AreaCost, area_cost_cmp, inside_area}
 use Rattle.ospf_types.specs.Routes.{entry_of}
 use Rattle.intra.specs.declared.area_index.Source.{Source}
-use Rattle.path_choice.specs.Choices.{Chosen, IsChosen}
+use Rattle.route_choice.specs.Choices.{Chosen, IsChosen}
 use Rattle.intra.specs.Choosing.{TakesPaths, AmongSources, ThisSource, KeyedStubs, KeyedTransit, HopsOffer, InterfaceOffers, IsOver, FindsNearest}
 use Rattle.intra.specs.Indexes.{IndexValue, IndexedOffers, IsSource, sources_of}
 use Rattle.intra.specs.Inputs.{AreaValue, InputsValue, distance_at, hops_at}
 use Rattle.intra.specs.Intras.{AreaIntraValue, IsEntryFor}
 use Rattle.intra.specs.Offers.{Offering, IsNearest, OffersTransit, OffersStub, OffersOwn, KeyedOffers}
-use Rattle.path_choice.specs.Takes.{OnlyOffer, OfferedBySome}
-use Rattle.path_choice.proofs.Taking.{takes_none, takes_same, takes_two, taken_chosen}
+use Rattle.route_choice.specs.Takes.{OnlyOffer, OfferedBySome}
+use Rattle.route_choice.proofs.Taking.{takes_none, takes_same, takes_two, taken_chosen}
 use Rattle.intra.proofs.Nearest.{nearest_is_one}
 
 -- the choice among paths so far

@@ -26,8 +26,8 @@ use Rattle.intra.specs.Offers.{OffersOf}
 use Rattle.intra.specs.ReachedRouter.{ReachedByRouter, ReachedValue, IsReachedOf, reached_by}
 use Rattle.intra.specs.ChosenAnew.{AreEntriesChosenAnew}
 use Rattle.intra.specs.Updating.{IsKeptBefore, AreKeptBefore, AreFirst, IsFollowed, IsSettled, IsBroughtTo, HasOtherAmong}
-use Rattle.result_map.proofs.Among.{net_among, router_among}
-use Rattle.result_map.proofs.KeyedMaps.{listed_or_not}
+use Rattle.route_choice.proofs.Among.{net_among, router_among}
+use Rattle.route_choice.proofs.KeyedMaps.{listed_or_not}
 use Rattle.intra.proofs.Frame.{IsClean, AreClean, indexes_in, indexes_of, indexed_is, entry_same, entry_kept, router_kept}
 
 -- ---- area by area

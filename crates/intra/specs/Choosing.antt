@@ -9,12 +9,12 @@ use Rattle.ospf_types.specs.declared.prefix.Prefix.{Prefix}
 use Rattle.ospf_types.specs.Hops.{path_cmp}
 use Rattle.ospf_types.specs.Intra.{AreaCost, area_cost_cmp, LiesIn, inside_area}
 use Rattle.intra.specs.declared.area_index.Source.{Source}
-use Rattle.path_choice.specs.Choices.{Chosen}
+use Rattle.route_choice.specs.Choices.{Chosen}
 use Rattle.intra.specs.Indexes.{IndexedOffers}
 use Rattle.intra.specs.Inputs.{AreaValue, InputsValue}
 use Rattle.intra.specs.Intras.{AreaIntraValue}
 use Rattle.intra.specs.Offers.{Offering, IsReachedFor, IsNearest, KeyedOffers, OffersTransit, OffersStub, OffersOwn}
-use Rattle.path_choice.specs.Takes.{Takes, OnlyOffer, OfferedBySome}
+use Rattle.route_choice.specs.Takes.{Takes, OnlyOffer, OfferedBySome}
 
 -- just these offers of paths were taken
 abbrev pub TakesPaths : (AreaCost → Path → Type 0) → Option (Chosen AreaCost Path) → Option (Chosen AreaCost Path) → Type 0

@@ -6,7 +6,7 @@ use Rattle.ospf_types.specs.declared.key.Dest.{Dest}
 use Rattle.ospf_types.specs.declared.key.Dest.TheVariants.{Net}
 use Rattle.ospf_types.specs.declared.prefix.Prefix.{Prefix}
 use Rattle.ospf_types.specs.Network.{network_cmp}
-use Rattle.result_map.specs.Chosen.{AreRechosen}
+use Rattle.route_choice.specs.Chosen.{AreRechosen}
 use Rattle.intra.specs.Indexes.{IndexedOffers}
 use Rattle.intra.specs.Inputs.{InputsValue}
 use Rattle.intra.specs.Intras.{AreaIntraValue, IntraValue, IsEntryFor}

@@ -11,7 +11,7 @@ use Rattle.ospf_types.specs.Hops.{path_cmp}
 use Rattle.ospf_types.specs.Intra.{AreaCost, area_cost_cmp}
 use Rattle.ospf_types.specs.Network.{network_cmp}
 use Rattle.ospf_types.specs.Routes.{entry_of}
-pub use Rattle.path_choice.specs.Costs.{most_cost}
+pub use Rattle.route_choice.specs.Costs.{most_cost}
 use Rattle.intra.specs.Indexes.{IndexValue, IsIndexOf, empty_index}
 use Rattle.intra.specs.Inputs.{AreaValue, InputsValue}
 use Rattle.intra.specs.Offers.{OffersOf}

@@ -6,7 +6,7 @@ use Rattle.ospf_types.specs.declared.entry.Vertex.TheVariants.{Router}
 use Rattle.ospf_types.specs.Lsa.{Body}
 use Rattle.lsa_codec.specs.Readers.{flags_of}
 use Rattle.area_trees.specs.Areas.{IsStanding}
-pub use Rattle.path_choice.specs.ReachedRouter.{ReachedValue, ReachedByRouter, is_abr_or_asbr, reached_by, HandsOut}
+pub use Rattle.route_choice.specs.ReachedRouter.{ReachedValue, ReachedByRouter, is_abr_or_asbr, reached_by, HandsOut}
 use Rattle.intra.specs.Inputs.{AreaValue, distance_at, hops_at}
 
 -- there are bits, and bit B or bit E is among them

@@ -5,26 +5,29 @@ ghost use Rattle.ospf_types.specs.declared.entry.Vertex.{Vertex as VertexValue};
 ghost use Rattle.ospf_types.specs.declared.entry.Vertex.TheVariants as vertex_value;
 ghost use Rattle.spf.specs.HandedOn.{IsOfSome};
 ghost use Rattle.intra.specs.Indexes.{IsIndex, IsIndexOf};
-ghost use Rattle.intra.specs.Following.{AreRoutersBrought, AreRoutersUpdated, HasOffered, IsAmongKeys, IsAmongVertices, IsGatheredFor, IsIndexBefore, IsRouterIn, IsRouterOf, IsTaken, NamesIn, NamesVertex, flags_in};
+ghost use Rattle.intra.specs.Following.{AreRoutersBrought, AreRoutersUpdated, HasOffered};
+ghost use Rattle.intra.specs.Following.{IsAmongKeys, IsAmongVertices, IsGatheredFor, IsIndexBefore};
+ghost use Rattle.intra.specs.Following.{IsRouterIn, IsRouterOf, IsTaken, NamesIn, NamesVertex};
+ghost use Rattle.intra.specs.Following.{flags_in};
 ghost use Rattle.intra.specs.Inputs.{HasTree};
 ghost use Rattle.intra.specs.Intras.{empty_area};
-ghost use Rattle.intra.specs.ReachedRouter.{HasKeptToo, HasOnceMore, KeepsNone, has_bits, reached_in};
+ghost use Rattle.intra.specs.ReachedRouter.{HasKeptToo, HasOnceMore, KeepsNone, has_bits};
+ghost use Rattle.intra.specs.ReachedRouter.{reached_in};
 
+use crate::affected::Affected;
 use crate::area_index::AreaIndex;
 use crate::dirty::Dirty;
 use crate::inputs::{AreaInputs, RootedArea};
-use crate::affected::Affected;
 use crate::offered::push_prefixes;
 use area_trees::vertex_of;
+use ospf_types::WordHash;
 use ospf_types::entry::Vertex;
 use ospf_types::key::{Key, Scope};
 use ospf_types::memory::Memory;
 use ospf_types::prefix::Prefix;
-use path_choice::{ReachedRouter, RouterReach, is_abr_or_asbr, reached_router};
-use result_map::ResultMap;
+use route_choice::{ReachedRouter, ResultMap, RouterReach, is_abr_or_asbr, reached_abr_or_asbr};
 use std::alloc::Global;
 use std::marker::Model;
-use word_hash::WordHash;
 
 /// The state of an area.
 pub(crate) struct AreaIntra {
@@ -366,7 +369,7 @@ fn reached_now(
         distance: area.tree.distance(vertex),
         hops: area.tree.hops(vertex),
     };
-    reached_router(alloc, rooted.root, flags, reach)
+    reached_abr_or_asbr(alloc, rooted.root, flags, reach)
 }
 
 // Returns true if there are bits, and bit B or bit E is set.

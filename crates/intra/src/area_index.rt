@@ -1,6 +1,7 @@
 //! The index of an area: the prefixes that each vertex offers, and the vertices that offer each
 //! prefix. It depends on the area's LSAs only.
-ghost use Rattle.std.specs.Prelude.{◌≡◌, ◌≢◌, Some, None, IfOk, IfSome, IsTrue, OnOk, option_copied};
+ghost use Rattle.std.specs.Prelude.{◌≡◌, ◌≢◌, Some, None, IfOk, IfSome, IsTrue, OnOk};
+ghost use Rattle.std.specs.Prelude.{option_copied};
 ghost use Rattle.std.specs.FinMap as map;
 ghost use Rattle.std.specs.List.{AllPairs};
 ghost use Rattle.ospf_types.specs.Lsa.{key_of};
@@ -8,8 +9,10 @@ ghost use Rattle.spf.specs.VertexSet.{HasNoDoubles};
 ghost use Rattle.area_trees.specs.Areas.{vertex_of};
 ghost use Rattle.intra.specs.Following.{IsCurrent};
 ghost use Rattle.intra.specs.Inputs.{HasTree};
-ghost use Rattle.intra.specs.Indexes.{AreTouched, IsIndex, IsOfferedNow, IsSource, OffersNothing, empty_index, offers_of, sources_of};
-ghost use Rattle.intra.specs.IndexSteps.{AreAlike, AreGone, AreLeftOut, AreSameOrNamed, HaveCome, IsOfferOf, IsPrefixOf, IsThisOffer, OtherVerticesStay};
+ghost use Rattle.intra.specs.Indexes.{AreTouched, IsIndex, IsOfferedNow, IsSource, OffersNothing};
+ghost use Rattle.intra.specs.Indexes.{empty_index, offers_of, sources_of};
+ghost use Rattle.intra.specs.IndexSteps.{AreAlike, AreGone, AreLeftOut, AreSameOrNamed, HaveCome};
+ghost use Rattle.intra.specs.IndexSteps.{IsOfferOf, IsPrefixOf, IsThisOffer, OtherVerticesStay};
 ghost use Rattle.intra.specs.Stubs.{KeepsAll};
 
 use crate::inputs::AreaInputs;
@@ -17,16 +20,16 @@ use crate::offered::{Offer, Offered, offers_in, push_prefixes};
 use area_trees::AreaTree;
 use indexmap::IndexMap;
 use lsa_codec::Checked;
+use ospf_types::WordHash;
 use ospf_types::entry::Vertex;
 use ospf_types::memory::Memory;
 use ospf_types::prefix::Prefix;
-use result_map::are_same;
+use route_choice::are_same;
 use smallvec::SmallVec;
 use std::alloc::Global;
 use std::default::MadeWith;
 use std::marker::Model;
 use vertex_map::HintedVertex;
-use word_hash::WordHash;
 
 /// A vertex that offers a prefix, and the metric of the offer.
 #[derive(Drop)]

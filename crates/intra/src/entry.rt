@@ -3,7 +3,7 @@ ghost use Rattle.std.specs.Prelude.{◌≡◌, ◌<◌};
 ghost use Rattle.intra.specs.Intras.{most_cost};
 
 use ospf_types::entry::Entry;
-use result_map::Same;
+use route_choice::Same;
 use std::marker::Model;
 
 /// The intra-area entry of a network.

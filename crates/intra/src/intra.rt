@@ -1,4 +1,5 @@
-ghost use Rattle.std.specs.Prelude.{◌≡◌, ◌≢◌, ◌↔◌, ◌<◌, [], Some, None, length, IfOk, OnOk, OnErr, IfNone, IfSome, IsSome, IsTrue, option_copied};
+ghost use Rattle.std.specs.Prelude.{◌≡◌, ◌≢◌, ◌↔◌, ◌<◌, [], Some, None, length, IfOk, OnOk, OnErr};
+ghost use Rattle.std.specs.Prelude.{IfNone, IfSome, IsSome, IsTrue, option_copied};
 ghost use Rattle.std.specs.FinMap as map;
 ghost use Rattle.std.specs.List.{AllPairs};
 ghost use Rattle.std.specs.List.Sorted.{IsStrictlySortedBy};
@@ -8,30 +9,31 @@ ghost use Rattle.ospf_types.specs.Network.{network_cmp};
 ghost use Rattle.intra.specs.Changes.{AreDiffering, HasKeysOf, HasKeysOfAll, IsIntraBefore};
 ghost use Rattle.intra.specs.ChosenAnew.{AreEntriesChosenAnew};
 ghost use Rattle.intra.specs.Inputs.{AreReady};
-ghost use Rattle.intra.specs.Intras.{AreAsOften, AreEntries, AreKept, HaveEntries, IsIntraOf, empty_routes, most_cost, reached_at, spent_value};
+ghost use Rattle.intra.specs.Intras.{AreAsOften, AreEntries, AreKept, HaveEntries, IsIntraOf};
+ghost use Rattle.intra.specs.Intras.{empty_routes, most_cost, reached_at, spent_value};
 ghost use Rattle.intra.specs.Right.{IsRightWherever};
 ghost use Rattle.intra.specs.Stubs.{KeepsAll};
-ghost use Rattle.intra.specs.Updating.{AreBroughtTo, HasPrefixesInOrder, HasRoutersInOrder, HaveKeptBefore, NamesOthers};
+ghost use Rattle.intra.specs.Updating.{AreBroughtTo, HasPrefixesInOrder, HasRoutersInOrder};
+ghost use Rattle.intra.specs.Updating.{HaveKeptBefore, NamesOthers};
 
+use crate::affected::Affected;
 use crate::area::AreaIntra;
 use crate::choose::IndexedInputs;
 use crate::dirty::Dirty;
 use crate::entry::IntraEntry;
 use crate::inputs::{AreaInputs, IntraInputs, RootedArea};
-use crate::affected::Affected;
 use indexmap::map::Slice;
 use lsdb::Database;
+use ospf_types::WordHash;
 use ospf_types::entry::Entry;
 use ospf_types::key::{Dest, Key, Scope};
 use ospf_types::memory::Memory;
 use ospf_types::prefix::Prefix;
-use path_choice::ReachedRouter;
-use result_map::{ResultMap, add_routers};
+use route_choice::{ReachedRouter, ResultMap, add_routers};
 use std::alloc::Global;
 use std::hash::RandomState;
 use std::marker::Model;
 use std::mem;
-use word_hash::WordHash;
 
 /// The intra-area routes of a router: the entry of each network, and in each area the area border
 /// routers and AS boundary routers that are reached.
@@ -80,7 +82,11 @@ impl Model for Intra {
 
 impl Intra {
     /// Builds the routes of these inputs.
-    pub fn build(alloc: Global, inputs: &IntraInputs<'_>, hashing: RandomState) -> Result<Intra, Memory>
+    pub fn build(
+        alloc: Global,
+        inputs: &IntraInputs<'_>,
+        hashing: RandomState,
+    ) -> Result<Intra, Memory>
         requires { AreReady inputs.now }
         ensures kept { IfOk result (IsIntraOf inputs.now) }
         ensures right { IfOk result (IsRightWherever inputs.now) }
@@ -245,7 +251,12 @@ impl Intra {
 
     // Updates the areas. Returns the prefixes whose entry may change, and the routers whose kept
     // value changed in some area, both in ascending order without duplicates.
-    fn follow(&mut self, alloc: Global, inputs: &IntraInputs<'_>, dirty: &Dirty) -> Result<Affected, Memory>
+    fn follow(
+        &mut self,
+        alloc: Global,
+        inputs: &IntraInputs<'_>,
+        dirty: &Dirty,
+    ) -> Result<Affected, Memory>
         requires ready { AreReady inputs.now }
         requires before { HaveKeptBefore dirty.now inputs.now self.old.areas }
         ensures entries { OnOk result (self.new.entries ≡ self.old.entries) }

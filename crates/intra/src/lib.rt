@@ -22,6 +22,7 @@
 //! changed router-LSAs. A router with neither bit is not looked up in the tree.
 #![tactic(auto)]
 
+mod affected;
 mod area;
 mod area_index;
 mod choose;
@@ -29,11 +30,10 @@ mod dirty;
 mod entry;
 mod inputs;
 mod intra;
-mod affected;
 mod offered;
 
 pub use dirty::Dirty;
 pub use entry::IntraEntry;
 pub use inputs::{AreaInputs, IntraInputs};
 pub use intra::Intra;
-pub use path_choice::ReachedRouter;
+pub use route_choice::ReachedRouter;

@@ -6,14 +6,15 @@ ghost use Rattle.ospf_types.specs.Lsa.{key_of};
 ghost use Rattle.lsa_codec.specs.Readers.{flags_of, prefix_of};
 ghost use Rattle.area_trees.specs.Areas.{vertex_of};
 ghost use Rattle.intra.specs.Indexes.{IsOfferedBy, bits_of};
-ghost use Rattle.intra.specs.Stubs.{HasPrefixesOf, HaveSameOffers, KeepsAll, offer_of_link, stubs_of, transit_offers};
+ghost use Rattle.intra.specs.Stubs.{HasPrefixesOf, HaveSameOffers, KeepsAll, offer_of_link};
+ghost use Rattle.intra.specs.Stubs.{stubs_of, transit_offers};
 
 use lsa_codec::Checked;
 use ospf_types::entry::Vertex;
 use ospf_types::lsa::{Link, LinkKind};
 use ospf_types::memory::Memory;
 use ospf_types::prefix::Prefix;
-use result_map::Same;
+use route_choice::Same;
 use std::alloc::Global;
 use std::marker::Model;
 

@@ -13,6 +13,7 @@ mod table;
 mod trial;
 
 use anyhow::Result;
+use ospf_types::WordHash;
 use prefix_index::PrefixIndex;
 use publishing::measure_beside_writer;
 use sets::Set;
@@ -22,7 +23,6 @@ use std::io::Print;
 use std::random::RandomSource;
 use std::{env, io};
 use trial::{Trial, find_all};
-use word_hash::WordHash;
 
 // Networks whose hashes collide if the hash has no keys. A hash map of 20,000 entries has 4,096
 // groups.

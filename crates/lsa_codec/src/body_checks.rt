@@ -1,7 +1,11 @@
 //! The faults of a body, by LS type (RFC 2328, A.4.2 to A.4.5). Each body is read once.
 
 ghost use Rattle.std.specs.Prelude.{◌≡◌};
-ghost use Rattle.lsa_codec.specs.Faults.{router_findings as findings_of_router, network_findings as findings_of_network, summary_findings as findings_of_summary, boundary_findings as findings_of_boundary, external_findings as findings_of_external, findings_of};
+ghost use Rattle.lsa_codec.specs.Faults.{router_findings as findings_of_router};
+ghost use Rattle.lsa_codec.specs.Faults.{network_findings as findings_of_network};
+ghost use Rattle.lsa_codec.specs.Faults.{summary_findings as findings_of_summary};
+ghost use Rattle.lsa_codec.specs.Faults.{boundary_findings as findings_of_boundary};
+ghost use Rattle.lsa_codec.specs.Faults.{external_findings as findings_of_external, findings_of};
 
 use crate::findings::{CUT, Findings};
 use crate::links::links_findings;

@@ -1,7 +1,8 @@
 ghost use Rattle.std.specs.Prelude.{◌≡◌, ◌≤◌, ◌↔◌, ◌==◌, ◌||◌, IsTrue, length, map, IfOk};
 ghost use Rattle.ospf_types.specs.Lsa.{MaxAge, key_of, kind_of};
 ghost use Rattle.lsa_codec.specs.Spelling.{IsLegal, body_bytes};
-ghost use Rattle.lsa_codec.specs.Readers.{flags_of, links_of, without_tos, link_at, routers_of, listed_at, prefix_of, metric_of, external_of, with_age};
+ghost use Rattle.lsa_codec.specs.Readers.{flags_of, links_of, without_tos, link_at, routers_of};
+ghost use Rattle.lsa_codec.specs.Readers.{listed_at, prefix_of, metric_of, external_of, with_age};
 
 use crate::header::header_in;
 use crate::links::{Links, after_links, front_link};

@@ -2,7 +2,9 @@
 //! are reduced once for each chunk.
 
 ghost use Rattle.std.specs.Prelude.{◌≡◌, ◌≤◌, ◌<◌, ◌+◌, ◌*◌, ◌/◌, ◌%◌, ◌^◌, length, sum, IfSome};
-ghost use Rattle.lsa_codec.specs.Checksum.{weighted_sum, is_sound as is_sound_test, checksum_of, with_sum, IsSound, IsOnlySum, IsSumUpToZeros, covered, residue as the_residue};
+ghost use Rattle.lsa_codec.specs.Checksum.{weighted_sum, is_sound as is_sound_test, checksum_of};
+ghost use Rattle.lsa_codec.specs.Checksum.{with_sum, IsSound, IsOnlySum, IsSumUpToZeros, covered};
+ghost use Rattle.lsa_codec.specs.Checksum.{residue as the_residue};
 
 use byteorder::{BigEndian, ByteOrder};
 

@@ -2,7 +2,9 @@
 
 ghost use Rattle.std.specs.Prelude.{◌≡◌, ◌≤◌, true, ◌+◌, ◌*◌, ◌==◌, ◌||◌, not, nat_lt, length};
 ghost use Rattle.std.specs.List.{list_any};
-ghost use Rattle.lsa_codec.specs.Faults.{walk, raw_entries, raw_link, is_whole as is_whole_test, link_size as size_of_link, has_reserved_entry, has_wrong_mask, is_unknown, is_incomplete};
+ghost use Rattle.lsa_codec.specs.Faults.{walk, raw_entries, raw_link, is_whole as is_whole_test};
+ghost use Rattle.lsa_codec.specs.Faults.{link_size as size_of_link, has_reserved_entry};
+ghost use Rattle.lsa_codec.specs.Faults.{has_wrong_mask, is_unknown, is_incomplete};
 ghost use Rattle.lsa_codec.specs.Decoding.{kind_of_number, link_of as decoded_link};
 ghost use Rattle.lsa_codec.specs.Readers.{without_tos};
 

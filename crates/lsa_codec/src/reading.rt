@@ -2,7 +2,9 @@ ghost use Rattle.std.specs.Prelude.{◌≡◌, ◌≤◌, length, IfOk, MatchRes
 ghost use Rattle.ospf_types.specs.Lsa.{Lsa};
 ghost use Rattle.lsa_codec.specs.Spelling.{Spells};
 ghost use Rattle.lsa_codec.specs.Checksum.{IsSound};
-ghost use Rattle.lsa_codec.specs.Faults.{fault_of, body_fault_of, is_unknown_kind as is_unknown_kind_test, is_other_router as is_other_router_test};
+ghost use Rattle.lsa_codec.specs.Faults.{fault_of, body_fault_of};
+ghost use Rattle.lsa_codec.specs.Faults.{is_unknown_kind as is_unknown_kind_test};
+ghost use Rattle.lsa_codec.specs.Faults.{is_other_router as is_other_router_test};
 
 use crate::body_checks::body_findings;
 use crate::checked::Checked;

@@ -19,27 +19,34 @@
 //!
 //! Contracts see a finite map from key to LSA at its present age, and the keys in the order of
 //! their rows. Only `ages`, `kinds`, `keys` and `key_at` speak of rows.
-ghost use Rattle.std.specs.Prelude.{◌≡◌, ◌+◌, ◌<◌, ◌≤◌, ◌++◌, [], ◌∷◌, None, Some, IsSome, OnOk, OnErr, IfOk, IfErr, IfSome, nat_le, count_by, length, option_map, is_some, position, slice_get, vec_len, vec_capacity, map as list_map};
+ghost use Rattle.std.specs.Prelude.{◌≡◌, ◌+◌, ◌<◌, ◌≤◌, ◌++◌, [], ◌∷◌, None, Some, IsSome, OnOk};
+ghost use Rattle.std.specs.Prelude.{OnErr, IfOk, IfErr, IfSome, nat_le, count_by, length};
+ghost use Rattle.std.specs.Prelude.{option_map, is_some, position, slice_get, vec_len};
+ghost use Rattle.std.specs.Prelude.{vec_capacity, map as list_map};
 ghost use Rattle.std.specs.FinMap as map;
 ghost use Rattle.std.specs.Option.{option_copied};
 ghost use Rattle.ospf_types.specs.Lsa.{key_of};
 ghost use Rattle.lsa_codec.specs.Readers.{with_age};
-ghost use Rattle.lsdb.specs.Databases.{install_refusal_of, IsInstallable, IsInstallRefusal, IsPurgeRefusal, IsPurgeable, with_lsa, AddsKeys, order_without, keys_in, lsas_of_keys, all_aged, aged_out, comes_to_max_age, order_with, ages_of, keys_by, keys_aged};
+ghost use Rattle.lsdb.specs.Databases.{install_refusal_of, IsInstallable, IsInstallRefusal};
+ghost use Rattle.lsdb.specs.Databases.{IsPurgeRefusal, IsPurgeable, with_lsa, AddsKeys};
+ghost use Rattle.lsdb.specs.Databases.{order_without, keys_in, lsas_of_keys, all_aged, aged_out};
+ghost use Rattle.lsdb.specs.Databases.{comes_to_max_age, order_with, ages_of, keys_by, keys_aged};
 ghost use Rattle.lsdb.specs.Columns.{is_key};
-ghost use Rattle.lsdb.specs.Contents.{at_age_beside, body_at, IsSound, IsOrder, TellsUseAt, TellsUseOf};
+ghost use Rattle.lsdb.specs.Contents.{at_age_beside, body_at, IsSound, IsOrder, TellsUseAt};
+ghost use Rattle.lsdb.specs.Contents.{TellsUseOf};
 
 use crate::contents::is_used_otherwise;
 use crate::refusal::{InstallRefusal, NoLsa, PurgeRefusal};
 use indexmap::IndexMap;
 use lsa_codec::Checked;
 use lsa_order::{Header, Newer, newer};
+use ospf_types::WordHash;
 use ospf_types::key::Key;
 use ospf_types::lsa::MAX_AGE;
 use ospf_types::memory::Memory;
 use std::alloc::Global;
 use std::hash::RandomState;
 use std::marker::Model;
-use word_hash::WordHash;
 
 /// A link-state database (RFC 2328, 12): LSAs by key, each at its present age.
 ///

@@ -16,3 +16,7 @@ pub mod Examined
 pub mod Stable
 pub mod RangeChanges
 pub mod Written
+pub mod Intervals
+pub mod Neighbours
+pub mod RangeFaults
+pub mod Bytes

@@ -20,3 +20,8 @@ pub mod Boundary
 pub mod External
 pub mod Routes
 pub mod Summaries
+pub mod Configs
+pub mod Neighbours
+pub mod Overlaps
+pub mod Texts
+pub mod Words

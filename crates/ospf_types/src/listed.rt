@@ -1,5 +1,6 @@
 //! A list that contracts see as its items.
-ghost use Rattle.std.specs.Prelude.{◌≡◌, ◌↔◌, ◌≤◌, ◌<◌, [], ◌∷◌, ◌++◌, length, get_or, set as list_set, IsTrue, OnOk, OnErr, IfOk};
+ghost use Rattle.std.specs.Prelude.{◌≡◌, ◌↔◌, ◌≤◌, ◌<◌, [], ◌∷◌, ◌++◌, length, get_or};
+ghost use Rattle.std.specs.Prelude.{set as list_set, IsTrue, OnOk, OnErr, IfOk};
 ghost use Rattle.std.specs.List.{insert as list_insert, remove as list_remove};
 
 use crate::memory::Memory;

@@ -1,6 +1,7 @@
 //! The printed forms of prefixes, path types, next hops, paths and entries.
 ghost use Rattle.std.specs.Prelude.{Some};
-ghost use Rattle.ospf_types.specs.Text.{prefix_text, kind_text, hop_text, path_text, paths_text, entry_text, area_text};
+ghost use Rattle.ospf_types.specs.Text.{prefix_text, kind_text, hop_text, path_text, paths_text};
+ghost use Rattle.ospf_types.specs.Text.{entry_text, area_text};
 
 use crate::address::Address;
 use crate::dotted::{MOST, write_dotted};

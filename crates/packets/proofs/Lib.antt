@@ -1,3 +1,17 @@
+pub mod AllTaken
+pub mod ByKey
+pub mod Cells
+pub mod Chained
+pub mod Choices
+pub mod Finding
+pub mod FirstFault
+pub mod Found
+pub mod Making
+pub mod Missing
+pub mod Places
+pub mod Stepping
+pub mod TagsOff
+pub mod WholeParts
 pub mod Words
 pub mod AreBytes
 pub mod OnesSums

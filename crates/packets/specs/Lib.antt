@@ -1,3 +1,12 @@
+pub mod Frames
+pub mod Links
+pub mod Layout
+pub mod Reading
+pub mod DatagramText
+pub mod Parts
+pub mod Kept
+pub mod Keeping
+pub mod Taking
 pub mod Checksum
 pub mod Folding
 pub mod Packets

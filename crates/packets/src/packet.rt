@@ -1,7 +1,11 @@
 //! The header of a packet (RFC 2328, A.3.1).
 
 ghost use Rattle.std.specs.Prelude.{◌≡◌, ◌≤◌, false, IfOk, IfErr, Some, None, length};
-ghost use Rattle.packets.specs.Packets.{packet_fault_of, has_right_sum as has_right_sum_test, has_wrong_sum as has_wrong_sum_test, is_wrong_length as is_wrong_length_test, kind_of_number, kind_field, length_field, router_field, area_field, authentication_of, body_field};
+ghost use Rattle.packets.specs.Packets.{packet_fault_of, has_right_sum as has_right_sum_test};
+ghost use Rattle.packets.specs.Packets.{has_wrong_sum as has_wrong_sum_test};
+ghost use Rattle.packets.specs.Packets.{is_wrong_length as is_wrong_length_test, kind_of_number};
+ghost use Rattle.packets.specs.Packets.{kind_field, length_field, router_field, area_field};
+ghost use Rattle.packets.specs.Packets.{authentication_of, body_field};
 
 use crate::authentication::{Authentication, CRYPTOGRAPHIC, authentication_in};
 use crate::checksum::{added, folded};

@@ -2,7 +2,8 @@
 
 ghost use Rattle.std.specs.Prelude.{◌≡◌, ◌≤◌, ◌<◌, List, IfOk, IfErr, length, true};
 ghost use Rattle.packets.specs.declared.fault.UpdateFault.TheVariants.{Count as CountFault};
-ghost use Rattle.packets.specs.Updates.{Piece, ArePiecesOf, pieces_of, has_lsa as has_lsa_test, lsa_length as length_of_lsa};
+ghost use Rattle.packets.specs.Updates.{Piece, ArePiecesOf, pieces_of, has_lsa as has_lsa_test};
+ghost use Rattle.packets.specs.Updates.{lsa_length as length_of_lsa};
 
 use crate::fault::UpdateFault;
 use byteorder::{BigEndian, ByteOrder};

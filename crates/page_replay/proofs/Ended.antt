@@ -7,8 +7,8 @@ use Rattle.recording.specs.declared.version.Version.{Version}
 use Rattle.replay.specs.Lines.{first_number}
 use Rattle.replay.specs.Pages.{Adds, IsRunTo}
 use Rattle.replay.proofs.Paging.{adds_moved}
-use Rattle.changes.specs.Changes.{all_of}
-use Rattle.changes.specs.Runs.{Says, TellsLines, Told}
+use Rattle.change_log.specs.Changes.{all_of}
+use Rattle.change_log.specs.Runs.{Says, TellsLines, Told}
 use Rattle.page_replay.specs.Ending.{IsEnded, IsToldLast, all_changes, earlier_lines, last_lines}
 
 -- what was written, where nothing stood before and nothing is left on the page

@@ -1,15 +1,15 @@
 -- How a recording ends, of whose last lines it is told what they changed.
 use Rattle.std.specs.Prelude.{ℕ, ◌+◌, ◌-◌, false, List, None, length, take, drop, map}
-use Rattle.output_format.specs.declared.Format.TheVariants.{Text}
+use Rattle.output_lines.specs.declared.format.Format.TheVariants.{Text}
 use Rattle.event_core.specs.Cores.{CoreValue, IsCurrent}
 use Rattle.recording.specs.declared.line.Line.{Line}
 use Rattle.recording.specs.declared.version.Version.{Version}
 use Rattle.replay.specs.Lines.{first_number}
 use Rattle.replay.specs.Pages.{IsRunTo}
-use Rattle.changes.specs.Changes.{all_of}
-use Rattle.changes.specs.Lines.{Change}
-use Rattle.changes.specs.Runs.{Says, TellsLines}
-use Rattle.changes.specs.declared.printing.ChangeFilter.{ChangeFilter}
+use Rattle.change_log.specs.Changes.{all_of}
+use Rattle.change_log.specs.Lines.{Change}
+use Rattle.change_log.specs.Runs.{Says, TellsLines}
+use Rattle.change_log.specs.declared.printing.ChangeFilter.{ChangeFilter}
 
 -- the last ten lines, and those of before
 abbrev pub earlier_lines : List Line → List Line

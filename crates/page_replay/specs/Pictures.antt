@@ -3,8 +3,8 @@ use Rattle.std.specs.Prelude.{ℕ, ◌<◌, ◌≤◌, ◌++◌, List, [], ◌�
 use Rattle.ospf_types.specs.declared.config.AreaConfig.{AreaConfig}
 use Rattle.area_trees.specs.Areas.{IsTreeIn}
 use Rattle.intra.specs.Inputs.{AreaValue}
-use Rattle.drawings.specs.Pictures.{drawing_text}
-use Rattle.drawings.specs.declared.drawing.Drawing.{Drawing}
+use Rattle.area_drawings.specs.Pictures.{drawing_text}
+use Rattle.area_drawings.specs.declared.drawing.Drawing.{Drawing}
 use Rattle.area_drawings.specs.Drawings.{IsDrawingOf}
 use Rattle.area_drawings.specs.Reaching.{IsCount}
 use Rattle.page_sections.specs.Areas.{area_heading_text, left_out_text}

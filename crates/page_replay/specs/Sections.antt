@@ -5,7 +5,7 @@ use Rattle.std.specs.List.{AllZip}
 use Rattle.calculation.specs.Calculations.{CalculationValue, IsCalculationOf}
 use Rattle.event_core.specs.Cores.{CoreValue, state_of}
 use Rattle.event_state.specs.States.{State, serial_of}
-use Rattle.state_trees.specs.Trees.{areas_with}
+use Rattle.route_layers.specs.Trees.{areas_with}
 use Rattle.page_sections.specs.Areas.{areas_heading_text}
 use Rattle.page_sections.specs.Frame.{beginning_text, changes_text, end_text}
 use Rattle.page_sections.specs.Ranges.{ranges_text}

@@ -5,12 +5,12 @@ ghost use Rattle.replay.specs.Advance.{ShowsProgress};
 ghost use Rattle.replay.specs.Lines.{first_number};
 ghost use Rattle.page_replay.specs.Ending.{IsEnded, IsToldLast, earlier_lines, last_lines};
 
-use changes::{LineContext, ChangeFilter, print_line_changes};
+use change_log::{ChangeFilter, LineContext, print_line_changes};
 use event_core::Core;
 use ospf_types::memory::Memory;
-use output_format::Format;
+use output_lines::Format;
 use recording::Line;
-use replay::{OpenedRecording, new_buffer, first_event_line, flush_buffer};
+use replay::{OpenedRecording, first_event_line, flush_buffer, new_buffer};
 use std::alloc::Global;
 use std::io;
 

@@ -12,7 +12,7 @@ ghost use Rattle.page_replay.specs.Outputs.{IsMadeOf, WritesPage, WritesPagePart
 use crate::ending::run_to_end;
 use crate::sections::page_of;
 use ospf_types::memory::Memory;
-use replay::{WriteError, OpenedRecording, ReplayFault, read_recording, write_whole};
+use replay::{OpenedRecording, ReplayFault, WriteError, read_recording, write_whole};
 use std::alloc::Global;
 use std::hash::RandomState;
 use std::io;

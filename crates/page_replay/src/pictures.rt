@@ -1,10 +1,10 @@
 //! The pictures of the areas.
 ghost use Rattle.std.specs.Prelude.{◌≡◌, ◌++◌, IfOk, OnOk, string_bytes};
 ghost use Rattle.std.specs.List.{AllZip};
-ghost use Rattle.page_replay.specs.Pictures.{HasTree, HaveTrees, IsPictureOf, areas_text, area_text, most_vertices, picture_text};
+ghost use Rattle.page_replay.specs.Pictures.{HasTree, HaveTrees, IsPictureOf, areas_text};
+ghost use Rattle.page_replay.specs.Pictures.{area_text, most_vertices, picture_text};
 
-use area_drawings::{count_vertices, draw_area};
-use drawings::{Drawing, put_drawing};
+use area_drawings::{Drawing, count_vertices, draw_area, put_drawing};
 use intra::AreaInputs;
 use ospf_types::config::AreaConfig;
 use ospf_types::memory::Memory;

@@ -13,7 +13,7 @@ use page_sections::{
     put_areas_heading, put_beginning, put_changes_beginning, put_changes_end, put_end, put_ranges,
     put_routes, put_summaries,
 };
-use state_trees::area_inputs;
+use route_layers::area_inputs;
 use std::alloc::Global;
 
 /// Returns the page that shows a core and the last changes.

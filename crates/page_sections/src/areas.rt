@@ -1,6 +1,7 @@
 //! The headings and legends of the pictures of the areas.
 ghost use Rattle.std.specs.Prelude.{◌≡◌, ◌++◌, OnOk, codes, string_bytes};
-ghost use Rattle.page_sections.specs.Areas.{area_heading_text, areas_heading_text, left_out_text, stub_text};
+ghost use Rattle.page_sections.specs.Areas.{area_heading_text, areas_heading_text, left_out_text};
+ghost use Rattle.page_sections.specs.Areas.{stub_text};
 
 use ospf_types::address::Address;
 use ospf_types::config::{AreaConfig, Stub};

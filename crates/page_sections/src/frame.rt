@@ -1,6 +1,8 @@
 //! The beginning and the end of the page, and the frame of the last changes.
 ghost use Rattle.std.specs.Prelude.{◌≡◌, ◌++◌, OnOk, string_bytes};
-ghost use Rattle.page_sections.specs.Frame.{about_text, beginning_text, changes_beginning_text, changes_end_text, end_text, head_text, styles_text, title_text};
+ghost use Rattle.page_sections.specs.Frame.{about_text, beginning_text, changes_beginning_text};
+ghost use Rattle.page_sections.specs.Frame.{changes_end_text, end_text, head_text, styles_text};
+ghost use Rattle.page_sections.specs.Frame.{title_text};
 
 use crate::script::SCRIPT;
 use crate::style::STYLE;

@@ -3,7 +3,11 @@ ghost use Rattle.std.specs.Prelude.{List, ◌≡◌, ◌++◌, IfOk, OnOk, lengt
 ghost use Rattle.std.specs.List.{cons_option, filter_map, flat_map, list_any};
 ghost use Rattle.std.specs.FinMap.{entries};
 ghost use Rattle.page_sections.specs.declared.ranges.Counted.{Counted};
-ghost use Rattle.page_sections.specs.Ranges.{advertised_text, area_text, areas_text, count_text, counted_in, has_range, intra_cost_of, is_inside, is_intra_area, list_text, network_row, networks_text, range_heading_text, range_text, ranges_text, some_text};
+ghost use Rattle.page_sections.specs.Ranges.{advertised_text, area_text, areas_text, count_text};
+ghost use Rattle.page_sections.specs.Ranges.{counted_in, has_range, intra_cost_of, is_inside};
+ghost use Rattle.page_sections.specs.Ranges.{is_intra_area, list_text, network_row, networks_text};
+ghost use Rattle.page_sections.specs.Ranges.{range_heading_text, range_text, ranges_text};
+ghost use Rattle.page_sections.specs.Ranges.{some_text};
 
 use ospf_types::address::Address;
 use ospf_types::config::{AreaConfig, Range};

@@ -2,7 +2,10 @@
 ghost use Rattle.std.specs.Prelude.{◌≡◌, ◌++◌, OnOk, if◌then◌else◌, filter, length, string_bytes};
 ghost use Rattle.std.specs.List.{flat_map};
 ghost use Rattle.std.specs.FinMap.{entries};
-ghost use Rattle.page_sections.specs.Routes.{area_cell, costs_text, count_text, counts_text, is_of, kind_of_item, kind_of_route, kind_text, path_line, paths_text, route_text, routes_text, row_text, same_kind};
+ghost use Rattle.page_sections.specs.Routes.{area_cell, costs_text, count_text, counts_text, is_of};
+ghost use Rattle.page_sections.specs.Routes.{kind_of_item, kind_of_route, kind_text, path_line};
+ghost use Rattle.page_sections.specs.Routes.{paths_text, route_text, routes_text, row_text};
+ghost use Rattle.page_sections.specs.Routes.{same_kind};
 
 use ospf_types::address::Address;
 use ospf_types::entry::{Entry, PathType};

@@ -1,7 +1,8 @@
 //! The summary-LSAs that are due.
 ghost use Rattle.std.specs.Prelude.{◌≡◌, ◌++◌, OnOk, string_bytes};
 ghost use Rattle.std.specs.List.{flat_map};
-ghost use Rattle.page_sections.specs.Summaries.{areas_text, dest_text, due_text, list_text, listed, listed_text, row_text, summaries_text, table_text};
+ghost use Rattle.page_sections.specs.Summaries.{areas_text, dest_text, due_text, list_text, listed};
+ghost use Rattle.page_sections.specs.Summaries.{listed_text, row_text, summaries_text, table_text};
 
 use ospf_types::address::Address;
 use ospf_types::key::Dest;

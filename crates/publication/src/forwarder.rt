@@ -8,10 +8,10 @@ ghost use Rattle.publication.specs.Forwarders.{IsLookup};
 ghost use Rattle.publication.specs.LookupError.{IsLookupError};
 
 use crate::history::HistoryPrefix;
-use crate::opening_base::OpeningBase;
-use crate::rule::{TableReader, TableReading, PublishStep};
-use crate::token::Told;
 use crate::lookup_error::LookupError;
+use crate::opening_base::OpeningBase;
+use crate::rule::{PublishStep, TableReader, TableReading};
+use crate::token::Told;
 use route_table::Match;
 use std::marker::Model;
 

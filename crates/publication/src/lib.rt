@@ -17,8 +17,8 @@
 //! A forwarder takes no lock, waits for nobody and allocates nothing.
 //!
 //! `publish_table_changes` makes one change for each network that changed: set, drop or discard.
-//! Its cost follows the changes. `publish_table` clears the table and publishes all of it, so its result
-//! does not depend on updates that were pending.
+//! Its cost follows the changes. `publish_table` clears the table and publishes all of it, so its
+//! result does not depend on updates that were pending.
 //!
 //! A token (`Told`) stands for a published history, of which only the length and the serial are
 //! stored. A forwarder keeps the longest history that it has seen or learned of. It never accepts a
@@ -28,18 +28,18 @@
 
 mod forwarder;
 mod history;
-mod opening_base;
-mod rule;
-mod published_table;
-mod token;
 mod lookup_error;
+mod opening_base;
+mod published_table;
 mod publishing;
+mod rule;
+mod token;
 
 pub use forwarder::{Forwarder, Seen};
 pub use history::{History, HistoryPrefix};
-pub use opening_base::OpeningBase;
-pub use rule::{TableWriter, TellsName};
-pub use published_table::{EngineName, PublishedTable};
-pub use token::Told;
 pub use lookup_error::LookupError;
+pub use opening_base::OpeningBase;
+pub use published_table::{EngineName, PublishedTable};
 pub use publishing::{publish_table, publish_table_changes};
+pub use rule::{TableWriter, TellsName};
+pub use token::Told;

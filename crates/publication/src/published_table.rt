@@ -133,7 +133,11 @@ impl Absorb<Update> for PublishedTable {
 
     ghost applied = { updated };
 
-    fn absorb_first(&mut self, operation: &Update, other: &PublishedTable) -> Result<(), AllocError> {
+    fn absorb_first(
+        &mut self,
+        operation: &Update,
+        other: &PublishedTable,
+    ) -> Result<(), AllocError> {
         match operation {
             Update::Change(change) => {
                 self.table.absorb_first(change, &other.table)?;

@@ -5,13 +5,15 @@ ghost use Rattle.std.specs.FinMap.{get};
 ghost use mathlib.Core.List.{IsPrefix};
 ghost use Rattle.left_right.specs.Sides.{view};
 ghost use Rattle.route_table.specs.Deltas.{Lead};
-ghost use Rattle.publication.specs.Updates.{gifts, all_of, those_of, ends, whole, deltas, updated, shown_state_of, AreAppended, IsRightState};
-ghost use Rattle.publication.specs.Published.{HasGrown, IsKnownAfter, IsPublished, IsTableFor, name_of};
+ghost use Rattle.publication.specs.Updates.{gifts, all_of, those_of, ends, whole, deltas, updated};
+ghost use Rattle.publication.specs.Updates.{shown_state_of, AreAppended, IsRightState};
+ghost use Rattle.publication.specs.Published.{HasGrown, IsKnownAfter, IsPublished, IsTableFor};
+ghost use Rattle.publication.specs.Published.{name_of};
 ghost use Rattle.publication.specs.declared.published_table.Update.TheVariants as update;
 
 use crate::history::{History, HistoryPrefix};
-use crate::rule::{TableWriter, PublishStep};
 use crate::published_table::Update;
+use crate::rule::{PublishStep, TableWriter};
 use ospf_types::prefix::Prefix;
 use route_table::{Change, Item, Table};
 use std::alloc::Global;

@@ -4,7 +4,7 @@ use Rattle.std.proofs.lemmas.Bool.{cases_lt}
 use Rattle.std.proofs.lemmas.List.{length-append, take_at, drop_at}
 use Rattle.std.proofs.lemmas.List.Splits.{length-slice_split}
 use Rattle.lsa_codec.specs.declared.fault.WireFault.{WireFault}
-use Rattle.config_faults.specs.declared.fault.ConfigFault.{ConfigFault}
+use Rattle.ospf_types.specs.declared.fault.ConfigFault.{ConfigFault}
 use Rattle.event_state.specs.declared.base_fault.EntryFault.{EntryFault}
 use Rattle.recording.specs.declared.fault.Fault.{Fault}
 use Rattle.recording.specs.declared.fault.Fault.TheVariants as fault

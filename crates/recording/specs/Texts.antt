@@ -2,7 +2,7 @@
 use Rattle.std.specs.Prelude.{ℕ, List, ◌++◌, codes, decimal}
 use Rattle.ospf_types.specs.Text.{memory_text}
 use Rattle.lsa_codec.specs.Text.{wire_fault_text}
-use Rattle.config_faults.specs.Texts.{config_fault_text}
+use Rattle.ospf_types.specs.Texts.{config_fault_text}
 use Rattle.event_state.specs.Texts.{unfit_text}
 use Rattle.recording.specs.declared.fault.Fault.{Fault}
 use Rattle.recording.specs.declared.fault.Fault.TheVariants as fault

@@ -1,9 +1,9 @@
 ghost use Rattle.std.specs.Prelude.{Some};
 ghost use Rattle.recording.specs.Texts.{fault_text, line_fault_text};
 
-use config_faults::ConfigFault;
 use event_state::EntryFault;
 use lsa_codec::WireFault;
+use ospf_types::ConfigFault;
 use ospf_types::memory::Memory;
 use std::fmt;
 use thiserror::Error;

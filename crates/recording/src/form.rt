@@ -2,7 +2,8 @@
 ghost use Rattle.std.specs.Prelude.{◌≡◌, ◌↔◌, ◌∷◌, Ok, codes, IsNone, IsTrue, IfSome};
 ghost use Rattle.hex.specs.Hex.{decode_of};
 ghost use Rattle.recording.specs.Forms.{Form, IsOfVersion, Says};
-ghost use Rattle.recording.specs.Reading.{said_by, bytes_of, cut, AreRead, HasDigits, IsInterfaceRead, IsKeyRead, IsLsaRead, IsRangeRead};
+ghost use Rattle.recording.specs.Reading.{said_by, bytes_of, cut, AreRead, HasDigits};
+ghost use Rattle.recording.specs.Reading.{IsInterfaceRead, IsKeyRead, IsLsaRead, IsRangeRead};
 
 use crate::version::Version;
 use crate::words::{Words, is};

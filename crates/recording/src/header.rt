@@ -1,8 +1,10 @@
 //! The configuration and the serial, read from the lines of a header one by one.
 ghost use Rattle.std.specs.Prelude.{◌≡◌, ◌++◌, ◌∷◌, true, [], Some, OnOk, IfOk, IfErr};
 ghost use Rattle.recording.specs.Forms.{AreaLine, RangeLine};
-ghost use Rattle.recording.specs.Places.{is_of_header, last_of, is_past_area, is_past_range, is_next_range};
-ghost use Rattle.recording.specs.Progress.{AddsRange, AddsToHeader, IsNextIn, IsRangeRefusal, IsRefusal, headed_base};
+ghost use Rattle.recording.specs.Places.{is_of_header, last_of, is_past_area, is_past_range};
+ghost use Rattle.recording.specs.Places.{is_next_range};
+ghost use Rattle.recording.specs.Progress.{AddsRange, AddsToHeader, IsNextIn, IsRangeRefusal};
+ghost use Rattle.recording.specs.Progress.{IsRefusal, headed_base};
 ghost use Rattle.recording.specs.Reading.{said_by};
 
 use crate::fault::Fault;

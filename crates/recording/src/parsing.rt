@@ -2,7 +2,8 @@
 ghost use Rattle.std.specs.Prelude.{◌≡◌, ◌≢◌, ◌≤◌, ◌+◌, [], ◌∷◌, IsNone, IfSome, OnOk, IfOk, IfErr};
 ghost use Rattle.recording.specs.Recordings.{RecordingValue, IsReadAs, IsText};
 ghost use Rattle.recording.specs.Faults.{IsFaultOf, IsNoVersion};
-ghost use Rattle.recording.specs.Left.{IfMore, HasReadAt, HasRouterAt, HasCompatAt, HasSettingAt, HasHeaderAt, HasBaseAt, EndsHeaderAt, EndsBaseAt, IsCounted};
+ghost use Rattle.recording.specs.Left.{IfMore, HasReadAt, HasRouterAt, HasCompatAt, HasSettingAt};
+ghost use Rattle.recording.specs.Left.{HasHeaderAt, HasBaseAt, EndsHeaderAt, EndsBaseAt, IsCounted};
 ghost use Rattle.recording.specs.declared.version.Version.TheVariants as version_value;
 ghost use Rattle.recording.specs.Forms.{VersionLine, line_text};
 
@@ -15,8 +16,8 @@ use crate::reader::Lines;
 use crate::recording::Recording;
 use crate::version::Version;
 use crate::words::is;
-use config_faults::fault_in;
 use event_state::Base;
+use ospf_types::fault_in;
 use ospf_types::memory::Memory;
 use std::alloc::Global;
 

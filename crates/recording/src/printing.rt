@@ -1,9 +1,18 @@
 //! The text of a recording.
-ghost use Rattle.std.specs.Prelude.{◌≡◌, ◌++◌, All, OnOk, OnErr, Some, cond, codes, map, take, vec_len};
+ghost use Rattle.std.specs.Prelude.{◌≡◌, ◌++◌, All, OnOk, OnErr, Some, cond, codes, map, take};
+ghost use Rattle.std.specs.Prelude.{vec_len};
 ghost use Rattle.std.specs.List.{join_with_byte};
 ghost use Rattle.lsa_codec.specs.Spelling.{spelling};
-ghost use Rattle.recording.specs.Forms.{RouterLine, SerialLine, AreaLine, RangeLine, HasLsaLine, BodyLine, InstallLine, FlushLine, PurgeLine, RangeDropLine, LookupLine, IsForm, IsKind, scope_text, stub_words, key_words};
-ghost use Rattle.recording.specs.Recordings.{GainsBody, GainsLine, GainsLines, IsText, IsWhole, AreWhole, HasKind, HasWholeLsa, text_of, first_forms, first_of_one, first_of_two, first_of_three, header_forms, front_forms, area_forms, interface_form, lsa_form, event_form, form_of, interface_line, range_set_line};
+ghost use Rattle.recording.specs.Forms.{RouterLine, SerialLine, AreaLine, RangeLine, HasLsaLine};
+ghost use Rattle.recording.specs.Forms.{BodyLine, InstallLine, FlushLine, PurgeLine, RangeDropLine};
+ghost use Rattle.recording.specs.Forms.{LookupLine, IsForm, IsKind, scope_text, stub_words};
+ghost use Rattle.recording.specs.Forms.{key_words};
+ghost use Rattle.recording.specs.Recordings.{GainsBody, GainsLine, GainsLines, IsText, IsWhole};
+ghost use Rattle.recording.specs.Recordings.{AreWhole, HasKind, HasWholeLsa, text_of, first_forms};
+ghost use Rattle.recording.specs.Recordings.{first_of_one, first_of_two, first_of_three};
+ghost use Rattle.recording.specs.Recordings.{header_forms, front_forms, area_forms, interface_form};
+ghost use Rattle.recording.specs.Recordings.{lsa_form, event_form, form_of, interface_line};
+ghost use Rattle.recording.specs.Recordings.{range_set_line};
 ghost use Rattle.recording.specs.declared.line.Line.TheVariants as line;
 
 use crate::line::Line;

@@ -1,5 +1,6 @@
 //! The lines of a text, one by one.
-ghost use Rattle.std.specs.Prelude.{◌≡◌, ◌≢◌, ◌≤◌, ◌+◌, [], ◌∷◌, length, IfSome, IsNone, OnOk, OnErr, IfErr};
+ghost use Rattle.std.specs.Prelude.{◌≡◌, ◌≢◌, ◌≤◌, ◌+◌, [], ◌∷◌, length, IfSome, IsNone, OnOk};
+ghost use Rattle.std.specs.Prelude.{OnErr, IfErr};
 
 use crate::fault::{Fault, LineFault};
 use memchr::memchr;

@@ -1,8 +1,11 @@
 //! The words of a line, and the values that they spell.
 ghost use Rattle.std.specs.Prelude.{◌≡◌, ◌≢◌, ◌≤◌, ◌↔◌, [], MatchOption, IsTrue, All, decimal};
 ghost use Rattle.ospf_types.specs.Text.{address_text, prefix_text};
-ghost use Rattle.recording.specs.Forms.{IsAddress, IsKey, IsPrefix, IsScope, IsSerial, IsStub, key_words, scope_text, stub_words, version_word};
-ghost use Rattle.recording.specs.Reading.{cut, either_word, IsRead, Takes, TakesWord, AreDigits, AreLastDigits, IsDecimalValue, IsFirstWord, IsLowerDigit, IsPair, IsUnpadded, pair_words};
+ghost use Rattle.recording.specs.Forms.{IsAddress, IsKey, IsPrefix, IsScope, IsSerial, IsStub};
+ghost use Rattle.recording.specs.Forms.{key_words, scope_text, stub_words, version_word};
+ghost use Rattle.recording.specs.Reading.{cut, either_word, IsRead, Takes, TakesWord, AreDigits};
+ghost use Rattle.recording.specs.Reading.{AreLastDigits, IsDecimalValue, IsFirstWord, IsLowerDigit};
+ghost use Rattle.recording.specs.Reading.{IsPair, IsUnpadded, pair_words};
 
 use crate::version::Version;
 use memchr::memchr;

@@ -1,7 +1,7 @@
 //! A replay for which one request for memory may be refused.
 
 use crate::page::Page;
-use output_format::Format;
+use output_lines::Format;
 use recording::Fault;
 use replay::{PrintOptions, ReplayFault, Show, replay_one};
 use std::hash::RandomState;

@@ -5,7 +5,7 @@ use Rattle.std.specs.Prelude.{Err}
 use Rattle.std.proofs.lemmas.Bool.Decides.{eqb_tells}
 use Rattle.std.specs.List.{flat_map}
 use Rattle.std.specs.FinMap.{entries}
-use Rattle.output_format.specs.declared.Format.{Format}
+use Rattle.output_lines.specs.declared.format.Format.{Format}
 use Rattle.ospf_types.specs.declared.key.Scope.{Scope}
 use Rattle.ospf_types.specs.Lsa.{Lsa}
 use Rattle.event_state.specs.declared.event.Event.{Event}
@@ -17,9 +17,9 @@ use Rattle.event_core.specs.Listings.{AreLsas, lsas_in}
 use Rattle.recording.specs.declared.line.Line.{Line}
 use Rattle.recording.specs.declared.line.Line.TheVariants as line
 use Rattle.recording.specs.Recordings.{RecordingValue}
-use Rattle.output_format.specs.declared.Show.{Show}
+use Rattle.output_lines.specs.declared.format.Show.{Show}
 use Rattle.recording.specs.declared.version.Version.{Version}
-use Rattle.output_format.specs.declared.Show.TheVariants as show
+use Rattle.output_lines.specs.declared.format.Show.TheVariants as show
 use Rattle.replay.specs.Lines.{first_number, lookup_line, answer_line, roll_line, serial_line, item_line, area_lines, lsa_line, recorded_text}
 use Rattle.replay.specs.Runs.{OfEvent, OfRoll, Answers, Prints}
 use Rattle.replay.specs.declared.buffer.PrintError.{PrintError}

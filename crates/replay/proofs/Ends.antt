@@ -1,15 +1,15 @@
 -- What was written where a replay ends.
 use Rattle.std.proofs.Common.{◌≡◌, ℕ, List, [], ◌++◌, Option, inl, inr, refl, sym, ap, subst, ◌∙◌, append-nil}
 use Rattle.std.specs.Io.KnownBytes.{Appends}
-use Rattle.output_format.specs.declared.Format.{Format}
+use Rattle.output_lines.specs.declared.format.Format.{Format}
 use Rattle.event_state.specs.declared.base.Base.{Base}
 use Rattle.event_core.specs.Cores.{CoreValue}
 use Rattle.recording.specs.declared.fault.LineFault.{LineFault}
 use Rattle.recording.specs.declared.line.Line.{Line}
 use Rattle.recording.specs.Recordings.{RecordingValue}
-use Rattle.output_format.specs.declared.Show.{Show}
+use Rattle.output_lines.specs.declared.format.Show.{Show}
 use Rattle.recording.specs.declared.version.Version.{Version}
-use Rattle.output_format.specs.declared.Show.TheVariants as show
+use Rattle.output_lines.specs.declared.format.Show.TheVariants as show
 use Rattle.replay.specs.Lines.{first_number, serial_line, recorded_text}
 use Rattle.replay.specs.Runs.{Answers, Prints, IsOpened}
 use Rattle.replay.specs.declared.fault.ReplayFault.{ReplayFault}

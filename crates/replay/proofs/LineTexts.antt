@@ -3,8 +3,8 @@ use Rattle.std.proofs.Common.{◌≡◌, ◌∙◌, ◌++◌, List, ℕ, codes, 
 use Rattle.std.specs.Prelude.{decimal}
 use Rattle.std.specs.Int.{w16, w32, to_be_bytes}
 use Rattle.hex.specs.Hex.{encode_lower}
-use Rattle.output_format.specs.declared.Format.{Format}
-use Rattle.output_format.specs.declared.Format.TheVariants.{Text}
+use Rattle.output_lines.specs.declared.format.Format.{Format}
+use Rattle.output_lines.specs.declared.format.Format.TheVariants.{Text}
 use Rattle.ospf_types.specs.declared.lsa.Header.{Header}
 use Rattle.ospf_types.specs.Text.{address_text}
 use Rattle.route_table.specs.declared.table.Match.{Match}

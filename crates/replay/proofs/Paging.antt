@@ -1,7 +1,7 @@
 -- What is printed line by line: a part of it is written, and the end of it is on the buffer.
 use Rattle.std.proofs.Common.{◌≡◌, ℕ, suc, ◌<◌, ◌+◌, List, length, get_or, drop, add-one, drop-cons, [], ◌∷◌, ◌++◌, Option, refl, sym, ap, subst, ◌∙◌, append_assoc, append-nil}
 use Rattle.std.specs.List.{flat_map}
-use Rattle.output_format.specs.declared.Format.{Format}
+use Rattle.output_lines.specs.declared.format.Format.{Format}
 use Rattle.event_core.specs.DueSummaries.{listed}
 use Rattle.event_core.specs.Lists.{AreaSummariesValue}
 use Rattle.replay.specs.Lines.{area_lines}

@@ -7,8 +7,8 @@ use Rattle.std.proofs.lemmas.List.Concat.{flat_map-append}
 use Rattle.std.proofs.lemmas.List.Elements.{All-get_or, All-head, All-tail}
 use Rattle.std.proofs.lemmas.Str.Pattern.{IsSplitOnceResult, split_after, split_parts}
 use denote.Ref.{Bor}
-use Rattle.output_format.specs.declared.Format.{Format}
-use Rattle.output_format.specs.declared.Format.TheVariants.{Text, Json}
+use Rattle.output_lines.specs.declared.format.Format.{Format}
+use Rattle.output_lines.specs.declared.format.Format.TheVariants.{Text, Json}
 use Rattle.event_state.specs.declared.base.Base.{Base}
 use Rattle.event_state.specs.declared.event.Event.{Event}
 use Rattle.event_core.specs.Cores.{CoreValue}
@@ -17,8 +17,8 @@ use Rattle.recording.specs.declared.version.Version.{Version}
 use Rattle.recording.specs.Forms.{Form, IsForm, line_text}
 use Rattle.recording.specs.Recordings.{front_forms, form_of, ended, text_of_forms}
 use Rattle.recording.proofs.Forms.{no_line_feed}
-use Rattle.json_objects.specs.Members.{json_line}
-use Rattle.json_lines.specs.Lines.{recorded_data}
+use Rattle.output_lines.specs.Members.{json_line}
+use Rattle.replay.specs.JsonLines.{recorded_data}
 use Rattle.replay.specs.Lines.{IsTextOf, event_line, forms_text, recorded_line, recorded_text}
 use Rattle.replay.specs.Outputs.{journal_of}
 use Rattle.replay.specs.Pages.{Adds, AddsPart}

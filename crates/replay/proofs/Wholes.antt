@@ -3,8 +3,8 @@ use Rattle.std.proofs.Common.{◌≡◌, ◌∙◌, ◌+◌, ℕ, List, [], ◌�
 use Rattle.std.specs.Prelude.{Result, Ok, Err, decimal}
 use Rattle.std.specs.List.{flat_map}
 use Rattle.std.proofs.lemmas.List.{length-append, nil_from_length}
-use Rattle.output_format.specs.declared.Format.{Format}
-use Rattle.output_format.specs.declared.Format.TheVariants.{Text, Json}
+use Rattle.output_lines.specs.declared.format.Format.{Format}
+use Rattle.output_lines.specs.declared.format.Format.TheVariants.{Text, Json}
 use Rattle.ospf_types.specs.declared.key.Scope.{Scope}
 use Rattle.ospf_types.specs.Lsa.{Lsa}
 use Rattle.ospf_types.specs.Network.{Network}
@@ -25,8 +25,8 @@ use Rattle.recording.specs.Forms.{Form, line_text, scope_text}
 use Rattle.recording.specs.Recordings.{event_form, ended}
 use Rattle.serde_json.specs.Data.{Data}
 use Rattle.serde_json.specs.Written.{compact_text}
-use Rattle.json_objects.specs.Members.{json_line}
-use Rattle.json_lines.specs.Lines.{lookup_data, refused_data, behind_data, serial_data, item_data, shown_due_data, lsa_data, recorded_data}
+use Rattle.output_lines.specs.Members.{json_line}
+use Rattle.replay.specs.JsonLines.{lookup_data, refused_data, behind_data, serial_data, item_data, shown_due_data, lsa_data, recorded_data}
 use Rattle.replay.specs.declared.buffer.PrintError.{PrintError}
 use Rattle.replay.specs.declared.buffer.PrintError.TheVariants as stop
 use Rattle.replay.specs.Lines.{lookup_line, behind_line, refused_line, answer_line, roll_line, standing_line, counts_line, serial_line, item_line, due_line, dest_text, lsa_line, header_text, recorded_line, event_line, forms_text}

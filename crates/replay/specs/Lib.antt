@@ -1,3 +1,4 @@
+pub mod JsonLines
 pub mod Lines
 pub mod Runs
 pub mod Inputs

@@ -2,8 +2,8 @@
 use Rattle.std.specs.Prelude.{ℕ, ◌≡◌, ◌+◌, ◌++◌, List, All, length, Result, Ok, Err, codes, decimal}
 use Rattle.std.specs.Int.{w16, w32, to_be_bytes}
 use Rattle.hex.specs.Hex.{encode_lower}
-use Rattle.output_format.specs.declared.Format.{Format}
-use Rattle.output_format.specs.declared.Format.TheVariants.{Text, Json}
+use Rattle.output_lines.specs.declared.format.Format.{Format}
+use Rattle.output_lines.specs.declared.format.Format.TheVariants.{Text, Json}
 use Rattle.ospf_types.specs.declared.key.Dest.{Dest}
 use Rattle.ospf_types.specs.declared.key.Dest.TheVariants.{Net, Router}
 use Rattle.ospf_types.specs.declared.key.Scope.{Scope}
@@ -28,8 +28,8 @@ use Rattle.event_state.specs.declared.event.Event.{Event}
 use Rattle.recording.specs.Forms.{Form, IsForm, line_text, scope_text}
 use Rattle.recording.specs.Recordings.{RecordingValue, front_forms, forms_of, event_form, ended, text_of_forms}
 use Rattle.recording.specs.declared.version.Version.{Version}
-use Rattle.json_objects.specs.Members.{json_line}
-use Rattle.json_lines.specs.Lines.{lookup_data, refused_data, behind_data, serial_data, item_data, shown_due_data, lsa_data, recorded_data}
+use Rattle.output_lines.specs.Members.{json_line}
+use Rattle.replay.specs.JsonLines.{lookup_data, refused_data, behind_data, serial_data, item_data, shown_due_data, lsa_data, recorded_data}
 
 -- the number, in its recording, of the first line behind the base
 abbrev pub first_number : Version → Base → ℕ

@@ -5,16 +5,16 @@ use Rattle.std.specs.FinMap.{entries}
 use Rattle.std.specs.Io.KnownBytes.{Appends}
 use Rattle.ospf_types.specs.declared.key.Scope.{Scope}
 use Rattle.ospf_types.specs.Lsa.{Lsa}
-use Rattle.output_format.specs.declared.Format.{Format}
+use Rattle.output_lines.specs.declared.format.Format.{Format}
 use Rattle.event_core.specs.Cores.{CoreValue, state_of}
 use Rattle.event_core.specs.Listings.{AreLsas}
 use Rattle.event_state.specs.declared.base.Base.{Base}
 use Rattle.recording.specs.declared.line.Line.{Line}
 use Rattle.recording.specs.declared.line.Line.TheVariants as line
 use Rattle.recording.specs.Recordings.{RecordingValue, IsText}
-use Rattle.output_format.specs.declared.Show.{Show}
+use Rattle.output_lines.specs.declared.format.Show.{Show}
 use Rattle.recording.specs.declared.version.Version.{Version}
-use Rattle.output_format.specs.declared.Show.TheVariants as show
+use Rattle.output_lines.specs.declared.format.Show.TheVariants as show
 use Rattle.replay.specs.Lines.{first_number, serial_line, item_line, area_lines, lsa_line, recorded_text}
 use Rattle.replay.specs.Runs.{Answers, Prints, IsOpened}
 use Rattle.replay.specs.Inputs.{ReadsAll}

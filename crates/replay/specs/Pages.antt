@@ -1,7 +1,7 @@
 -- The buffer: the end of what is printed, which is not yet written.
 use Rattle.std.specs.Prelude.{ℕ, ◌≡◌, ◌≢◌, ◌++◌, List, [], ◌∷◌, All, Option, Result, Ok, Err, take}
 use Rattle.std.specs.Io.KnownBytes.{Appends}
-use Rattle.output_format.specs.declared.Format.{Format}
+use Rattle.output_lines.specs.declared.format.Format.{Format}
 use Rattle.event_state.specs.declared.event.Event.{Event}
 use Rattle.event_state.specs.declared.refusal.Refusal.{Refusal}
 use Rattle.event_state.specs.declared.refusal.Refusal.TheVariants as refusal

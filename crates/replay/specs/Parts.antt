@@ -9,8 +9,8 @@ use Rattle.replay.specs.declared.fault.ReplayFault.TheVariants as fault
 use Rattle.replay.specs.declared.buffer.PrintError.{PrintError}
 use Rattle.replay.specs.declared.buffer.PrintError.TheVariants as stop
 use Rattle.replay.specs.declared.printing.PrintOptions.{PrintOptions}
-use Rattle.output_format.specs.declared.Show.{Show}
-use Rattle.output_format.specs.declared.Show.TheVariants as show
+use Rattle.output_lines.specs.declared.format.Show.{Show}
+use Rattle.output_lines.specs.declared.format.Show.TheVariants as show
 use Rattle.replay.specs.Lines.{first_number}
 use Rattle.replay.specs.Runs.{Answers, IsOpened}
 use Rattle.replay.specs.Inputs.{ReadsAll}

@@ -4,7 +4,7 @@ use Rattle.event_state.specs.declared.base.Base.{Base}
 use Rattle.event_state.specs.declared.refusal.Refusal.{Refusal}
 use Rattle.event_state.specs.States.{serial_of}
 use Rattle.event_state.specs.Steps.{standard_limits}
-use Rattle.output_format.specs.declared.Format.{Format}
+use Rattle.output_lines.specs.declared.format.Format.{Format}
 use Rattle.route_table.specs.declared.table.Match.{Match}
 use Rattle.route_table.specs.Tables.{IsMatch}
 use Rattle.event_core.specs.declared.reply.Reply.{Reply}

@@ -3,16 +3,17 @@ ghost use Rattle.std.specs.Prelude.{◌++◌, OnOk, IfErr, List, string_bytes};
 ghost use Rattle.std.specs.List.{flat_map};
 ghost use Rattle.recording.specs.Forms.{Form};
 ghost use Rattle.recording.specs.Recordings.{front_forms};
-ghost use Rattle.replay.specs.Lines.{IsTextOf, event_line, forms_text, recorded_line, recorded_text};
+ghost use Rattle.replay.specs.Lines.{IsTextOf, event_line, forms_text, recorded_line};
+ghost use Rattle.replay.specs.Lines.{recorded_text};
 ghost use Rattle.replay.specs.Outputs.{journal_of};
 ghost use Rattle.replay.specs.Pages.{Adds, AddsPart};
 ghost use Rattle.replay.specs.Stops.{AreWhole};
 
-use crate::lines::put_event;
 use crate::buffer::{PrintError, flush_if_full};
+use crate::json_lines::put_recorded;
+use crate::lines::put_event;
 use event_core::{Core, Event};
-use json_lines::put_recorded;
-use output_format::Format;
+use output_lines::Format;
 use recording::{Version, append_preamble};
 use std::io;
 
@@ -78,7 +79,11 @@ impl Journal<'_> {
 }
 
 // Prints the lines of a recording as objects.
-fn show_recorded<W: io::Write>(text: &str, out: &mut W, buffer: &mut String) -> Result<(), PrintError>
+fn show_recorded<W: io::Write>(
+    text: &str,
+    out: &mut W,
+    buffer: &mut String,
+) -> Result<(), PrintError>
     ensures ok { (forms : List Form) → IsTextOf text.now forms
         → OnOk result (Adds (W.contents out.old) (W.contents out.new) (string_bytes buffer.old)
         (string_bytes buffer.new) (flat_map recorded_line forms)) }

@@ -26,12 +26,13 @@
 //! workers (`worker_replay`), and with the changes of each event (`changes`).
 #![tactic(auto)]
 
+mod buffer;
 mod fault;
 mod journal;
+pub mod json_lines;
 mod lines;
 mod opened;
 mod output;
-mod buffer;
 mod printing;
 mod progress;
 mod replaying;
@@ -39,14 +40,14 @@ mod running;
 mod showing;
 mod writing;
 
+pub use buffer::{PrintError, fault_of, flush_buffer, flush_if_full, new_buffer};
 pub use fault::ReplayFault;
 pub use journal::Journal;
 pub use lines::{
     put_answer, put_behind, put_dest, put_found, put_lookup, put_refused, put_roll, put_serial,
 };
 pub use opened::OpenedRecording;
-pub use output_format::Show;
-pub use buffer::{PrintError, new_buffer, fault_of, flush_if_full, flush_buffer};
+pub use output_lines::Show;
 pub use printing::PrintOptions;
 pub use progress::Progress;
 pub use replaying::{parse_bytes, read_recording, replay_one};

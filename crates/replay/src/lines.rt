@@ -3,21 +3,23 @@
 //! If memory runs out, the text may have a part of the line. `number` is the number of a line in
 //! its recording, from 1.
 ghost use Rattle.std.specs.Prelude.{◌≡◌, ◌++◌, OnOk, codes, string_bytes};
-ghost use Rattle.output_format.specs.declared.Format.TheVariants as format_value;
+ghost use Rattle.output_lines.specs.declared.format.Format.TheVariants as format_value;
 ghost use Rattle.recording.specs.Forms.{scope_text};
 ghost use Rattle.route_table.specs.declared.table.Match.{Match};
 ghost use Rattle.route_table.specs.Tables.{IsMatch};
-ghost use Rattle.replay.specs.Lines.{lookup_line, behind_line, refused_line, answer_line, roll_line, counts_line, serial_line, item_line, due_line, dest_text, header_text, lsa_line, event_line};
+ghost use Rattle.replay.specs.Lines.{lookup_line, behind_line, refused_line, answer_line};
+ghost use Rattle.replay.specs.Lines.{roll_line, counts_line, serial_line, item_line, due_line};
+ghost use Rattle.replay.specs.Lines.{dest_text, header_text, lsa_line, event_line};
 
+use crate::json_lines;
+use crate::json_lines::{Lookup, put_recorded};
 use event_core::{Core, DueSummary, Event, Refusal, Reply, Status};
-use json_lines::{Lookup, put_recorded};
 use lsa_codec::{Checked, Header};
-use lsa_words::put_hexadecimal;
 use ospf_types::address::Address;
 use ospf_types::key::{Dest, Scope};
 use ospf_types::memory::Memory;
 use ospf_types::prefix::Prefix;
-use output_format::Format;
+use output_lines::{Format, put_hexadecimal};
 use recording::append_event;
 use route_table::{Item, Match, Table};
 

@@ -4,15 +4,15 @@ ghost use Rattle.replay.specs.Advance.{ShowsProgress};
 ghost use Rattle.replay.specs.Runs.{IsOpened};
 ghost use Rattle.replay.specs.Outputs.{recording_of};
 ghost use Rattle.replay.specs.Parts.{WritesOutput, WritesPart};
-ghost use Rattle.output_format.specs.declared.Show.TheVariants as show_value;
+ghost use Rattle.output_lines.specs.declared.format.Show.TheVariants as show_value;
 
+use crate::buffer::{PrintError, flush_buffer, new_buffer};
 use crate::journal::Journal;
 use crate::lines::put_serial;
 use crate::opened::OpenedRecording;
-use crate::buffer::{PrintError, new_buffer, flush_buffer};
 use crate::printing::PrintOptions;
 use crate::showing::{show_items, show_lsas, show_summaries};
-use output_format::Show;
+use output_lines::Show;
 use std::alloc::Global;
 use std::io;
 

@@ -1,6 +1,6 @@
 //! The options of what a replay prints.
 
-use output_format::{Format, Show};
+use output_lines::{Format, Show};
 
 /// The options of what a replay prints.
 #[derive(Clone, Copy, Debug, PartialEq, Eq)]

@@ -9,9 +9,9 @@ ghost use Rattle.replay.specs.declared.buffer.PrintError.TheVariants as stop;
 ghost use Rattle.replay.specs.Outputs.{Replays, ReplaysPart};
 ghost use Rattle.replay.specs.Parts.{IsParsed, IsRead, IsReadFault};
 
+use crate::buffer::fault_of;
 use crate::fault::ReplayFault;
 use crate::opened::OpenedRecording;
-use crate::buffer::fault_of;
 use crate::printing::PrintOptions;
 use recording::{Recording, parse};
 use std::alloc::Global;

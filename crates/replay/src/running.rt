@@ -1,5 +1,6 @@
 //! The run of the lines of a recording.
-ghost use Rattle.std.specs.Prelude.{◌≡◌, ◌≢◌, [], ◌∷◌, ◌+◌, ◌^◌, ◌<◌, ◌≤◌, length, IfOk, OnOk, IfErr, string_bytes};
+ghost use Rattle.std.specs.Prelude.{◌≡◌, ◌≢◌, [], ◌∷◌, ◌+◌, ◌^◌, ◌<◌, ◌≤◌, length, IfOk, OnOk};
+ghost use Rattle.std.specs.Prelude.{IfErr, string_bytes};
 ghost use Rattle.event_state.specs.declared.refusal.Refusal.TheVariants as refusal_value;
 ghost use Rattle.recording.specs.Places.{first_lines};
 ghost use Rattle.replay.specs.Advance.{ShowsProgress};
@@ -8,14 +9,14 @@ ghost use Rattle.replay.specs.Pages.{Ran, RanPart, RanLine, IsRunTo, TakesEvent,
 ghost use Rattle.replay.specs.Runs.{RollsBy};
 ghost use Rattle.replay.specs.Stops.{AreWhole};
 
+use crate::buffer::{PrintError, flush_if_full};
 use crate::lines::{put_answer, put_lookup, put_roll};
 use crate::opened::OpenedRecording;
-use crate::buffer::{PrintError, flush_if_full};
 use crate::printing::PrintOptions;
 use crate::progress::Progress;
 use event_core::{Base, Core, Event, Refusal};
 use ospf_types::memory::Memory;
-use output_format::Format;
+use output_lines::Format;
 use recording::{Line, Version};
 use std::alloc::Global;
 use std::io;

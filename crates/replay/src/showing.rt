@@ -7,12 +7,12 @@ ghost use Rattle.replay.specs.Lines.{area_lines, due_line, item_line, lsa_line};
 ghost use Rattle.replay.specs.Pages.{Adds, AddsPart};
 ghost use Rattle.replay.specs.Stops.{AreWhole};
 
-use crate::lines::{put_due, put_item, put_lsa};
 use crate::buffer::{PrintError, flush_if_full};
+use crate::lines::{put_due, put_item, put_lsa};
 use event_core::{DueSummaries, DueSummary};
 use lsa_codec::Checked;
 use ospf_types::key::Scope;
-use output_format::Format;
+use output_lines::Format;
 use route_table::Table;
 use std::io;
 

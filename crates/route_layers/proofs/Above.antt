@@ -37,13 +37,13 @@ use Rattle.external.specs.Right.{AreInputsOf as ExternalInputsOf}
 use Rattle.event_state.specs.Held.{AreFit}
 use Rattle.event_state.specs.States.{State, AreApart, place_of, database_of, inputs_of}
 use Rattle.event_state.proofs.Places.{no_area}
-use Rattle.state_trees.specs.Trees.{lsas_in, areas_with, AreTreesOf, StatesDifferAmong}
+use Rattle.route_layers.specs.Trees.{lsas_in, areas_with, AreTreesOf, StatesDifferAmong}
 use Rattle.route_layers.specs.Layers.{IsExaminedOf, inter_inputs, external_inputs}
-use Rattle.state_trees.specs.Works.{area_of}
+use Rattle.route_layers.specs.Works.{area_of}
 use Rattle.route_layers.proofs.Examining.{area_from}
-use Rattle.state_trees.proofs.Follows.{router_kept, bodies_differ}
-use Rattle.state_trees.proofs.InputsAre.{lsas_same}
-use Rattle.state_trees.proofs.Places.{area_there, fit_lsas}
+use Rattle.route_layers.proofs.Follows.{router_kept, bodies_differ}
+use Rattle.route_layers.proofs.InputsAre.{lsas_same}
+use Rattle.route_layers.proofs.Places.{area_there, fit_lsas}
 
 -- ---- the definitions speak of it
 

@@ -16,7 +16,7 @@ use Rattle.ospf_types.proofs.Elements.{no_element, first_element, later_element,
 use Rattle.spf.proofs.OfSome.{contains_at, contains_more}
 use Rattle.event_state.specs.States.{State, AreApart, inputs_of}
 use Rattle.route_layers.specs.Layers.{IsUpAmong, IsUpIn}
-use Rattle.state_trees.specs.Works.{area_of}
+use Rattle.route_layers.specs.Works.{area_of}
 
 -- ---- an interface that is up
 

@@ -1,3 +1,15 @@
+pub mod Places
+pub mod OtherRanges
+pub mod Standing
+pub mod Ups
+pub mod Keys
+pub mod Sums
+pub mod Building
+pub mod Turns
+pub mod Follows
+pub mod InputsAre
+pub mod Filling
+pub mod Followed
 pub mod Examining
 pub mod Above
 pub mod Activating

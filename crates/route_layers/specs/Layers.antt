@@ -13,7 +13,7 @@ use Rattle.inter.specs.Inputs.{ExaminedValue, InterInputsValue}
 use Rattle.inter.specs.Inters.{InterValue, IsInterOf}
 use Rattle.external.specs.Inputs.{ExternalInputsValue}
 use Rattle.event_state.specs.States.{State, database_of, inputs_of}
-use Rattle.state_trees.specs.Trees.{lsas_in}
+use Rattle.route_layers.specs.Trees.{lsas_in}
 
 -- one of these interfaces is up in the area
 abbrev pub IsUpAmong : List (ℕ × Interface) → ℕ → Type 0

@@ -1,1 +1,4 @@
+pub mod Trees
+pub mod Works
+pub mod Turns
 pub mod Layers

@@ -1,6 +1,7 @@
 //! The layers above intra-area routes: inter-area routes and external routes (RFC 2328, 16.2 and
 //! 16.4).
-ghost use Rattle.std.specs.Prelude.{ℕ, ◌≡◌, ◌≢◌, ◌↔◌, ◌≤◌, false, length, Option, Contains, IsTrue, IfOk, IfSome, IfNone, OnOk, map as list_map};
+ghost use Rattle.std.specs.Prelude.{ℕ, ◌≡◌, ◌≢◌, ◌↔◌, ◌≤◌, false, length, Option, Contains, IsTrue};
+ghost use Rattle.std.specs.Prelude.{IfOk, IfSome, IfNone, OnOk, map as list_map};
 ghost use Rattle.std.specs.List.Sorted.{IsStrictlySortedBy};
 ghost use Rattle.ospf_types.specs.declared.config.AreaConfig.{AreaConfig};
 ghost use Rattle.ospf_types.specs.declared.config.Interface.{Interface as InterfaceValue};
@@ -13,18 +14,22 @@ ghost use Rattle.event_state.specs.States.{database_of, inputs_of};
 ghost use Rattle.event_state.specs.Held.{AreFit};
 ghost use Rattle.intra.specs.Right.{IsRightFor};
 ghost use Rattle.active_ranges.specs.Right.{IsRightFor as AreRangesRight};
-ghost use Rattle.inter.specs.Changes.{DiffersAt as InterDiffersAt, InputsDifferAmong as InterInputsDiffer};
+ghost use Rattle.inter.specs.Changes.{DiffersAt as InterDiffersAt};
+ghost use Rattle.inter.specs.Changes.{InputsDifferAmong as InterInputsDiffer};
 ghost use Rattle.inter.specs.Inputs.{ExaminedValue, InterInputsValue};
 ghost use Rattle.inter.specs.Inters.{IsInterOf};
 ghost use Rattle.inter.specs.Right.{IsRightFor as IsInterRight};
-ghost use Rattle.external.specs.Changes.{DiffersAt as ExternalDiffersAt, InputsDifferAmong as ExternalInputsDiffer};
+ghost use Rattle.external.specs.Changes.{DiffersAt as ExternalDiffersAt};
+ghost use Rattle.external.specs.Changes.{InputsDifferAmong as ExternalInputsDiffer};
 ghost use Rattle.external.specs.Inputs.{ExternalInputsValue};
 ghost use Rattle.external.specs.Externals.{IsExternalOf};
 ghost use Rattle.external.specs.Right.{IsRightFor as IsExternalRight};
 ghost use Rattle.route_layers.specs.Layers.{AreActive, IsInterFor};
-ghost use Rattle.route_layers.specs.Layers.{IsExaminedOf, IsUpAmong, IsUpIn, inter_inputs, external_inputs};
-ghost use Rattle.state_trees.specs.Trees.{lsas_in};
+ghost use Rattle.route_layers.specs.Layers.{IsExaminedOf, IsUpAmong, IsUpIn, inter_inputs};
+ghost use Rattle.route_layers.specs.Layers.{external_inputs};
+ghost use Rattle.route_layers.specs.Trees.{lsas_in};
 
+use crate::is_up_in;
 use active_ranges::ActiveRanges;
 use event_state::State;
 use external::{External, ExternalInputs};
@@ -35,7 +40,6 @@ use ospf_types::config::Interface;
 use ospf_types::key::{Dest, Scope};
 use ospf_types::memory::Memory;
 use smallvec::SmallVec;
-use state_trees::is_up_in;
 use std::alloc::Global;
 use std::collections::btree_map::Iter;
 use std::hash::RandomState;

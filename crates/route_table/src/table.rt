@@ -1,11 +1,13 @@
 //! The routing table: a map from networks to items, with longest-match lookup.
-ghost use Rattle.std.specs.Prelude.{◌≡◌, ◌<◌, ◌^◌, OnOk, OnErr, None, length, option_copied, option_map, IsSome, IsTrue};
+ghost use Rattle.std.specs.Prelude.{◌≡◌, ◌<◌, ◌^◌, OnOk, OnErr, None, length, option_copied};
+ghost use Rattle.std.specs.Prelude.{option_map, IsSome, IsTrue};
 ghost use Rattle.std.specs.FinMap as map;
 ghost use Rattle.std.specs.List.Sorted.{IsStrictlySortedBy};
 ghost use Rattle.std.specs.Map.{keys_of};
 ghost use Rattle.ospf_types.specs.Network.{network_cmp};
 ghost use Rattle.route_table.specs.Tables.{IsMatch, StandsAs, table_with};
 
+use ospf_types::WordHash;
 use ospf_types::entry::Entry;
 use ospf_types::memory::Memory;
 use ospf_types::prefix::Prefix;
@@ -13,7 +15,6 @@ use prefix_index::PrefixIndex;
 use std::alloc::Global;
 use std::hash::RandomState;
 use std::marker::Model;
-use word_hash::WordHash;
 
 /// The item that the table has for a network.
 #[derive(Debug, Drop)]

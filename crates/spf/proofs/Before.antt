@@ -9,7 +9,7 @@ use Rattle.ospf_types.specs.declared.label.Label.{Label}
 use Rattle.ospf_types.specs.declared.label.Label.TheVariants.{Over, At, Plain}
 use Rattle.ospf_types.specs.Distances.{Links}
 use Rattle.vertex_graph.specs.Link.{Link}
-use Rattle.tree_parts.proofs.Elements.{cases_vertex, cases_element}
+use Rattle.vertex_queue.proofs.Elements.{cases_vertex, cases_element}
 use Rattle.spf.specs.Repairs.{AreChanges}
 use Rattle.spf.specs.Changes.{link_value, Among, Earlier, SameLinks, AreDecided, AreExactChanges}
 

@@ -7,11 +7,11 @@ use Rattle.std.proofs.lemmas.List.{take_all, get_or_default, get_or-take, length
 use Rattle.std.proofs.lemmas.List.Elements.{Contains-append_left, Contains-push, Contains-push_cases}
 use Rattle.ospf_types.specs.declared.entry.Vertex.{Vertex}
 use Rattle.ospf_types.proofs.Elements.{no_element}
-use Rattle.tree_parts.specs.VertexSet.{HasNoDoubles}
-use Rattle.tree_parts.specs.Maps.{HopMap}
-use Rattle.tree_parts.proofs.Counting.{no_doubles_nil, no_doubles_push}
-use Rattle.tree_parts.proofs.Elements.{cases_vertex}
-use Rattle.tree_parts.proofs.VertexMaps.{gone_here, gone_elsewhere}
+use Rattle.vertex_queue.specs.VertexSet.{HasNoDoubles}
+use Rattle.vertex_queue.specs.Maps.{HopMap}
+use Rattle.vertex_queue.proofs.Counting.{no_doubles_nil, no_doubles_push}
+use Rattle.vertex_queue.proofs.Elements.{cases_vertex}
+use Rattle.vertex_queue.proofs.VertexMaps.{gone_here, gone_elsewhere}
 use Rattle.spf.specs.HandedOn.{AreBlanked}
 use Rattle.spf.proofs.OptionCases.{none_there}
 use Rattle.spf.proofs.OfSome.{contains_more}

@@ -8,9 +8,9 @@ use Rattle.ospf_types.specs.declared.entry.Vertex.TheVariants.{Router}
 use Rattle.ospf_types.specs.declared.hop.NextHop.{NextHop}
 use Rattle.ospf_types.specs.declared.label.Label.{Label}
 use Rattle.ospf_types.specs.Distances.{Links, IsHop}
-use Rattle.tree_parts.specs.VertexSet.{HasNoDoubles}
-use Rattle.tree_parts.proofs.Elements.{cases_contains}
-use Rattle.tree_parts.proofs.Counting.{no_longer}
+use Rattle.vertex_queue.specs.VertexSet.{HasNoDoubles}
+use Rattle.vertex_queue.proofs.Elements.{cases_contains}
+use Rattle.vertex_queue.proofs.Counting.{no_longer}
 use Rattle.spf.specs.Trees.{AreDistances}
 use Rattle.spf.specs.Repairs.{Between, AreChanges, AreDear, IsReset, AreMoved, IsSame, AreOwed, IsDue, Moved, Went, Came, OutOfLost, OutOfMoved, OutOfWritten}
 use Rattle.spf.proofs.Values.{within_path}

@@ -9,7 +9,7 @@ use Rattle.ospf_types.specs.declared.hop.NextHop.{NextHop}
 use Rattle.ospf_types.specs.Distances.{IsHop}
 use Rattle.vertex_graph.specs.Link.{Link}
 use Rattle.vertex_graph.specs.Graphs.{GraphValue, graph_view, LinksOf, HasRoot, AreExact}
-use Rattle.tree_parts.proofs.Elements.{cases_vertex}
+use Rattle.vertex_queue.proofs.Elements.{cases_vertex}
 use Rattle.spf.specs.Changes.{link_value, SameLinks, AreDecided}
 use Rattle.spf.specs.Parts.{HadRoot, LinksBefore, hops_of}
 use Rattle.spf.specs.Trees.{AreLinks, HaveAddresses, IsTree}

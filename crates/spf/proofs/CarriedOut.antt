@@ -13,8 +13,8 @@ use Rattle.ospf_types.specs.Distances.{IsHop}
 use Rattle.ospf_types.proofs.Elements.{first_element, later_element}
 use Rattle.vertex_graph.specs.Link.{Link}
 use Rattle.vertex_graph.specs.Graphs.{GraphValue, graph_view, LinksOf, HasRoot}
-use Rattle.tree_parts.proofs.Counting.{no_longer}
-use Rattle.tree_parts.proofs.Elements.{cases_contains, cases_vertex}
+use Rattle.vertex_queue.proofs.Counting.{no_longer}
+use Rattle.vertex_queue.proofs.Elements.{cases_contains, cases_vertex}
 use Rattle.spf.specs.Trees.{AreLinks, AreDistances, IsWithin}
 use Rattle.spf.specs.Repairs.{AreChanges, AreOwed, IsDue, Moved, Went, Came, OutOfLost, OutOfMoved, OutOfWritten}
 use Rattle.spf.specs.Changes.{Among}

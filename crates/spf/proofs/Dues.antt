@@ -5,7 +5,7 @@ use Rattle.ospf_types.specs.declared.entry.Vertex.{Vertex}
 use Rattle.ospf_types.specs.declared.hop.NextHop.{NextHop}
 use Rattle.ospf_types.specs.declared.label.Label.{Label}
 use Rattle.ospf_types.specs.Distances.{Links}
-use Rattle.tree_parts.specs.VertexSet.{IsAdded}
+use Rattle.vertex_queue.specs.VertexSet.{IsAdded}
 use Rattle.spf.specs.Repairs.{IsDue, Moved, Went, Came, OutOfLost, OutOfMoved, OutOfWritten}
 use Rattle.spf.specs.Loops.{IsUpdated, AreDue, AreQueuedDue}
 use Rattle.ospf_types.proofs.Elements.{no_element}

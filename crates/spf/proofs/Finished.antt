@@ -10,8 +10,8 @@ use Rattle.ospf_types.specs.Vertices.{vertex_cmp}
 use Rattle.ospf_types.proofs.Elements.{mapped_element, mapped_from}
 use Rattle.vertex_graph.specs.Link.{Link}
 use Rattle.vertex_graph.specs.Graphs.{GraphValue}
-use Rattle.tree_parts.specs.Maps.{DistanceMap}
-use Rattle.tree_parts.specs.Differing.{IsFarther, IsNearer}
+use Rattle.vertex_queue.specs.Maps.{DistanceMap}
+use Rattle.vertex_queue.specs.Differing.{IsFarther, IsNearer}
 use Rattle.spf.specs.Parts.{AreLost, IsRelaxedTo, AreSettled, hops_of}
 use Rattle.spf.specs.TreeValues.{TreeValue, IsTreeOf, IsTreeBefore, IsBegun, Differs, IsChangedBy, AreChanged, IsBounded, IsWorkDone, IsCarriedOut, tree_of}
 use Rattle.spf.proofs.Idle.{idle}

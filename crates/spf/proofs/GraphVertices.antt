@@ -13,11 +13,11 @@ use Rattle.ospf_types.specs.Lsa.{RouterLink}
 use Rattle.ospf_types.proofs.Elements.{no_element, first_or_later}
 use Rattle.vertex_graph.specs.LinkEnd.{LinkEnd}
 use Rattle.vertex_graph.specs.Graphs.{GraphValue, graph_view, link_of, LinksOf, HasRoot, HasFewRouters}
-use Rattle.tree_parts.specs.VertexSet.{HasNoDoubles}
-use Rattle.tree_parts.specs.Maps.{most_distance}
-use Rattle.tree_parts.proofs.Counting.{no_doubles_nil, no_doubles_push}
-use Rattle.tree_parts.proofs.Elements.{cases_element}
-use Rattle.tree_parts.proofs.VertexMaps.{key_there, len_most}
+use Rattle.vertex_queue.specs.VertexSet.{HasNoDoubles}
+use Rattle.vertex_queue.specs.Maps.{most_distance}
+use Rattle.vertex_queue.proofs.Counting.{no_doubles_nil, no_doubles_push}
+use Rattle.vertex_queue.proofs.Elements.{cases_element}
+use Rattle.vertex_queue.proofs.VertexMaps.{key_there, len_most}
 use Rattle.spf.specs.Trees.{AreCosts, AreReal}
 use Rattle.spf.proofs.AreaLinks.{area_links}
 use Rattle.spf.proofs.Paths.{ends_in}

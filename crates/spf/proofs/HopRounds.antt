@@ -8,8 +8,8 @@ use Rattle.ospf_types.specs.declared.hop.NextHop.{NextHop}
 use Rattle.ospf_types.specs.Distances.{Links}
 use Rattle.ospf_types.proofs.Elements.{no_element}
 use Rattle.vertex_queue.specs.Queues.{Queue}
-use Rattle.tree_parts.specs.Maps.{HopMap}
-use Rattle.tree_parts.proofs.VertexMaps.{set_here, set_elsewhere}
+use Rattle.vertex_queue.specs.Maps.{HopMap}
+use Rattle.vertex_queue.proofs.VertexMaps.{set_here, set_elsewhere}
 use Rattle.spf.specs.HandedOn.{ArePut, IsLeastHead, IsSettled}
 use Rattle.spf.specs.Parts.{hops_of}
 use Rattle.spf.specs.Trees.{IsGiven}

@@ -19,7 +19,7 @@ use Rattle.ospf_types.proofs.OneBest.{same_list}
 use Rattle.ospf_types.proofs.Orders.{hop_total, hop_exact}
 use Rattle.vertex_graph.specs.Labels.{addresses_of}
 use Rattle.vertex_graph.specs.Link.{Link}
-use Rattle.tree_parts.specs.Maps.{HopMap}
+use Rattle.vertex_queue.specs.Maps.{HopMap}
 use Rattle.spf.specs.Changes.{link_value}
 use Rattle.spf.specs.Parts.{hops_of}
 use Rattle.spf.specs.HandedOn.{IsOfSome, IsLeastLink, IsGivenOver, IsHandedOn, IsUnion}

@@ -6,7 +6,7 @@ use Rattle.ospf_types.specs.declared.entry.Vertex.TheVariants.{Router}
 use Rattle.ospf_types.specs.declared.hop.NextHop.{NextHop}
 use Rattle.ospf_types.specs.declared.label.Label.{Label}
 use Rattle.ospf_types.specs.Distances.{Links, TakenLink, Leads, IsPath, cost_of, IsDistance, FirstOnly, IsFirst, IsHop}
-use Rattle.tree_parts.proofs.Elements.{cases_vertex}
+use Rattle.vertex_queue.proofs.Elements.{cases_vertex}
 use Rattle.spf.specs.Trees.{step_to, AreLinks, HaveAddresses, AreDistances, IsLeast, HandsOn, Gives, IsGiven, AreUnions}
 use Rattle.spf.proofs.Paths.{cost_of-push, one_more, last_step, ends_in, empty_to_root, beginning, same_distance}
 use Rattle.spf.proofs.Values.{root_zero, last_least}

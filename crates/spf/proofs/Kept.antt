@@ -12,7 +12,7 @@ use Rattle.ospf_types.proofs.Elements.{no_element}
 use Rattle.ospf_types.proofs.OneBest.{same_list}
 use Rattle.ospf_types.proofs.Orders.{hop_total, hop_exact}
 use Rattle.ospf_types.proofs.Paths.{hop_eq-Decides}
-use Rattle.tree_parts.specs.Maps.{AreHopsInOrder}
+use Rattle.vertex_queue.specs.Maps.{AreHopsInOrder}
 use Rattle.spf.specs.TreeValues.{TreeValue, Differs, AreChanged, AreOthersKept, listed_hops}
 use Rattle.spf.proofs.Before.{cases_decided}
 use Rattle.spf.proofs.CarriedOut.{cases_distance}

@@ -41,7 +41,7 @@ pub mod Caller
 pub mod Finished
 pub mod Kept
 mod Smallest
-pub use Rattle.tree_parts.proofs.Counting
-pub use Rattle.tree_parts.proofs.Elements
-pub use Rattle.tree_parts.proofs.SortedOnce
-pub use Rattle.tree_parts.proofs.VertexMaps
+pub use Rattle.vertex_queue.proofs.Counting
+pub use Rattle.vertex_queue.proofs.Elements
+pub use Rattle.vertex_queue.proofs.SortedOnce
+pub use Rattle.vertex_queue.proofs.VertexMaps

@@ -5,7 +5,7 @@ use Rattle.ospf_types.specs.declared.entry.Vertex.{Vertex}
 use Rattle.ospf_types.specs.declared.entry.Vertex.TheVariants.{Router}
 use Rattle.ospf_types.specs.declared.label.Label.{Label}
 use Rattle.ospf_types.specs.Distances.{Links}
-use Rattle.tree_parts.specs.VertexSet.{IsAdded}
+use Rattle.vertex_queue.specs.VertexSet.{IsAdded}
 use Rattle.spf.specs.Trees.{AreDistances, IsLeast}
 use Rattle.spf.specs.Repairs.{AreGone, IsSupported}
 use Rattle.spf.specs.Loops.{IsReached, AreLosingSupport, IsLost}

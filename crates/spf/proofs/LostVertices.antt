@@ -6,7 +6,7 @@ use Rattle.ospf_types.specs.declared.entry.Vertex.{Vertex}
 use Rattle.ospf_types.specs.declared.entry.Vertex.TheVariants.{Router}
 use Rattle.ospf_types.specs.declared.label.Label.{Label}
 use Rattle.ospf_types.specs.Distances.{Links, TakenLink, Leads, IsPath, cost_of}
-use Rattle.tree_parts.proofs.Elements.{cases_vertex}
+use Rattle.vertex_queue.proofs.Elements.{cases_vertex}
 use Rattle.spf.specs.Trees.{step_to, AreLinks, EndsIn, HasPathWithin, AreDistances, IsLeast, rank}
 use Rattle.spf.specs.Repairs.{Between, AreGone, IsSupported, AreHeld, AreDear}
 use Rattle.ospf_types.proofs.Elements.{no_element}

@@ -11,11 +11,11 @@ use Rattle.vertex_graph.specs.Link.{Link}
 use Rattle.vertex_graph.specs.Graphs.{GraphValue, graph_view, LinksOf, HasRoot}
 use Rattle.vertex_queue.specs.Queues.{Queue, IsFirst, rank as queue_rank}
 use Rattle.vertex_queue.proofs.Ranks.{first_has_least_rank}
-use Rattle.tree_parts.specs.VertexSet.{HasNoDoubles}
-use Rattle.tree_parts.specs.Maps.{DistanceMap}
-use Rattle.tree_parts.proofs.Counting.{no_doubles_nil, no_doubles_push}
-use Rattle.tree_parts.proofs.Elements.{added_end, cases_vertex}
-use Rattle.tree_parts.proofs.VertexMaps.{set_here, set_elsewhere, gone_here, gone_elsewhere}
+use Rattle.vertex_queue.specs.VertexSet.{HasNoDoubles}
+use Rattle.vertex_queue.specs.Maps.{DistanceMap}
+use Rattle.vertex_queue.proofs.Counting.{no_doubles_nil, no_doubles_push}
+use Rattle.vertex_queue.proofs.Elements.{added_end, cases_vertex}
+use Rattle.vertex_queue.proofs.VertexMaps.{set_here, set_elsewhere, gone_here, gone_elsewhere}
 use Rattle.spf.specs.Trees.{AreLinks, rank}
 use Rattle.spf.specs.Repairs.{IsReset, IsOffered}
 use Rattle.spf.specs.Loops.{IsOpened, AreRelaxing, IsTaken}

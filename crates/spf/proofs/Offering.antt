@@ -12,9 +12,9 @@ use Rattle.ospf_types.specs.Distances.{Links}
 use Rattle.vertex_graph.specs.Link.{Link}
 use Rattle.vertex_queue.specs.Queues.{Queue, waits_within, lessened}
 use Rattle.vertex_queue.proofs.Ranks.{lessened_here, lessened_elsewhere}
-use Rattle.tree_parts.specs.VertexSet.{IsAdded}
-use Rattle.tree_parts.proofs.Elements.{cases_vertex}
-use Rattle.tree_parts.proofs.VertexMaps.{set_here}
+use Rattle.vertex_queue.specs.VertexSet.{IsAdded}
+use Rattle.vertex_queue.proofs.Elements.{cases_vertex}
+use Rattle.vertex_queue.proofs.VertexMaps.{set_here}
 use Rattle.spf.specs.declared.relax.Pending.{Pending}
 use Rattle.spf.specs.Changes.{link_value}
 use Rattle.spf.specs.Trees.{IsWithin}

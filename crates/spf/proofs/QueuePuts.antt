@@ -10,7 +10,7 @@ use Rattle.ospf_types.specs.Distances.{Links}
 use Rattle.vertex_graph.specs.Link.{Link}
 use Rattle.vertex_queue.specs.Queues.{Queue, lessened}
 use Rattle.vertex_queue.proofs.Ranks.{lessened_here, lessened_elsewhere}
-use Rattle.tree_parts.proofs.Elements.{cases_vertex}
+use Rattle.vertex_queue.proofs.Elements.{cases_vertex}
 use Rattle.spf.specs.Changes.{link_value}
 use Rattle.spf.specs.HandedOn.{IsOfSome, IsLeastLink, ArePut, IsReachedAt, IsHeadOver, IsLeastHead}
 use Rattle.spf.specs.Loops.{IsReached}

@@ -5,7 +5,7 @@ use Rattle.ospf_types.specs.declared.entry.Vertex.{Vertex}
 use Rattle.ospf_types.specs.declared.entry.Vertex.TheVariants.{Router}
 use Rattle.ospf_types.specs.declared.label.Label.{Label}
 use Rattle.ospf_types.specs.Distances.{Links}
-use Rattle.tree_parts.proofs.Elements.{cases_vertex, cases_contains}
+use Rattle.vertex_queue.proofs.Elements.{cases_vertex, cases_contains}
 use Rattle.spf.specs.Trees.{AreLinks, IsWithin, HasPathWithin, AreRelaxed, AreReal, AreDistances, rank}
 use Rattle.spf.specs.Repairs.{AreHeld, IsReset, IsSet, AreMoved, AreFair, IsOffered, AreForward, IsEmptyQueue}
 use Rattle.ospf_types.proofs.Elements.{no_element}

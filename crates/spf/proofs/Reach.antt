@@ -7,8 +7,8 @@ use Rattle.ospf_types.specs.declared.entry.Vertex.{Vertex}
 use Rattle.ospf_types.specs.declared.entry.Vertex.TheVariants.{Router, Network}
 use Rattle.ospf_types.specs.declared.label.Label.{Label}
 use Rattle.ospf_types.specs.Distances.{Links, TakenLink, Leads, cost_of, IsDistance}
-use Rattle.tree_parts.specs.VertexSet.{HasNoDoubles}
-use Rattle.tree_parts.proofs.Counting.{no_longer, no_doubles_nil, no_doubles_push}
+use Rattle.vertex_queue.specs.VertexSet.{HasNoDoubles}
+use Rattle.vertex_queue.proofs.Counting.{no_longer, no_doubles_nil, no_doubles_push}
 use Rattle.spf.specs.Trees.{step_to, AreLinks, AreCosts, AreDistances}
 use Rattle.ospf_types.proofs.Elements.{no_element}
 use Rattle.spf.proofs.Paths.{last_step, cost_before, beginning, same_distance}

@@ -5,8 +5,8 @@ use Rattle.ospf_types.specs.declared.entry.Vertex.{Vertex}
 use Rattle.ospf_types.specs.declared.entry.Vertex.TheVariants.{Router}
 use Rattle.ospf_types.specs.declared.label.Label.{Label}
 use Rattle.ospf_types.specs.Distances.{Links}
-use Rattle.tree_parts.specs.VertexSet.{IsAdded}
-use Rattle.tree_parts.proofs.Elements.{cases_contains, cases_vertex}
+use Rattle.vertex_queue.specs.VertexSet.{IsAdded}
+use Rattle.vertex_queue.proofs.Elements.{cases_contains, cases_vertex}
 use Rattle.spf.specs.Trees.{AreLinks, IsWithin, AreReal, AreDistances}
 use Rattle.spf.specs.Parts.{StartsAt, AreStarted}
 use Rattle.spf.specs.Repairs.{AreCome, IsReset, IsOffered, IsEmptyQueue}

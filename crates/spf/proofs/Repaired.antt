@@ -7,8 +7,8 @@ use Rattle.ospf_types.specs.declared.entry.Vertex.{Vertex}
 use Rattle.ospf_types.specs.declared.entry.Vertex.TheVariants.{Router}
 use Rattle.ospf_types.specs.declared.hop.NextHop.{NextHop}
 use Rattle.ospf_types.specs.Distances.{Links, IsHop}
-use Rattle.tree_parts.specs.VertexSet.{HasNoDoubles}
-use Rattle.tree_parts.proofs.Elements.{cases_contains}
+use Rattle.vertex_queue.specs.VertexSet.{HasNoDoubles}
+use Rattle.vertex_queue.proofs.Elements.{cases_contains}
 use Rattle.spf.specs.Trees.{AreLinks, IsTree}
 use Rattle.spf.specs.Repairs.{AreGone, AreCome, AreChanges, IsReset, IsEmptyQueue, IsQueued, AreToldLost, AreOwed}
 use Rattle.spf.specs.Loops.{AreLosingSupport, AreRelaxing, AreUpdatingNextHops, AreDue}

@@ -10,9 +10,9 @@ use Rattle.ospf_types.specs.Links.{IsVertexOf}
 use Rattle.ospf_types.proofs.Elements.{no_element, first_element}
 use Rattle.vertex_graph.specs.Link.{Link}
 use Rattle.vertex_graph.specs.Graphs.{GraphValue, graph_view, LinksOf, HasRoot, AreLinksFrom}
-use Rattle.tree_parts.specs.Maps.{DistanceMap}
-use Rattle.tree_parts.proofs.Elements.{cases_vertex}
-use Rattle.tree_parts.proofs.VertexMaps.{set_here, set_elsewhere, gone_here, gone_elsewhere}
+use Rattle.vertex_queue.specs.Maps.{DistanceMap}
+use Rattle.vertex_queue.proofs.Elements.{cases_vertex}
+use Rattle.vertex_queue.proofs.VertexMaps.{set_here, set_elsewhere, gone_here, gone_elsewhere}
 use Rattle.spf.specs.Offers.{IsCleared}
 use Rattle.spf.specs.Repairs.{IsReset}
 use Rattle.spf.proofs.Offering.{still_contained, now_contained, contained_so_far}

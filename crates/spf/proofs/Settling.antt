@@ -7,7 +7,7 @@ use Rattle.ospf_types.specs.declared.entry.Vertex.TheVariants.{Router}
 use Rattle.ospf_types.specs.declared.hop.NextHop.{NextHop}
 use Rattle.ospf_types.specs.declared.label.Label.{Label}
 use Rattle.ospf_types.specs.Distances.{Links}
-use Rattle.tree_parts.proofs.Elements.{cases_vertex, cases_contains}
+use Rattle.vertex_queue.proofs.Elements.{cases_vertex, cases_contains}
 use Rattle.spf.specs.Trees.{AreLinks, AreDistances, IsLeast, IsGiven, AreUnions}
 use Rattle.spf.specs.Repairs.{AreGone, AreCome, IsReset, IsSet, AreMoved, IsEmptyQueue, IsQueued, AreToldLost, AreTold, AreRightOrQueued}
 use Rattle.spf.proofs.Values.{root_zero, distances_relaxed}

@@ -9,7 +9,7 @@ use Rattle.ospf_types.specs.declared.hop.NextHop.TheVariants as hop
 use Rattle.ospf_types.specs.declared.label.Label.{Label}
 use Rattle.ospf_types.specs.declared.label.Label.TheVariants.{Over}
 use Rattle.ospf_types.specs.Distances.{Links, FirstOnly}
-use Rattle.tree_parts.proofs.Elements.{added_front}
+use Rattle.vertex_queue.proofs.Elements.{added_front}
 use Rattle.spf.specs.Trees.{AreLinks, IsTree, IsGiven}
 use Rattle.spf.specs.Repairs.{IsReset}
 use Rattle.spf.specs.Loops.{AreLosingSupport, AreRelaxing, IsOpened, IsTaken, AreUpdatingNextHops, IsUpdated}

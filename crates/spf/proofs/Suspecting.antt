@@ -9,12 +9,12 @@ use Rattle.ospf_types.specs.declared.entry.Vertex.{Vertex}
 use Rattle.ospf_types.proofs.Elements.{no_element}
 use Rattle.vertex_graph.specs.Link.{Link}
 use Rattle.vertex_graph.specs.Graphs.{GraphValue, LinksOf, AreLinksFrom, AreLinksTo}
-use Rattle.tree_parts.specs.VertexSet.{HasNoDoubles, IsAdded, IsWithMember}
-use Rattle.tree_parts.specs.Maps.{DistanceMap}
-use Rattle.tree_parts.proofs.Counting.{no_doubles_nil, no_doubles_push}
-use Rattle.tree_parts.proofs.Elements.{added_end}
-use Rattle.tree_parts.proofs.VertexMaps.{len_most}
-use Rattle.tree_parts.proofs.VertexSets.{member_added}
+use Rattle.vertex_queue.specs.VertexSet.{HasNoDoubles, IsAdded, IsWithMember}
+use Rattle.vertex_queue.specs.Maps.{DistanceMap}
+use Rattle.vertex_queue.proofs.Counting.{no_doubles_nil, no_doubles_push}
+use Rattle.vertex_queue.proofs.Elements.{added_end}
+use Rattle.vertex_queue.proofs.VertexMaps.{len_most}
+use Rattle.vertex_queue.proofs.VertexSets.{member_added}
 use Rattle.spf.specs.Changes.{link_value, Among}
 use Rattle.spf.specs.Loops.{IsReached}
 use Rattle.spf.specs.Parts.{IsBefore, AreLost}

@@ -7,8 +7,8 @@ use Rattle.ospf_types.specs.declared.entry.Vertex.TheVariants.{Router}
 use Rattle.ospf_types.specs.declared.hop.NextHop.{NextHop}
 use Rattle.ospf_types.specs.declared.label.Label.{Label}
 use Rattle.ospf_types.specs.Distances.{Links}
-use Rattle.tree_parts.specs.VertexSet.{IsAdded}
-use Rattle.tree_parts.proofs.Elements.{cases_vertex}
+use Rattle.vertex_queue.specs.VertexSet.{IsAdded}
+use Rattle.vertex_queue.proofs.Elements.{cases_vertex}
 use Rattle.spf.specs.Trees.{AreLinks, AreDistances, IsTree, IsLeast}
 use Rattle.spf.specs.Repairs.{IsQueued, IsEmptyQueue, AreRightOrQueued}
 use Rattle.spf.specs.Loops.{IsReached, AreUpdatingNextHops, IsPutAgain, IsUpdated}

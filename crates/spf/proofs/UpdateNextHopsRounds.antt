@@ -18,11 +18,11 @@ use Rattle.vertex_queue.specs.Queues.{Queue, IsFirst}
 use Rattle.vertex_queue.specs.Queues as queue
 use Rattle.vertex_queue.proofs.Ranks.{first_has_least_rank}
 use Rattle.ospf_types.proofs.VertexOrder.{vertex_exact}
-use Rattle.tree_parts.specs.VertexSet.{HasNoDoubles}
-use Rattle.tree_parts.specs.Maps.{DistanceMap, HopMap}
-use Rattle.tree_parts.proofs.Counting.{no_longer, no_doubles_nil, no_doubles_push}
-use Rattle.tree_parts.proofs.Elements.{cases_contains, added_end, cases_vertex}
-use Rattle.tree_parts.proofs.VertexMaps.{gone_here, gone_elsewhere}
+use Rattle.vertex_queue.specs.VertexSet.{HasNoDoubles}
+use Rattle.vertex_queue.specs.Maps.{DistanceMap, HopMap}
+use Rattle.vertex_queue.proofs.Counting.{no_longer, no_doubles_nil, no_doubles_push}
+use Rattle.vertex_queue.proofs.Elements.{cases_contains, added_end, cases_vertex}
+use Rattle.vertex_queue.proofs.VertexMaps.{gone_here, gone_elsewhere}
 use Rattle.spf.specs.HandedOn.{IsOfSome, ArePut, IsReachedAt, IsLeastHead, AreBlanked, IsSettled, IsAmidst}
 use Rattle.spf.specs.Loops.{IsUpdated}
 use Rattle.spf.specs.Parts.{hops_of, AreUnsettled, IsTakenBy, AreSettled}

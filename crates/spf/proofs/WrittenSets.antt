@@ -7,7 +7,7 @@ use Rattle.ospf_types.specs.declared.entry.Vertex.TheVariants.{Router}
 use Rattle.ospf_types.specs.declared.hop.NextHop.{NextHop}
 use Rattle.ospf_types.specs.declared.label.Label.{Label}
 use Rattle.ospf_types.specs.Distances.{Links}
-use Rattle.tree_parts.proofs.Elements.{cases_vertex}
+use Rattle.vertex_queue.proofs.Elements.{cases_vertex}
 use Rattle.spf.specs.Trees.{AreLinks, IsLeast, IsGiven, AreUnions, rank}
 use Rattle.spf.specs.Repairs.{AreForward, IsEmptyQueue, IsQueued, AreRightOrQueued}
 use Rattle.spf.proofs.Ranks.{rank_grows}

@@ -9,8 +9,8 @@ use Rattle.std.specs.FinMap.{get}
 use Rattle.vertex_graph.specs.Graphs.{GraphValue, LinksOf}
 use Rattle.vertex_graph.specs.Link.{Link}
 use Rattle.vertex_queue.specs.Queues.{Queue}
-use Rattle.tree_parts.specs.VertexSet.{HasNoDoubles}
-use Rattle.tree_parts.specs.Maps.{DistanceMap, HopMap}
+use Rattle.vertex_queue.specs.VertexSet.{HasNoDoubles}
+use Rattle.vertex_queue.specs.Maps.{DistanceMap, HopMap}
 use Rattle.spf.specs.Loops.{IsReached, AreUpdatingNextHops}
 use Rattle.spf.specs.Parts.{IsTakenBy, hops_of}
 use Rattle.spf.specs.Repairs.{IsQueued}

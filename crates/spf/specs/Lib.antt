@@ -7,6 +7,6 @@ pub mod Suspects
 pub mod TreeValues
 pub mod Offers
 pub mod HandedOn
-pub use Rattle.tree_parts.specs.Maps
-pub use Rattle.tree_parts.specs.VertexSet
-pub use Rattle.tree_parts.specs.declared.touched.Touched
+pub use Rattle.vertex_queue.specs.Maps
+pub use Rattle.vertex_queue.specs.VertexSet
+pub use Rattle.vertex_queue.specs.declared.touched.Touched

@@ -5,7 +5,7 @@ use Rattle.ospf_types.specs.declared.entry.Vertex.TheVariants.{Router}
 use Rattle.ospf_types.specs.declared.hop.NextHop.{NextHop}
 use Rattle.ospf_types.specs.declared.label.Label.{Label}
 use Rattle.ospf_types.specs.Distances.{Links}
-use Rattle.tree_parts.specs.VertexSet.{IsAdded}
+use Rattle.vertex_queue.specs.VertexSet.{IsAdded}
 use Rattle.spf.specs.Trees.{IsWithin, AreReal, IsLeast, rank, IsGiven}
 use Rattle.spf.specs.Repairs.{Between, IsSupported, AreHeld, AreDear, IsSet, AreMoved, AreFair, IsOffered, AreForward, IsQueued, AreRightOrQueued, AreToldLost, AreTold, IsDue}
 

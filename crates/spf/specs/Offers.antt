@@ -7,7 +7,7 @@ use Rattle.ospf_types.specs.declared.label.Label.{Label}
 use Rattle.ospf_types.specs.Distances.{Links}
 use Rattle.vertex_graph.specs.Link.{Link}
 use Rattle.vertex_graph.specs.Graphs.{GraphValue, LinksOf}
-use Rattle.tree_parts.specs.Maps.{DistanceMap}
+use Rattle.vertex_queue.specs.Maps.{DistanceMap}
 use Rattle.spf.specs.declared.relax.Pending.{Pending}
 use Rattle.spf.specs.Trees.{IsWithin}
 

@@ -8,8 +8,8 @@ use Rattle.ospf_types.specs.declared.label.Label.{Label}
 use Rattle.ospf_types.specs.Distances.{Links}
 use Rattle.vertex_graph.specs.Link.{Link}
 use Rattle.vertex_graph.specs.Graphs.{GraphValue, LinksOf, HasRoot}
-use Rattle.tree_parts.specs.Maps.{DistanceMap, HopMap}
-use Rattle.tree_parts.specs.VertexSet.{HasNoDoubles}
+use Rattle.vertex_queue.specs.Maps.{DistanceMap, HopMap}
+use Rattle.vertex_queue.specs.VertexSet.{HasNoDoubles}
 use Rattle.spf.specs.declared.lose_support.Search.{Search}
 use Rattle.spf.specs.declared.relax.Pending.{Pending}
 use Rattle.spf.specs.declared.update_next_hops.Relaxed.{Relaxed}

@@ -7,8 +7,8 @@ use Rattle.ospf_types.specs.declared.entry.Vertex.TheVariants.{Router}
 use Rattle.ospf_types.specs.declared.label.Label.{Label}
 use Rattle.vertex_graph.specs.Link.{Link}
 use Rattle.vertex_graph.specs.Graphs.{GraphValue, LinksOf, HasRoot}
-use Rattle.tree_parts.specs.Maps.{DistanceMap}
-use Rattle.tree_parts.specs.VertexSet.{HasNoDoubles}
+use Rattle.vertex_queue.specs.Maps.{DistanceMap}
+use Rattle.vertex_queue.specs.VertexSet.{HasNoDoubles}
 use Rattle.spf.specs.declared.lose_support.Search.{Search}
 use Rattle.spf.specs.Changes.{Among}
 use Rattle.spf.specs.Loops.{AreLosingSupport, IsLost}

@@ -8,11 +8,11 @@ use Rattle.ospf_types.specs.declared.hop.NextHop.{NextHop}
 use Rattle.ospf_types.specs.Vertices.{vertex_cmp}
 use Rattle.vertex_graph.specs.Link.{Link}
 use Rattle.vertex_graph.specs.Graphs.{GraphValue, LinksOf, HasRoot}
-use Rattle.tree_parts.specs.Differing.{IsNearer}
-use Rattle.tree_parts.specs.VertexSet.{HasNoDoubles}
-use Rattle.tree_parts.specs.Counts.{no_work}
-use Rattle.tree_parts.specs.Maps.{DistanceMap, HopMap}
-use Rattle.tree_parts.specs.declared.touched.Touched.{Touched}
+use Rattle.vertex_queue.specs.Differing.{IsNearer}
+use Rattle.vertex_queue.specs.VertexSet.{HasNoDoubles}
+use Rattle.vertex_queue.specs.Counts.{no_work}
+use Rattle.vertex_queue.specs.Maps.{DistanceMap, HopMap}
+use Rattle.vertex_queue.specs.declared.touched.Touched.{Touched}
 use Rattle.spf.specs.declared.lose_support.Search.{Search}
 use Rattle.spf.specs.declared.workspace.Workspace.{Workspace}
 use Rattle.spf.specs.Changes.{Among}

@@ -1,8 +1,10 @@
 //! The next hops that a vertex gets over its least links (RFC 2328, 16.1.1).
-ghost use Rattle.std.specs.Prelude.{◌≡◌, ◌↔◌, IfSome, IfNone, IsTrue, IfOk, OnOk, Some, option_copied, option_to_list};
+ghost use Rattle.std.specs.Prelude.{◌≡◌, ◌↔◌, IfSome, IfNone, IsTrue, IfOk, OnOk, Some};
+ghost use Rattle.std.specs.Prelude.{option_copied, option_to_list};
 ghost use Rattle.std.specs.FinMap as map;
 ghost use Rattle.ospf_types.specs.Distances.{FirstOnly};
-ghost use Rattle.spf.specs.HandedOn.{AreGiven, AreUnited, HasDirect, HaveSameHops, IsHandedOn, IsLeastLink, IsOfSome, IsUnion, IsUnionOver};
+ghost use Rattle.spf.specs.HandedOn.{AreGiven, AreUnited, HasDirect, HaveSameHops, IsHandedOn};
+ghost use Rattle.spf.specs.HandedOn.{IsLeastLink, IsOfSome, IsUnion, IsUnionOver};
 ghost use Rattle.spf.specs.Trees.{HandsOn, first_hops};
 
 use crate::hints::is_at_root;
@@ -11,9 +13,9 @@ use ospf_types::entry::Vertex;
 use ospf_types::hop::NextHop;
 use ospf_types::memory::Memory;
 use std::alloc::Global;
-use tree_parts::{Distances, NextHopMap};
 use vertex_graph::{Graph, Link, LinkLabel};
 use vertex_map::HintedVertex;
+use vertex_queue::{Distances, NextHopMap};
 
 /// A tree whose next hops are being updated. The distances are new, and the next hops of a vertex
 /// may be old or new.
@@ -27,7 +29,12 @@ pub(crate) struct TreeInUpdate<'a> {
 impl TreeInUpdate<'_> {
     /// Returns the next hops that the vertex gets over the least links to it. `far` is its
     /// distance.
-    pub(crate) fn gather(self, alloc: Global, vertex: &HintedVertex, far: u32) -> Result<HopSet, Memory>
+    pub(crate) fn gather(
+        self,
+        alloc: Global,
+        vertex: &HintedVertex,
+        far: u32,
+    ) -> Result<HopSet, Memory>
         requires { map.get self.distances.now vertex.now ≡ Some far }
         ensures { IfOk result (AreGiven self.entry.graph.now
             self.entry.distances.now self.entry.hops.now vertex.now) }

@@ -26,12 +26,12 @@
 #![tactic(auto)]
 
 mod gathering;
-mod lose_support;
 mod hints;
+mod lose_support;
 mod relax;
 mod tree;
 mod update_next_hops;
 mod workspace;
 
 pub use tree::Tree;
-pub use tree_parts::Touched;
+pub use vertex_queue::Touched;

@@ -1,21 +1,24 @@
 //! The first part of a repair: the vertices that lose their distance, because no link supports it
 //! any more. A full calculation does not need it, since it starts with the root only (RFC 2328,
 //! 16.1 (1)).
-ghost use Rattle.std.specs.Prelude.{◌≡◌, ◌↔◌, ◌<◌, [], IsTrue, IfSome, IfNone, IfOk, OnOk, Contains, length};
+ghost use Rattle.std.specs.Prelude.{◌≡◌, ◌↔◌, ◌<◌, [], IsTrue, IfSome, IfNone, IfOk, OnOk};
+ghost use Rattle.std.specs.Prelude.{Contains, length};
 ghost use Rattle.std.specs.FinMap as map;
-ghost use Rattle.tree_parts.specs.Maps.{most_distance};
+ghost use Rattle.vertex_queue.specs.Maps.{most_distance};
 ghost use Rattle.spf.specs.Parts.{AreBefore, AreLostBy};
-ghost use Rattle.spf.specs.Suspects.{AreHeadsBeyondTold, AreHeadsTold, AreToldIn, AreWithin, IsJudgedIn, MaySupport, NoneSupports, SomeSupports, Supports, TellsSupport, WasLeast};
+ghost use Rattle.spf.specs.Suspects.{AreHeadsBeyondTold, AreHeadsTold, AreToldIn, AreWithin};
+ghost use Rattle.spf.specs.Suspects.{IsJudgedIn, MaySupport, NoneSupports, SomeSupports, Supports};
+ghost use Rattle.spf.specs.Suspects.{TellsSupport, WasLeast};
 
 use crate::relax::Pending;
 use crate::workspace::MOST_KEPT;
+use ospf_types::WordHash;
 use ospf_types::entry::Vertex;
 use ospf_types::memory::Memory;
 use std::alloc::Global;
-use tree_parts::{Distances, VertexSet};
 use vertex_graph::{Graph, Link, LinkChanges};
 use vertex_map::{HintedVertex, VertexMap};
-use word_hash::WordHash;
+use vertex_queue::{Distances, VertexSet};
 
 /// Finds the vertices that are lost because links were removed.
 pub(crate) fn lose_support(

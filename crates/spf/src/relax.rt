@@ -5,20 +5,20 @@ ghost use Rattle.std.specs.FinMap as map;
 ghost use Rattle.ospf_types.specs.declared.entry.Vertex.TheVariants.{Router as RouterValue};
 ghost use Rattle.vertex_graph.specs.Graphs.{HasRoot};
 ghost use Rattle.vertex_graph.specs.Pairs.{AreCheap};
-ghost use Rattle.tree_parts.specs.Counts.{no_work, with_taken};
-ghost use Rattle.tree_parts.specs.Maps.{most_distance};
-ghost use Rattle.spf.specs.Offers.{AreHeadsAt, AreMadeAt, AreMadeIn, IntoIn, IsCleared, OneOffer, OutOfIn, OverLink, OverLinks, OverReachedIn};
+ghost use Rattle.vertex_queue.specs.Counts.{no_work, with_taken};
+ghost use Rattle.vertex_queue.specs.Maps.{most_distance};
+ghost use Rattle.spf.specs.Offers.{AreHeadsAt, AreMadeAt, AreMadeIn, IntoIn, IsCleared, OneOffer};
+ghost use Rattle.spf.specs.Offers.{OutOfIn, OverLink, OverLinks, OverReachedIn};
 ghost use Rattle.spf.specs.Parts.{AreLinksOfGraph, AreReadyToRelax, AreReset, IsRelaxed};
 
 use crate::hints::is_at_root;
+use ospf_types::WordHash;
 use ospf_types::entry::Vertex;
 use ospf_types::memory::Memory;
 use std::alloc::Global;
-use tree_parts::{Distances, VertexSet, Touched, VertexList};
 use vertex_graph::{Graph, Link};
 use vertex_map::HintedVertex;
-use vertex_queue::Queue;
-use word_hash::WordHash;
+use vertex_queue::{Distances, Queue, Touched, VertexList, VertexSet};
 
 /// The graph after the change, its root with a hint, and the added links.
 #[derive(Clone, Copy)]
@@ -212,7 +212,12 @@ impl Pending {
 
     // 16.1 (2d): offers the vertex a distance. It is queued if the distance is below `far`, its
     // present one, or if it has none. It becomes stale if they are equal.
-    fn offer(&mut self, vertex: &HintedVertex, distance: u32, far: Option<u32>) -> Result<(), Memory>
+    fn offer(
+        &mut self,
+        vertex: &HintedVertex,
+        distance: u32,
+        far: Option<u32>,
+    ) -> Result<(), Memory>
         ensures { OnOk result (AreMadeAt (OneOffer vertex.now distance) vertex.now far
             self.old self.new) }
     {

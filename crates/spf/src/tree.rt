@@ -3,24 +3,26 @@ ghost use Rattle.std.specs.Prelude.{◌≡◌, ◌<◌, [], OnOk, OnErr, IfOk, I
 ghost use Rattle.std.specs.FinMap as map;
 ghost use Rattle.std.specs.List.Sorted.{IsStrictlySortedBy};
 ghost use Rattle.ospf_types.specs.Hops.{hop_cmp};
-ghost use Rattle.tree_parts.specs.Maps.{most_distance};
-ghost use Rattle.spf.specs.TreeValues.{AreChanged, AreOthersKept, IsBoundedBy, IsBuildWork, IsIdleUnless, IsRepairWork, IsTreeBefore, IsTreeOf, at_rest, listed_hops, spent_value};
+ghost use Rattle.vertex_queue.specs.Maps.{most_distance};
+ghost use Rattle.spf.specs.TreeValues.{AreChanged, AreOthersKept, IsBoundedBy, IsBuildWork};
+ghost use Rattle.spf.specs.TreeValues.{IsIdleUnless, IsRepairWork, IsTreeBefore, IsTreeOf, at_rest};
+ghost use Rattle.spf.specs.TreeValues.{listed_hops, spent_value};
 
-use crate::lose_support::lose_support;
 use crate::hints::{root_of, tail_of};
+use crate::lose_support::lose_support;
 use crate::relax::LinksAfter;
 use crate::workspace::Workspace;
+use ospf_types::WordHash;
 use ospf_types::entry::Vertex;
 use ospf_types::hop::NextHop;
 use ospf_types::memory::Memory;
 use std::alloc::Global;
 use std::hash::RandomState;
 use std::marker::Model;
-use tree_parts::differing::{Repaired, remember};
-use tree_parts::{Distances, NextHopMap, Touched};
 use vertex_graph::{Graph, LinkChanges};
 use vertex_map::HintedVertex;
-use word_hash::WordHash;
+use vertex_queue::differing::{Repaired, remember};
+use vertex_queue::{Distances, NextHopMap, Touched};
 
 /// The shortest-path tree of an area, with distances and next hops.
 ///
@@ -54,7 +56,7 @@ impl Model for Tree {
     ghost use Rattle.std.specs.Coded.{Coded, codes, coded_ℕ};
     ghost use Rattle.std.specs.FinMap as map;
     ghost use Rattle.ospf_types.specs.Vertices.{vertex_code};
-    ghost use Rattle.tree_parts.specs.Maps.{DistanceMap, HopMap};
+    ghost use Rattle.vertex_queue.specs.Maps.{DistanceMap, HopMap};
     ghost use Rattle.spf.specs.TreeValues.{TreeValue};
 
     ghost Value = { TreeValue };

@@ -1,10 +1,12 @@
 //! The third part of a repair: the new next hops (RFC 2328, 16.1.1), passed on over least links,
 //! nearest vertex first.
-ghost use Rattle.std.specs.Prelude.{◌≡◌, ◌-◌, ◌^◌, ◌<◌, ◌≤◌, ◌++◌, ◌∷◌, [], Some, IfSome, IfNone, OnOk, Contains, length};
+ghost use Rattle.std.specs.Prelude.{◌≡◌, ◌-◌, ◌^◌, ◌<◌, ◌≤◌, ◌++◌, ◌∷◌, [], Some, IfSome, IfNone};
+ghost use Rattle.std.specs.Prelude.{OnOk, Contains, length};
 ghost use Rattle.std.specs.FinMap as map;
-ghost use Rattle.tree_parts.specs.VertexSet.{HasNoDoubles};
-ghost use Rattle.tree_parts.specs.Maps.{with_hops};
-ghost use Rattle.spf.specs.HandedOn.{AreBlank, AreHeadsPut, AreReachedPut, HasDistance, IsHeadPut, IsLeastLink, IsReachedPut, IsSettledIn};
+ghost use Rattle.vertex_queue.specs.VertexSet.{HasNoDoubles};
+ghost use Rattle.vertex_queue.specs.Maps.{with_hops};
+ghost use Rattle.spf.specs.HandedOn.{AreBlank, AreHeadsPut, AreReachedPut, HasDistance, IsHeadPut};
+ghost use Rattle.spf.specs.HandedOn.{IsLeastLink, IsReachedPut, IsSettledIn};
 ghost use Rattle.spf.specs.Parts.{AreReadyToUpdate, AreSettledIn};
 
 use crate::gathering::{TreeInUpdate, are_same};
@@ -13,10 +15,9 @@ use crate::relax::Pending;
 use hop_sets::HopSet;
 use ospf_types::memory::Memory;
 use std::alloc::Global;
-use tree_parts::{Distances, NextHopMap, VertexSet, Touched, VertexList};
 use vertex_graph::{Graph, Link};
 use vertex_map::HintedVertex;
-use vertex_queue::Queue;
+use vertex_queue::{Distances, NextHopMap, Queue, Touched, VertexList, VertexSet};
 
 /// The result of the second part: the graph, the new distances, the lost vertices, and the moved
 /// ones.

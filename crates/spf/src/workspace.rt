@@ -1,18 +1,17 @@
 //! The working memory of a repair.
 ghost use Rattle.std.specs.Prelude.{◌≡◌, [], OnOk, IfOk};
 ghost use Rattle.std.specs.FinMap as map;
-ghost use Rattle.tree_parts.specs.Maps.{AreHopsInOrder};
+ghost use Rattle.vertex_queue.specs.Maps.{AreHopsInOrder};
 ghost use Rattle.spf.specs.TreeValues.{ComesTo, IsBegunWith, tree_of};
 
 use crate::lose_support::Search;
 use crate::relax::LinksAfter;
 use crate::update_next_hops::{HopWriter, Relaxed};
+use ospf_types::WordHash;
 use ospf_types::memory::Memory;
 use std::alloc::Global;
-use tree_parts::{Distances, NextHopMap, SortedVertices, Touched, VertexList};
 use vertex_map::HintedVertex;
-use vertex_queue::Queue;
-use word_hash::WordHash;
+use vertex_queue::{Distances, NextHopMap, Queue, SortedVertices, Touched, VertexList};
 
 /// The maximum number of vertices whose memory is kept from repair to repair.
 pub(crate) const MOST_KEPT: usize = 512;

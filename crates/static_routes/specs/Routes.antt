@@ -2,8 +2,8 @@
 use Rattle.std.specs.Prelude.{ℕ, ◌≡◌, ◌≤◌, ◌⊎◌, List, Option, Some, None, Contains}
 use Rattle.ospf_types.specs.declared.prefix.Prefix.{Prefix}
 use Rattle.ospf_types.specs.Network.{network_cmp}
-use Rattle.result_map.specs.Chosen.{AreChosen, AreChosenExcept}
-use Rattle.result_map.specs.Results.{Results, result_at}
+use Rattle.route_choice.specs.Chosen.{AreChosen, AreChosenExcept}
+use Rattle.route_choice.specs.Results.{Results, result_at}
 
 -- a route to the network is configured at the metric
 abbrev pub IsConfigured : List (Prefix × ℕ) → Prefix → ℕ → Type 0

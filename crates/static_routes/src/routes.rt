@@ -2,14 +2,15 @@
 ghost use Rattle.std.specs.Prelude.{◌≡◌, IfOk, OnOk, true, false, map as list_map, option_copied};
 ghost use Rattle.std.specs.List.Sorted.{IsStrictlySortedBy};
 ghost use Rattle.ospf_types.specs.Network.{network_cmp};
-ghost use Rattle.result_map.specs.Chosen.{HasChanged};
-ghost use Rattle.result_map.specs.Lists.{ListsExactly};
-ghost use Rattle.result_map.specs.Results.{result_at};
-ghost use Rattle.static_routes.specs.Routes.{AreRoutesOf, AreRoutesButAt, IsConfigured, IsLeast, IsLesser};
+ghost use Rattle.route_choice.specs.Chosen.{HasChanged};
+ghost use Rattle.route_choice.specs.Lists.{ListsExactly};
+ghost use Rattle.route_choice.specs.Results.{result_at};
+ghost use Rattle.static_routes.specs.Routes.{AreRoutesOf, AreRoutesButAt, IsConfigured, IsLeast};
+ghost use Rattle.static_routes.specs.Routes.{IsLesser};
 
 use ospf_types::memory::Memory;
 use ospf_types::prefix::Prefix;
-use result_map::{Choose, ResultMap};
+use route_choice::{Choose, ResultMap};
 use std::alloc::Global;
 use std::hash::RandomState;
 use std::marker::Model;
@@ -58,7 +59,7 @@ impl Model for StaticRoutes {
     ghost use Rattle.std.specs.Coded.{coded_ℕ};
     ghost use Rattle.ospf_types.specs.declared.prefix.Prefix.{Prefix as PrefixValue};
     ghost use Rattle.ospf_types.specs.Network.{network_code};
-    ghost use Rattle.result_map.specs.Results.{Results, results_code};
+    ghost use Rattle.route_choice.specs.Results.{Results, results_code};
 
     ghost Value = { Results PrefixValue ℕ };
 

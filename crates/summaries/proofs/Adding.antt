@@ -12,7 +12,7 @@ use Rattle.ospf_types.specs.Summaries.{default_route}
 use Rattle.active_ranges.specs.Active.{IsActiveIn}
 use Rattle.summaries.specs.Inputs.{SummaryInputsValue}
 use Rattle.summaries.specs.Giving.{IsDueIn, IsDueTo, IsNetworkDueIn, IsRouterDueIn, GivesIn}
-use Rattle.result_map.specs.Lists.{GainsAll, IsOfSome}
+use Rattle.route_choice.specs.Lists.{GainsAll, IsOfSome}
 use Rattle.summaries.specs.Touched.{IsOverIn, IsTouchedBy, IsRangeOver}
 
 -- ---- those that are affected

@@ -7,7 +7,7 @@ use Rattle.std.specs.Map.{keys_of}
 use Rattle.ospf_types.specs.declared.key.Dest.{Dest}
 use Rattle.ospf_types.proofs.Elements.{mapped_from}
 use Rattle.ospf_types.proofs.Orders.{dest_total, dest_exact}
-use Rattle.result_map.proofs.KeyedMaps.{listed_or_not}
+use Rattle.route_choice.proofs.KeyedMaps.{listed_or_not}
 use Rattle.summary_lists.specs.declared.due.DueSummary.{DueSummary}
 use Rattle.summary_lists.specs.Lists.{AreChangesBetween, AreMetricsInOrder, IsChangedBy, IsMetricIn, Metrics, due_for}
 

@@ -14,7 +14,7 @@ use Rattle.ospf_types.specs.declared.config.AreaConfig.{AreaConfig}
 use Rattle.ospf_types.specs.declared.key.Dest.{Dest}
 use Rattle.ospf_types.proofs.Elements.{first_element, later_element, mapped_element}
 use Rattle.ospf_types.proofs.Orders.{dest_total, dest_exact}
-use Rattle.result_map.proofs.KeyedMaps.{listed_or_not}
+use Rattle.route_choice.proofs.KeyedMaps.{listed_or_not}
 use Rattle.summary_lists.specs.declared.due.DueSummary.{DueSummary}
 use Rattle.summary_lists.specs.declared.plan.AreaPlan.{AreaPlan}
 use Rattle.summaries.specs.Inputs.{SummaryInputsValue}

@@ -3,7 +3,7 @@ ghost use Rattle.std.specs.Prelude.{◌↔◌, Contains, IsFalse, IsTrue, IfOk, 
 ghost use Rattle.std.specs.List.Sorted.{IsStrictlySortedBy};
 ghost use Rattle.ospf_types.specs.declared.key.Dest.{Dest as DestValue};
 ghost use Rattle.ospf_types.specs.Keys.{dest_cmp};
-ghost use Rattle.result_map.specs.Lists.{GainsAll, HasAll, ListsExactly};
+ghost use Rattle.route_choice.specs.Lists.{GainsAll, HasAll, ListsExactly};
 ghost use Rattle.summaries.specs.Changes.{HasAllDue};
 ghost use Rattle.summaries.specs.Touched.{IsTouchedBy, IsOver, IsOverIn, IsNetIn};
 
@@ -13,7 +13,7 @@ use ospf_types::config::AreaConfig;
 use ospf_types::key::Dest;
 use ospf_types::memory::Memory;
 use ospf_types::prefix::Prefix;
-use result_map::{add_networks, add_routers};
+use route_choice::{add_networks, add_routers};
 use std::alloc::Global;
 
 /// Returns the destinations, and the prefixes of ranges that cover a network among them, in

@@ -4,13 +4,17 @@
 //! area that it leads through (split horizon). If a destination has several sources, the one with
 //! the highest metric counts. So each destination is looked up once for all areas: it is enough to
 //! keep the highest metric, and the highest metric through any other area than that one's.
-ghost use Rattle.std.specs.Prelude.{ℕ, ◌≡◌, ◌≢◌, ◌↔◌, ◌≤◌, ◌⊎◌, Some, None, Contains, IsTrue, All, option_copied};
+ghost use Rattle.std.specs.Prelude.{ℕ, ◌≡◌, ◌≢◌, ◌↔◌, ◌≤◌, ◌⊎◌, Some, None, Contains, IsTrue, All};
+ghost use Rattle.std.specs.Prelude.{option_copied};
 ghost use Rattle.std.specs.FinMap as map;
 ghost use Rattle.ospf_types.specs.declared.key.Dest.TheVariants as dest_value;
 ghost use Rattle.ospf_types.specs.Address.{Covers};
 ghost use Rattle.ospf_types.specs.Summaries.{default_route};
 ghost use Rattle.summaries.specs.Giving.{RangeGives, Advertises, IsOutside, IsServed, IsMost};
-ghost use Rattle.summaries.specs.Candidates.{IsCandidateOf, IsNetworkIn, IsOrdered, metric_into, CostsInto, HasMostOf, IsIntraThrough, IsMetricOf, IsNetworkMetricOf, IsOnly, IsRangeThrough, IsRouterIn, LeadsThrough, IsPreferredThrough};
+ghost use Rattle.summaries.specs.Candidates.{IsCandidateOf, IsNetworkIn, IsOrdered, metric_into};
+ghost use Rattle.summaries.specs.Candidates.{CostsInto, HasMostOf, IsIntraThrough, IsMetricOf};
+ghost use Rattle.summaries.specs.Candidates.{IsNetworkMetricOf, IsOnly, IsRangeThrough, IsRouterIn};
+ghost use Rattle.summaries.specs.Candidates.{LeadsThrough, IsPreferredThrough};
 
 use crate::inputs::SummaryInputs;
 use external::AsbrRoute;

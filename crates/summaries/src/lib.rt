@@ -16,11 +16,11 @@
 //!    (`DueChanges`).
 #![tactic(auto)]
 
+mod affected;
 mod due_changes;
 mod giving;
 mod inputs;
 mod summaries;
-mod affected;
 
 pub use due_changes::DueChanges;
 pub use giving::{advertises, has_other_active_area};

@@ -1,6 +1,7 @@
 //! The due summaries of one area.
 ghost use Rattle.std.specs.Prelude.{◌≡◌, ◌≤◌, ◌<◌, ◌+◌, ◌++◌, [], length, IfOk, IfErr, OnOk};
-ghost use Rattle.summary_lists.specs.Lists.{AreInOrder, IsMetricIn, IsPut, IsChangedBy, AreMetricsInOrder, AreOfKind};
+ghost use Rattle.summary_lists.specs.Lists.{AreInOrder, IsMetricIn, IsPut, IsChangedBy};
+ghost use Rattle.summary_lists.specs.Lists.{AreMetricsInOrder, AreOfKind};
 ghost use Rattle.summary_lists.specs.Places.{IsAt, IsGapFor, those_before, those_at, those_after};
 
 use crate::due::DueSummary;

@@ -1,7 +1,7 @@
 //! States that are made from bases, and bases with a fault.
 
 use crate::events::{BACKBONE, EXTERNAL, OTHER, ROOT, STUB, configured, install, sizes};
-use event_state::{Base, BaseFault, Event, Limits, State, EntryFault, fault_in_base};
+use event_state::{Base, BaseFault, EntryFault, Event, Limits, State, fault_in_base};
 use lsa_codec::Checked;
 use ospf_types::config::Interface;
 use ospf_types::key::Scope;
@@ -85,7 +85,8 @@ fn a_fault_of_a_base_is_the_first(rt: HostRuntime) -> Result<(), Fail> {
         && fault_in_base(alloc, &doubled, few)? == Some(BaseFault::Doubled)
         && fault_in_base(alloc, &lost, few)? == Some(BaseFault::EntryFault(EntryFault::NoArea))
         && fault_in_base(alloc, &full, few)? == Some(BaseFault::EntryFault(EntryFault::Full))
-        && fault_in_base(alloc, &shared, few)? == Some(BaseFault::EntryFault(EntryFault::AddressTaken));
+        && fault_in_base(alloc, &shared, few)?
+            == Some(BaseFault::EntryFault(EntryFault::AddressTaken));
     assert!(rt; found && fault_in_base(alloc, &apart, few)?.is_none());
     Ok(())
 }

@@ -1,17 +1,20 @@
 //! Values by vertex, looked up with right and wrong hints.
 ghost use Rattle.std.specs.Prelude.{◌<◌};
 
+use ospf_types::WordHash;
 use ospf_types::entry::Vertex;
 use ospf_types::memory::Memory;
 use std::hash::RandomState;
 use std::test::Fail;
 use vertex_map::{HintedVertex, VertexMap};
-use word_hash::WordHash;
 
 // Inserts 100 routers, with descending hints.
 fn fill(map: &mut VertexMap<u32>) -> Result<(), Memory> {
     for number in 0..100u32 {
-        map.insert(&HintedVertex::new(Vertex::Router(number), 99 - number), number)?;
+        map.insert(
+            &HintedVertex::new(Vertex::Router(number), 99 - number),
+            number,
+        )?;
     }
     Ok(())
 }
@@ -29,7 +32,11 @@ fn is_there(map: &VertexMap<u32>, number: u32) -> bool
     at(map, &HintedVertex::new(vertex, 99 - number)) == Some(number)
         && at(map, &HintedVertex::new(vertex, number)) == Some(number)
         && at(map, &HintedVertex::without_hint(vertex)) == Some(number)
-        && at(map, &HintedVertex::new(Vertex::Network(number), 99 - number)).is_none()
+        && at(
+            map,
+            &HintedVertex::new(Vertex::Network(number), 99 - number),
+        )
+        .is_none()
 }
 
 fn finds_all(map: &mut VertexMap<u32>) -> Result<bool, Memory> {

@@ -1,11 +1,11 @@
 //! The queue of a shortest-path search.
+use ospf_types::WordHash;
 use ospf_types::entry::Vertex;
 use ospf_types::memory::Memory;
 use std::hash::RandomState;
 use std::test::Fail;
 use vertex_map::HintedVertex;
 use vertex_queue::Queue;
-use word_hash::WordHash;
 
 fn put(queue: &mut Queue, vertex: Vertex, distance: u32) -> Result<(), Memory> {
     queue.put(&HintedVertex::without_hint(vertex), distance)
@@ -38,7 +38,8 @@ fn leave(queue: &mut Queue) -> bool {
 
 fn enter_and_leave(queue: &mut Queue) -> Result<bool, Memory> {
     fill(queue)?;
-    let put = queue.len() == 4 && queue.get(&HintedVertex::without_hint(Vertex::Router(2))) == Some(5);
+    let put = queue.len() == 4
+        && queue.get(&HintedVertex::without_hint(Vertex::Router(2))) == Some(5);
     Ok(leave(queue) && put)
 }
 

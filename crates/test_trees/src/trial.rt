@@ -4,6 +4,7 @@ ghost use Rattle.std.specs.FinMap as map;
 ghost use Rattle.vertex_graph.specs.Graphs.{HasEnds, AreApartHanded, AreFewAfter, handed_of};
 ghost use Rattle.test_trees.specs.Changes.{AreTogether, AreChangesOf, AreChangesTo};
 
+use area_trees::links_of_path;
 use lsa_codec::Checked;
 use ospf_types::entry::Vertex;
 use ospf_types::hop::NextHop;
@@ -12,7 +13,6 @@ use spf::{Touched, Tree};
 use std::alloc::Global;
 use std::hash::RandomState;
 use std::marker::Model;
-use tree_paths::links_of_path;
 use vertex_graph::{Graph, Link, LinkChanges, Up};
 
 /// A graph, and the shortest-path tree of its links.

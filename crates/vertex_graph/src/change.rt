@@ -7,7 +7,9 @@ ghost use Rattle.graph_links.specs.declared.link.Up.{Up as UpValue};
 ghost use Rattle.vertex_graph.specs.Changes.{ChangesRows, NamesCome, NamesGone};
 
 use crate::staging::Staging;
-use graph_links::{LinkChanges, RootInterfaces, RowPool, Rows, GraphView, changed_links, row_updates, place};
+use graph_links::{
+    GraphView, LinkChanges, RootInterfaces, RowPool, Rows, changed_links, place, row_updates,
+};
 use ospf_types::memory::Memory;
 use std::alloc::Global;
 

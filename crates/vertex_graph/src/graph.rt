@@ -3,21 +3,24 @@ ghost use Rattle.std.specs.Prelude.{◌≡◌, ◌≢◌, ◌↔◌, [], IsTrue,
 ghost use Rattle.std.specs.List.{AllPairs};
 ghost use Rattle.std.specs.FinMap as map;
 ghost use Rattle.ospf_types.specs.Vertices.{vertex_cmp};
-ghost use Rattle.vertex_graph.specs.Graphs.{AreApartHanded, AreFewAfter, AreLinkChanges, AreLinksFrom, AreLinksTo, HasCheapLinks, HasEnds, HasFewRouters, HasRoot, IsReplaced, handed_of, handed_in};
+ghost use Rattle.vertex_graph.specs.Graphs.{AreApartHanded, AreFewAfter, AreLinkChanges};
+ghost use Rattle.vertex_graph.specs.Graphs.{AreLinksFrom, AreLinksTo, HasCheapLinks, HasEnds};
+ghost use Rattle.vertex_graph.specs.Graphs.{HasFewRouters, HasRoot, IsReplaced, handed_of};
+ghost use Rattle.vertex_graph.specs.Graphs.{handed_in};
 ghost use Rattle.graph_links.specs.Pairs.{AreCheap};
 
 use crate::change::Change;
 use crate::staging::{Staging, stage, stage_root};
-use graph_links::{Link, LinkChanges, RootInterfaces, RowPool, Row, Rows, Up};
+use graph_links::{Link, LinkChanges, RootInterfaces, Row, RowPool, Rows, Up};
 use indexmap::IndexMap;
 use lsa_codec::Checked;
+use ospf_types::WordHash;
 use ospf_types::entry::Vertex;
 use ospf_types::memory::Memory;
 use std::alloc::Global;
 use std::hash::RandomState;
 use std::marker::Model;
 use vertex_map::HintedVertex;
-use word_hash::WordHash;
 
 /// The graph of an area. Its vertices are the routers and transit networks with an LSA, and its
 /// links are listed by both sides (RFC 2328, 16.1 (2b)).

@@ -9,4 +9,4 @@ mod graph;
 mod staging;
 
 pub use graph::Graph;
-pub use graph_links::{LinkEnd, Link, LinkChanges, LinkLabel, Up};
+pub use graph_links::{Link, LinkChanges, LinkEnd, LinkLabel, Up};

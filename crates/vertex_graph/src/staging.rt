@@ -6,20 +6,22 @@ ghost use Rattle.ospf_types.specs.declared.entry.Vertex.{Vertex as VertexValue};
 ghost use Rattle.ospf_types.specs.declared.entry.Vertex.TheVariants.{Router};
 ghost use Rattle.ospf_types.specs.Vertices.{vertex_cmp};
 ghost use Rattle.vertex_graph.specs.Graphs.{handed_of, AreApartHanded};
-ghost use Rattle.vertex_graph.specs.Stagings.{HasTouched, IsGivenBy, IsWithin, LeadsAlike, StagesAll, StagesOne, TouchesCome, TouchesGone, TouchesNeighbours, TouchesOthers, TouchesUnless};
+ghost use Rattle.vertex_graph.specs.Stagings.{HasTouched, IsGivenBy, IsWithin, LeadsAlike};
+ghost use Rattle.vertex_graph.specs.Stagings.{StagesAll, StagesOne, TouchesCome, TouchesGone};
+ghost use Rattle.vertex_graph.specs.Stagings.{TouchesNeighbours, TouchesOthers, TouchesUnless};
 
 use crate::ends::ends_of;
 use graph_links::{
-    LinkEnd, Link, Row, Rows, StagedEnds, ends_of_row, find_row, out_links, hinted_by, staged_ends,
-    ends_or_empty,
+    Link, LinkEnd, Row, Rows, StagedEnds, ends_of_row, ends_or_empty, find_row, hinted_by,
+    out_links, staged_ends,
 };
 use indexmap::IndexMap;
 use lsa_codec::Checked;
+use ospf_types::WordHash;
 use ospf_types::entry::Vertex;
 use ospf_types::memory::Memory;
 use std::alloc::Global;
 use vertex_map::HintedVertex;
-use word_hash::WordHash;
 
 /// The staged part of a change: the vertices with other link ends than before, and the vertices
 /// whose rows may change.
@@ -183,7 +185,11 @@ fn touch_both(
 }
 
 // Touches the vertices at the ends that are not among the others.
-fn touch(ends: &[LinkEnd], others: Others<'_>, touched: &mut Vec<HintedVertex>) -> Result<(), Memory>
+fn touch(
+    ends: &[LinkEnd],
+    others: Others<'_>,
+    touched: &mut Vec<HintedVertex>,
+) -> Result<(), Memory>
     ensures kept { OnOk result (IsWithin touched.old.items touched.new.items) }
     ensures others { OnOk result (TouchesOthers ends.now others.entry.ends.now touched.new.items) }
 {
@@ -275,7 +281,12 @@ pub(crate) fn stage_root(
     staging.clear(alloc);
     let vertex = Vertex::Router(root);
     let (row, place) = find_row(rows, &HintedVertex::without_hint(vertex));
-    touch_both(&HintedVertex::new(vertex, place), row, &[], &mut staging.touched)?;
+    touch_both(
+        &HintedVertex::new(vertex, place),
+        row,
+        &[],
+        &mut staging.touched,
+    )?;
     keep_once(&mut staging.touched);
     Ok(())
 }

@@ -1,15 +1,16 @@
 //! The map from vertices to values.
-ghost use Rattle.std.specs.Prelude.{◌≡◌, ◌↔◌, ◌<◌, ◌+◌, ◌^◌, cond, length, is_some, IfOk, IfSome, OnOk, OnErr, IsTrue, option_copied};
+ghost use Rattle.std.specs.Prelude.{◌≡◌, ◌↔◌, ◌<◌, ◌+◌, ◌^◌, cond, length, is_some, IfOk, IfSome};
+ghost use Rattle.std.specs.Prelude.{OnOk, OnErr, IsTrue, option_copied};
 ghost use Rattle.std.specs.FinMap as map;
 ghost use Rattle.vertex_map.specs.Values.{IsAt, TakesOut, WritesAt, inner, is_valued, values_of};
 
-use crate::hinted_vertex::{NOWHERE, HintedVertex};
+use crate::hinted_vertex::{HintedVertex, NOWHERE};
 use indexmap::IndexMap;
+use ospf_types::WordHash;
 use ospf_types::entry::Vertex;
 use ospf_types::memory::Memory;
 use std::alloc::Global;
 use std::marker::Model;
-use word_hash::WordHash;
 
 /// A map from vertices to values.
 ///

@@ -1,4 +1,12 @@
+pub mod Counting
+pub mod Elements
+pub mod VertexMaps
+pub mod VertexSets
+pub mod Marking
+pub mod Keys
+pub mod Grown
+pub mod SortedOnce
 pub mod QueueOrder
-pub mod Distances
+pub mod QueueDistances
 pub mod HeapEntries
 pub mod Ranks

@@ -1,11 +1,13 @@
 //! The queue: a heap, and a map of the distances that count.
-ghost use Rattle.std.specs.Prelude.{◌≡◌, ◌↔◌, Some, IfNone, IfSome, OnErr, OnOk, IsTrue, option_copied};
+ghost use Rattle.std.specs.Prelude.{◌≡◌, ◌↔◌, Some, IfNone, IfSome, OnErr, OnOk, IsTrue};
+ghost use Rattle.std.specs.Prelude.{option_copied};
 ghost use Rattle.std.specs.FinMap as map;
 ghost use Rattle.std.specs.BinaryHeap.{heap_items};
 ghost use Rattle.vertex_queue.specs.Heaps.{AreQueue, HoldsOthers, IsAt, IsStale};
 ghost use Rattle.vertex_queue.specs.Queues.{lessened, waits_within, IsFirst};
 
 use crate::waiting::Waiting;
+use ospf_types::WordHash;
 use ospf_types::entry::Vertex;
 use ospf_types::memory::Memory;
 use std::alloc::Global;
@@ -13,7 +15,6 @@ use std::cmp::Reverse;
 use std::collections::BinaryHeap;
 use std::marker::Model;
 use vertex_map::{HintedVertex, VertexMap};
-use word_hash::WordHash;
 
 /// A priority queue of vertices, each at its distance from the root. Distances are sums of metrics.
 pub struct Queue {

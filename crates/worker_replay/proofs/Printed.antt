@@ -3,10 +3,10 @@ use Rattle.std.proofs.Common.{◌≡◌, ℕ, ◌≤◌, ◌+◌, List, [], ◌�
 use Rattle.std.specs.Prelude.{Result}
 use Rattle.event_state.specs.declared.refusal.Refusal.{Refusal}
 use Rattle.route_table.specs.Tables.{TableValue}
-use Rattle.output_format.specs.declared.Format.{Format}
+use Rattle.output_lines.specs.declared.format.Format.{Format}
 use Rattle.engine.specs.Reply.{Reply}
 use Rattle.publication.specs.Names.{Name}
-use Rattle.engine_state.specs.Answers.{AreAnswered}
+use Rattle.engine.specs.Answers.{AreAnswered}
 use Rattle.recording.specs.declared.line.Line.{Line}
 use Rattle.recording.specs.declared.line.Line.TheVariants as line
 use Rattle.replay.specs.Lines.{lookup_line, answer_line}

@@ -13,11 +13,11 @@ use Rattle.engine.specs.Opens.{IsRolledSerial}
 use Rattle.publication.specs.Forwarders.{ForwarderValue, SeenValue, IsLookup}
 use Rattle.publication.specs.Names.{Name}
 use Rattle.publication.specs.Published.{IsTableFor}
-use Rattle.engine_state.specs.Answers.{AreAnswered}
+use Rattle.engine.specs.Answers.{AreAnswered}
 use Rattle.recording.specs.declared.line.Line.{Line}
 use Rattle.recording.specs.Recordings.{RecordingValue}
 use Rattle.recording.specs.declared.version.Version.{Version}
-use Rattle.output_format.specs.declared.Format.{Format}
+use Rattle.output_lines.specs.declared.format.Format.{Format}
 use Rattle.replay.specs.Lines.{first_number}
 use Rattle.worker_replay.specs.declared.asking.Ask.{Ask}
 use Rattle.worker_replay.specs.Runs.{Answers, IsAfter, IsNotRolled, IsPrinted, IsRollAnswer, events_of, has_roll, reply_of}

@@ -13,9 +13,9 @@ use Rattle.publication.specs.Names.{Name}
 use Rattle.publication.specs.Published.{IsLegal}
 use Rattle.publication.specs.Told.{TokenValue}
 use Rattle.publication.proofs.Prefixes.{prefix_trans}
-use Rattle.engine_state.specs.Answers.{AreAnswered, IsAnswered}
-use Rattle.engine_state.specs.declared.answer.Answer.{Answer}
-use Rattle.engine_state.specs.declared.answer.Refused.{Refused}
+use Rattle.engine.specs.Answers.{AreAnswered, IsAnswered}
+use Rattle.engine.specs.declared.answer.Answer.{Answer}
+use Rattle.engine.specs.declared.answer.Refused.{Refused}
 use Rattle.worker_replay.specs.Runs.{Answers, IsAfter, told_of, reply_of}
 use Rattle.worker_replay.specs.Parts.{IsOf}
 

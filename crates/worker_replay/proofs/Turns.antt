@@ -6,9 +6,9 @@ use Rattle.std.proofs.lemmas.List.{reverse-append, reverse-reverse, map-append, 
 use Rattle.std.proofs.lemmas.List.Elements.{All-head}
 use Rattle.event_state.specs.declared.event.Event.{Event}
 use Rattle.publication.specs.Names.{Name}
-use Rattle.engine_state.specs.Answers.{AreAnswered}
-use Rattle.engine_state.specs.declared.answer.Answer.{Answer}
-use Rattle.engine_state.specs.declared.answer.Refused.{Refused}
+use Rattle.engine.specs.Answers.{AreAnswered}
+use Rattle.engine.specs.declared.answer.Answer.{Answer}
+use Rattle.engine.specs.declared.answer.Refused.{Refused}
 use Rattle.worker_replay.specs.Runs.{Answers}
 use Rattle.worker_replay.specs.Dealing.{IsDealt, AreAnsweredDealt, AreTaken}
 

@@ -5,7 +5,7 @@ use Rattle.event_state.specs.declared.refusal.Refusal.{Refusal}
 use Rattle.engine.specs.Cores.{CoreValue}
 use Rattle.recording.specs.Recordings.{RecordingValue}
 use Rattle.replay.specs.declared.printing.PrintOptions.{PrintOptions}
-use Rattle.output_format.specs.declared.Format.{Format}
+use Rattle.output_lines.specs.declared.format.Format.{Format}
 use Rattle.recording.specs.declared.version.Version.{Version}
 use Rattle.recording.specs.declared.line.Line.{Line}
 use Rattle.recording.specs.declared.line.Line.TheVariants as line

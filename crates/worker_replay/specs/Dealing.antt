@@ -3,9 +3,9 @@ use Rattle.std.specs.Prelude.{◌≡◌, ◌++◌, List, [], ◌∷◌, All, Opt
 use Rattle.std.specs.List.{AllZip}
 use Rattle.event_state.specs.declared.event.Event.{Event}
 use Rattle.publication.specs.Names.{Name}
-use Rattle.engine_state.specs.Answers.{AreAnswered, IsAnswered}
-use Rattle.engine_state.specs.declared.answer.Answer.{Answer}
-use Rattle.engine_state.specs.declared.answer.Refused.{Refused}
+use Rattle.engine.specs.Answers.{AreAnswered, IsAnswered}
+use Rattle.engine.specs.declared.answer.Answer.{Answer}
+use Rattle.engine.specs.declared.answer.Refused.{Refused}
 use Rattle.worker_replay.specs.Runs.{Answers}
 
 -- The first event is the first of the first list. The others were dealt from the second list on, so that what is left of the first is the last of these.

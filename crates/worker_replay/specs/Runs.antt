@@ -9,16 +9,16 @@ use Rattle.event_state.specs.Rolls.{IsRolled}
 use Rattle.event_state.specs.Steps.{standard_limits}
 use Rattle.route_table.specs.declared.table.Match.{Match}
 use Rattle.route_table.specs.Tables.{TableValue, IsMatch}
-use Rattle.output_format.specs.declared.Format.{Format}
+use Rattle.output_lines.specs.declared.format.Format.{Format}
 use Rattle.engine.specs.Reply.{Reply}
 use Rattle.engine.specs.Cores.{CoreValue, IsCore}
 use Rattle.engine.specs.Opens.{IsRolledSerial}
 use Rattle.publication.specs.Names.{Name}
 use Rattle.publication.specs.Published.{IsTableFor}
 use Rattle.publication.specs.Told.{TokenValue}
-use Rattle.engine_state.specs.Answers.{AreAnswered}
-use Rattle.engine_state.specs.declared.answer.Answer.{Answer}
-use Rattle.engine_state.specs.declared.answer.Refused.{Refused}
+use Rattle.engine.specs.Answers.{AreAnswered}
+use Rattle.engine.specs.declared.answer.Answer.{Answer}
+use Rattle.engine.specs.declared.answer.Refused.{Refused}
 use Rattle.recording.specs.declared.line.Line.{Line}
 use Rattle.recording.specs.declared.line.Line.TheVariants as line
 use Rattle.recording.specs.Recordings.{RecordingValue}

@@ -2,7 +2,7 @@
 ghost use Rattle.std.specs.Prelude.{◌≡◌, ◌<◌, List, [], ◌∷◌, length, map, reverse, IfOk, OnOk};
 ghost use Rattle.event_state.specs.declared.event.Event.{Event as EventValue};
 ghost use Rattle.publication.specs.Names.{Name};
-ghost use Rattle.engine_state.specs.Answers.{AreAnswered};
+ghost use Rattle.engine.specs.Answers.{AreAnswered};
 ghost use Rattle.worker_replay.specs.Dealing.{IsDealt, AreAnsweredDealt, AreTaken};
 
 use engine::{Answer, Event, Refused};

@@ -3,7 +3,7 @@ ghost use Rattle.std.specs.Prelude.{◌≡◌, ◌⊎◌, [], OnOk, IfErr, strin
 ghost use Rattle.engine.specs.Cores.{state_of};
 ghost use Rattle.engine.specs.Listings.{AreLsas};
 ghost use Rattle.replay.specs.declared.buffer.PrintError.TheVariants as stop;
-ghost use Rattle.output_format.specs.declared.Show.TheVariants as show_value;
+ghost use Rattle.output_lines.specs.declared.format.Show.TheVariants as show_value;
 ghost use Rattle.recording.specs.declared.version.Version.{Version as VersionValue};
 ghost use Rattle.replay.specs.Stops.{AreWhole};
 ghost use Rattle.worker_replay.specs.Parts.{Writes, WritesPart};
@@ -12,10 +12,11 @@ use engine::Core;
 use lsa_codec::Checked;
 use ospf_types::key::Scope;
 use ospf_types::memory::Memory;
-use output_format::Format;
+use output_lines::Format;
 use recording::Version;
 use replay::{
-    Journal, PrintOptions, Show, PrintError, put_serial, show_items, show_lsas, show_summaries, flush_buffer,
+    Journal, PrintError, PrintOptions, Show, flush_buffer, put_serial, show_items, show_lsas,
+    show_summaries,
 };
 use std::io;
 

@@ -1,5 +1,6 @@
 //! The lines of a run, printed in order.
-ghost use Rattle.std.specs.Prelude.{◌≡◌, ◌++◌, ◌+◌, ◌<◌, ◌^◌, [], ◌∷◌, length, OnOk, IfOk, string_bytes};
+ghost use Rattle.std.specs.Prelude.{◌≡◌, ◌++◌, ◌+◌, ◌<◌, ◌^◌, [], ◌∷◌, length, OnOk, IfOk};
+ghost use Rattle.std.specs.Prelude.{string_bytes};
 ghost use Rattle.route_table.specs.declared.table.Match.{Match};
 ghost use Rattle.route_table.specs.Tables.{IsMatch};
 ghost use Rattle.replay.specs.Lines.{lookup_line};
@@ -8,9 +9,9 @@ ghost use Rattle.worker_replay.specs.Parts.{HasAllReplies, AppendsAll, AppendsLi
 
 use crate::asking::Ask;
 use engine::{Refusal, Reply, Seen};
-use json_lines::Lookup;
 use ospf_types::memory::Memory;
-use output_format::Format;
+use output_lines::Format;
+use replay::json_lines::Lookup;
 use replay::{put_answer, put_found, put_roll};
 use route_table::Match;
 

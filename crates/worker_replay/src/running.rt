@@ -1,12 +1,14 @@
 //! The run of a recording over an engine.
-ghost use Rattle.std.specs.Prelude.{◌≡◌, ◌<◌, ◌≤◌, ◌+◌, ◌^◌, length, IfOk, IfErr, IfSome, None, MatchResult, is_some, string_bytes};
+ghost use Rattle.std.specs.Prelude.{◌≡◌, ◌<◌, ◌≤◌, ◌+◌, ◌^◌, length, IfOk, IfErr, IfSome, None};
+ghost use Rattle.std.specs.Prelude.{MatchResult, is_some, string_bytes};
 ghost use Rattle.event_state.specs.BaseFaults.{base_fault_of};
 ghost use Rattle.event_state.specs.Steps.{standard_limits};
-ghost use Rattle.engine_state.specs.Answers.{AreAnswered};
+ghost use Rattle.engine.specs.Answers.{AreAnswered};
 ghost use Rattle.engine.specs.Opens.{IsRolledSerial};
 ghost use Rattle.replay.specs.Lines.{first_number};
 ghost use Rattle.worker_replay.specs.Runs.{IsNotRolled};
-ghost use Rattle.worker_replay.specs.Parts.{AreWorkers, HasRun, HasPrinted, HasAllReplies, Looks, IsRunFault};
+ghost use Rattle.worker_replay.specs.Parts.{AreWorkers, HasRun, HasPrinted, HasAllReplies, Looks};
+ghost use Rattle.worker_replay.specs.Parts.{IsRunFault};
 
 use crate::asking::{Apart, Ask, set_all_apart};
 use crate::dealing::{Answers, collect, deal};
@@ -15,7 +17,7 @@ use crate::learning::{Replies, learn_all};
 use crate::printing::{Outcome, Rolled};
 use engine::{Base, ConfigFault, Core, Engine, Event, Forwarder, Open, OpenFault, Refusal};
 use ospf_types::memory::Memory;
-use output_format::Format;
+use output_lines::Format;
 use recording::{Line, Recording};
 use replay::first_event_line;
 use std::alloc::Global;

@@ -2,7 +2,7 @@
 use Rattle.std.proofs.Common.{[]}
 use Rattle.ospf_types.specs.declared.config.AreaConfig.{AreaConfig}
 use Rattle.active_ranges.specs.Following.{IsNamedIn}
-use Rattle.result_map.proofs.Adding.{more_next, more_all}
+use Rattle.route_choice.proofs.Adding.{more_next, more_all}
 use Rattle.active_ranges.proofs.Naming.{all_named}
 use Rattle.active_ranges.proofs.covered_members.named_members.Goals as goal
 

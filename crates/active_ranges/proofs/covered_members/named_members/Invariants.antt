@@ -1,6 +1,6 @@
 -- So far those of the areas up to here are added.
 use Rattle.std.proofs.Common.{[], take}
-use Rattle.result_map.specs.Lists.{IsOfSome}
+use Rattle.route_choice.specs.Lists.{IsOfSome}
 use Rattle.active_ranges.specs.Following.{HasMore, IsNamedIn}
 use Rattle.active_ranges.proofs.covered_members.named_members.Given as goal
 

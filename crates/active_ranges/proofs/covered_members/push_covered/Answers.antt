@@ -2,7 +2,7 @@
 use Rattle.std.proofs.Common.{true≢false, sym, ◌∙◌}
 use Rattle.active_ranges.specs.Following.{IsNamedAs}
 use Rattle.active_ranges.specs.declared.member.RangeMember.{RangeMember}
-use Rattle.result_map.proofs.Adding.{more_none, more_one}
+use Rattle.route_choice.proofs.Adding.{more_none, more_one}
 use Rattle.active_ranges.proofs.Naming.{covered, not_covered}
 use Rattle.active_ranges.proofs.covered_members.push_covered.Goals as goal
 

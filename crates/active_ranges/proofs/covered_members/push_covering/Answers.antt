@@ -1,7 +1,7 @@
 -- One destination more.
-use Rattle.result_map.specs.Lists.{IsOfSome}
+use Rattle.route_choice.specs.Lists.{IsOfSome}
 use Rattle.active_ranges.specs.Following.{IsNamedAs, IsNamedOf}
-use Rattle.result_map.proofs.Adding.{more_as, more_next, more_all}
+use Rattle.route_choice.proofs.Adding.{more_as, more_next, more_all}
 use Rattle.active_ranges.proofs.Naming.{named_of}
 use Rattle.active_ranges.proofs.covered_members.push_covering.Goals as goal
 

@@ -1,9 +1,9 @@
 -- The members of one range more.
 use Rattle.std.proofs.Common.{List, subst}
 use Rattle.ospf_types.specs.declared.config.Range.{Range}
-use Rattle.result_map.specs.Lists.{IsOfSome}
+use Rattle.route_choice.specs.Lists.{IsOfSome}
 use Rattle.active_ranges.specs.Following.{HasMore, IsNamedIn, IsNamedOf}
-use Rattle.result_map.proofs.Adding.{more_as, more_next, more_all}
+use Rattle.route_choice.proofs.Adding.{more_as, more_next, more_all}
 use Rattle.active_ranges.proofs.Naming.{named_in, one_range}
 use Rattle.active_ranges.proofs.covered_members.push_named.Goals as goal
 

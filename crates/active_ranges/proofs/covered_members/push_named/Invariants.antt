@@ -1,6 +1,6 @@
 -- So far those of the ranges up to here are added.
 use Rattle.std.proofs.Common.{take}
-use Rattle.result_map.specs.Lists.{IsOfSome}
+use Rattle.route_choice.specs.Lists.{IsOfSome}
 use Rattle.active_ranges.specs.Following.{HasMore, IsNamedOf}
 use Rattle.active_ranges.proofs.Naming.{one_range}
 use Rattle.active_ranges.proofs.covered_members.push_named.Given as goal

@@ -9,7 +9,7 @@ use Rattle.ospf_types.specs.declared.entry.Entry.{Entry}
 use Rattle.ospf_types.specs.declared.prefix.Prefix.{Prefix}
 use Rattle.active_ranges.specs.declared.member.RangeMember.{RangeMember}
 use Rattle.active_ranges.proofs.Inside.{IsOfNetwork, all_within}
-use Rattle.result_map.proofs.Adding.{more_next, more_all}
+use Rattle.route_choice.proofs.Adding.{more_next, more_all}
 use Rattle.active_ranges.proofs.within.costs_within.Goals as goal
 
 pub loop-place-preserved : goal.loop-place-preserved

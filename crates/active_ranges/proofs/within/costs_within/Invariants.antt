@@ -1,7 +1,7 @@
 -- So far those of the networks up to here are added.
 use Rattle.std.proofs.Common.{[], take}
 use Rattle.std.specs.Map.{keys_of}
-use Rattle.result_map.specs.Lists.{IsOfSome}
+use Rattle.route_choice.specs.Lists.{IsOfSome}
 use Rattle.active_ranges.specs.Following.{HasMore}
 use Rattle.active_ranges.proofs.Inside.{IsOfNetwork}
 use Rattle.active_ranges.proofs.within.costs_within.Given as goal

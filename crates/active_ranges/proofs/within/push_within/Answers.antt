@@ -2,7 +2,7 @@
 use Rattle.std.proofs.Common.{true≢false, Some, None, refl, sym, ◌∙◌}
 use Rattle.active_ranges.specs.Following.{IsAddedWithin}
 use Rattle.active_ranges.proofs.Inside.{outside_by, uncovered, within_by}
-use Rattle.result_map.proofs.Adding.{more_none, more_one}
+use Rattle.route_choice.proofs.Adding.{more_none, more_one}
 use Rattle.active_ranges.proofs.within.push_within.Goals as goal
 
 pub returns-then-not-covers : goal.returns-then-not-covers

@@ -1,8 +1,8 @@
 use Rattle.std.proofs.Common.{◌≡◌, ◌≢◌, List, map, refl, sym, ap, subst, ◌∙◌}
 use Rattle.std.specs.List.{All, AllPairs}
 use Rattle.std.specs.List.Sorted.{IsPermutation}
-use Rattle.drawings.specs.declared.drawing.Drawing.{Drawing}
-use Rattle.drawings.specs.declared.drawing.DrawnLink.{DrawnLink}
+use Rattle.area_drawings.specs.declared.drawing.Drawing.{Drawing}
+use Rattle.area_drawings.specs.declared.drawing.DrawnLink.{DrawnLink}
 use Rattle.area_drawings.specs.declared.columns.Column.{Column}
 use Rattle.area_drawings.specs.declared.reached.ReachedVertex.{ReachedVertex}
 use Rattle.area_drawings.specs.declared.stands.Stand.{Stand}

@@ -1,7 +1,7 @@
 use Rattle.std.proofs.Common.{subst}
 use Rattle.std.proofs.lemmas.Result.{on_ok_weaker}
 use Rattle.ospf_types.specs.declared.entry.Vertex.{Vertex}
-use Rattle.drawings.specs.declared.drawing.DrawnLink.{DrawnLink}
+use Rattle.area_drawings.specs.declared.drawing.DrawnLink.{DrawnLink}
 use Rattle.area_drawings.specs.Links.{HasOneMore, IsStandOf, LacksVertex}
 use Rattle.area_drawings.proofs.LinkLists.{adds, adds_none}
 use Rattle.area_drawings.proofs.links.add_link.Goals as goal

@@ -1,5 +1,5 @@
 use Rattle.std.proofs.Common.{List, [], sym, subst}
-use Rattle.drawings.specs.declared.drawing.DrawnLink.{DrawnLink}
+use Rattle.area_drawings.specs.declared.drawing.DrawnLink.{DrawnLink}
 use Rattle.graph_links.proofs.Apart.{Apart, apart_nil}
 use Rattle.area_drawings.proofs.WholeLinks.{AreDrawnOf, none_drawn, drawn_more, all_out}
 use Rattle.area_drawings.proofs.links.links_out.Goals as goal

@@ -1,7 +1,7 @@
 use Rattle.std.proofs.Common.{◌≢◌, take}
 use Rattle.std.specs.Prelude.{◌↔◌, Contains}
 use Rattle.std.specs.List.{AllPairs}
-use Rattle.drawings.specs.declared.drawing.DrawnLink.{DrawnLink}
+use Rattle.area_drawings.specs.declared.drawing.DrawnLink.{DrawnLink}
 use Rattle.spf.specs.HandedOn.{IsOfSome}
 use Rattle.area_drawings.specs.Links.{IsDrawnOf}
 use Rattle.area_drawings.proofs.links.links_out.Given as goal

@@ -2,7 +2,7 @@ use Rattle.std.proofs.Common.{◌≡◌, ◌+◌, List, map, take, sym, subst}
 use Rattle.std.specs.List.{All}
 use Rattle.std.proofs.lemmas.List.Elements.{All-push}
 use Rattle.ospf_types.specs.declared.entry.Vertex.TheVariants.{Router}
-use Rattle.drawings.specs.declared.drawing.DrawnVertex.{DrawnVertex}
+use Rattle.area_drawings.specs.declared.drawing.DrawnVertex.{DrawnVertex}
 use Rattle.area_drawings.specs.declared.stands.Stand.{Stand}
 use Rattle.area_drawings.specs.Drawings.{IsTold, stand_of}
 use Rattle.area_drawings.proofs.Drawn.{stand_push}

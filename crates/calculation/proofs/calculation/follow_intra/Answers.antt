@@ -5,9 +5,9 @@ use Rattle.intra.specs.Inputs.{InputsValue, AreReady}
 use Rattle.intra.specs.Right.{AreInputsOf}
 use Rattle.intra.specs.Changes.{InputsDifferAmong}
 use Rattle.event_state.specs.States.{inputs_of}
-use Rattle.state_trees.specs.Trees.{inputs_with}
-use Rattle.state_trees.proofs.InputsAre.{ready_of, inputs_are, inputs_made}
-use Rattle.state_trees.proofs.Turns.{trees_long}
+use Rattle.route_layers.specs.Trees.{inputs_with}
+use Rattle.route_layers.proofs.InputsAre.{ready_of, inputs_are, inputs_made}
+use Rattle.route_layers.proofs.Turns.{trees_long}
 use Rattle.calculation.proofs.calculation.follow_intra.Goals as goal
 
 pub area_inputs-requires : goal.area_inputs-requires

@@ -1,7 +1,7 @@
 use Rattle.std.proofs.Common.{List, sym, subst}
 use Rattle.std.specs.List.{Contains}
 use Rattle.ospf_types.specs.declared.prefix.Prefix.{Prefix}
-use Rattle.result_map.proofs.Among.{networks_among}
+use Rattle.route_choice.proofs.Among.{networks_among}
 use Rattle.calculation.proofs.calculation.networks_of.Goals as goal
 
 pub returns-clause-exact : goal.returns-clause-exact

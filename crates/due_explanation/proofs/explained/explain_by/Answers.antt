@@ -5,7 +5,7 @@ use Rattle.ospf_types.specs.declared.config.Config.{Config}
 use Rattle.summaries.specs.Inputs.{SummaryInputsValue}
 use Rattle.route_layers.specs.Layers.{AreActive}
 use Rattle.calculation.specs.Summaries.{summary_inputs}
-use Rattle.due_reasons.specs.Reasons.{IsExplained}
+use Rattle.due_explanation.specs.Reasons.{IsExplained}
 use Rattle.due_explanation.proofs.explained.explain_by.Goals as goal
 
 pub returns : goal.returns

@@ -1,5 +1,5 @@
 use Rattle.std.proofs.Common.{List, refl, subst}
-use Rattle.engine_state.specs.Answers.{AreAnswered}
+use Rattle.engine.specs.Answers.{AreAnswered}
 use Rattle.publication.specs.Names.{Name}
 use Rattle.event_state.specs.declared.event.Event.{Event}
 use Rattle.engine.proofs.Zips.{zip_through}

@@ -18,7 +18,7 @@ returns-in-Interface-clause-ranges c = ranges_by c.args.state.now c.args.event.n
 
 pub returns-clause-named : goal.returns-clause-named
 returns-clause-named c =
-    others_name c.args.state.now c.args.event.now c.in_ok-affected_lsas.field-0.items c.new-2.result.items (is_some c.range_of.result) c.in_default.not-Interface c.new-2.ensures.items (ap is_some c.range_of.ensures) c.in_ok-named.ensures
+    others_name c.args.state.now c.args.event.now c.in_ok-affected_lsas.field-0.items c.new-2.result.items (is_some c.range_of.result) c.in_default.not-Interface c.new-2.ensures.items (ap is_some c.range_of.ensures) c.in_ok-affected_lsas.ensures
 
 pub returns-clause-ranges : goal.returns-clause-ranges
 returns-clause-ranges c = ranges_by c.args.state.now c.args.event.now c.range_of.result c.range_of.ensures

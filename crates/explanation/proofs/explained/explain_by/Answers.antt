@@ -1,7 +1,7 @@
 use Rattle.std.proofs.Common.{ℕ, List, refl, length, ap, sym, subst, ◌∙◌}
 use Rattle.area_trees.specs.Areas.{AreaTreeValue}
 use Rattle.route_layers.specs.Layers.{AreActive}
-use Rattle.state_trees.specs.Trees.{areas_with}
+use Rattle.route_layers.specs.Trees.{areas_with}
 use Rattle.explanation.proofs.Areas.{are_areas, as_many}
 use Rattle.explanation.proofs.explained.explain_by.Goals as goal
 

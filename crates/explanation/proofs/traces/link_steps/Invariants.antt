@@ -1,5 +1,5 @@
 use Rattle.std.proofs.Common.{take}
-use Rattle.tree_paths.specs.LeastPaths.{links_at}
+use Rattle.area_trees.specs.LeastPaths.{links_at}
 use Rattle.explanation.specs.Traces.{AreLinkSteps}
 use Rattle.explanation.proofs.traces.link_steps.Given as goal
 

@@ -7,7 +7,7 @@ use Rattle.std.proofs.lemmas.List.Elements.{Contains-append_left, Contains-appen
 use Rattle.ospf_types.specs.declared.key.Dest.{Dest}
 use Rattle.ospf_types.specs.declared.key.Dest.TheVariants.{Router}
 use Rattle.ospf_types.proofs.Elements.{mapped_element}
-use Rattle.result_map.proofs.Among.{routers_among}
+use Rattle.route_choice.proofs.Among.{routers_among}
 use Rattle.intra.specs.Intras.{IsKeptIn}
 use Rattle.external.specs.Inputs.{ExternalInputsValue}
 use Rattle.external.proofs.OfferingRouters.{offering}

@@ -1,6 +1,6 @@
 use Rattle.std.proofs.Common.{◌≡◌, ◌+◌, ℕ, List, drop, ap, sym, subst}
-use Rattle.path_choice.specs.Takes.{OfferedBySome}
-use Rattle.path_choice.proofs.Taking.{takes_at, takes_past}
+use Rattle.route_choice.specs.Takes.{OfferedBySome}
+use Rattle.route_choice.proofs.Taking.{takes_at, takes_past}
 use Rattle.external.specs.Choosing.{TakesHops}
 use Rattle.external.specs.Inputs.{ExternalInputsValue}
 use Rattle.external.specs.AsbrRoute.{ReachedOffers}

@@ -1,8 +1,8 @@
 use Rattle.std.proofs.Common.{drop, Option}
 use Rattle.ospf_types.specs.declared.hop.NextHop.{NextHop}
 use Rattle.ospf_types.specs.Boundary.{Preference}
-use Rattle.path_choice.specs.Choices.{Chosen}
-use Rattle.path_choice.specs.Takes.{OfferedBySome}
+use Rattle.route_choice.specs.Choices.{Chosen}
+use Rattle.route_choice.specs.Takes.{OfferedBySome}
 use Rattle.external.specs.Choosing.{TakesHops}
 use Rattle.external.specs.AsbrRoute.{ReachedOffers}
 use Rattle.external.proofs.preferred.offer_areas.Given as goal

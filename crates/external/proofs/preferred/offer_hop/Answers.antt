@@ -2,7 +2,7 @@ use Rattle.std.proofs.Common.{OnOk, Ordering, subst}
 use Rattle.ospf_types.specs.Boundary.{preference_cmp}
 use Rattle.ospf_types.specs.declared.hop.NextHop.{NextHop}
 use Rattle.ospf_types.proofs.Paths.{hop_cmp_is}
-use Rattle.path_choice.specs.Takes.{Takes, OnlyOffer}
+use Rattle.route_choice.specs.Takes.{Takes, OnlyOffer}
 use Rattle.external.proofs.preferred.offer_hop.Goals as goal
 
 pub returns : goal.returns

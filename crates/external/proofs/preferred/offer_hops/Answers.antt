@@ -1,5 +1,5 @@
-use Rattle.path_choice.specs.Takes.{OnlyOffer}
-use Rattle.path_choice.proofs.Taking.{takes_at, takes_past}
+use Rattle.route_choice.specs.Takes.{OnlyOffer}
+use Rattle.route_choice.proofs.Taking.{takes_at, takes_past}
 use Rattle.external.proofs.preferred.offer_hops.Goals as goal
 
 pub loop-hop-preserved : goal.loop-hop-preserved

@@ -1,7 +1,7 @@
 use Rattle.std.proofs.Common.{drop, Option}
 use Rattle.ospf_types.specs.declared.hop.NextHop.{NextHop}
 use Rattle.ospf_types.specs.Boundary.{Preference}
-use Rattle.path_choice.specs.Choices.{Chosen}
+use Rattle.route_choice.specs.Choices.{Chosen}
 use Rattle.external.specs.Choosing.{TakesHops, HopsOffer}
 use Rattle.external.proofs.preferred.offer_hops.Given as goal
 

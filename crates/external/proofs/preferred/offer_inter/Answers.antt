@@ -1,7 +1,7 @@
 use Rattle.std.proofs.Common.{ℕ, List, ap, ◌∙◌, subst}
 use Rattle.std.proofs.lemmas.Result.{on_ok_weaker}
 use Rattle.ospf_types.specs.declared.hop.Path.{Path}
-use Rattle.path_choice.specs.Takes.{OnlyOffer, OfferedBySome}
+use Rattle.route_choice.specs.Takes.{OnlyOffer, OfferedBySome}
 use Rattle.external.specs.Choosing.{TakesHops}
 use Rattle.external.proofs.PreferredOffers.{preferred_at, takes_entry, takes_no_area}
 use Rattle.external.proofs.preferred.offer_inter.Goals as goal

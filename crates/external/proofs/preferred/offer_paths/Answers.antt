@@ -1,6 +1,6 @@
 use Rattle.ospf_types.specs.declared.hop.Path.{Path}
-use Rattle.path_choice.specs.Takes.{OnlyOffer}
-use Rattle.path_choice.proofs.Taking.{takes_at, takes_past}
+use Rattle.route_choice.specs.Takes.{OnlyOffer}
+use Rattle.route_choice.proofs.Taking.{takes_at, takes_past}
 use Rattle.external.proofs.preferred.offer_paths.Goals as goal
 
 pub loop-path-preserved : goal.loop-path-preserved

@@ -2,8 +2,8 @@ use Rattle.std.proofs.Common.{drop, Option}
 use Rattle.ospf_types.specs.declared.hop.NextHop.{NextHop}
 use Rattle.ospf_types.specs.declared.hop.Path.{Path}
 use Rattle.ospf_types.specs.Boundary.{Preference}
-use Rattle.path_choice.specs.Choices.{Chosen}
-use Rattle.path_choice.specs.Takes.{OnlyOffer, OfferedBySome}
+use Rattle.route_choice.specs.Choices.{Chosen}
+use Rattle.route_choice.specs.Takes.{OnlyOffer, OfferedBySome}
 use Rattle.external.specs.Choosing.{TakesHops}
 use Rattle.external.proofs.preferred.offer_paths.Given as goal
 

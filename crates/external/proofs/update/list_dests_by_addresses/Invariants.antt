@@ -1,6 +1,6 @@
 -- So far those up to here led on.
 use Rattle.std.proofs.Common.{take}
-use Rattle.result_map.specs.Lists.{HasMore, IsOfSome}
+use Rattle.route_choice.specs.Lists.{HasMore, IsOfSome}
 use Rattle.external.specs.Updating.{IsLedByAddress}
 use Rattle.external.proofs.update.list_dests_by_addresses.Given as goal
 

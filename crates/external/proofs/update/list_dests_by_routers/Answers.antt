@@ -1,7 +1,7 @@
 -- One more.
 use Rattle.std.proofs.Common.{get_or}
 use Rattle.std.proofs.lemmas.List.{get_or_default}
-use Rattle.result_map.proofs.Adding.{more_first, more_next, more_all}
+use Rattle.route_choice.proofs.Adding.{more_first, more_next, more_all}
 use Rattle.external.specs.Updating.{IsLedBy}
 use Rattle.external.proofs.update.list_dests_by_routers.Goals as goal
 

@@ -1,5 +1,5 @@
 -- One destination more.
-use Rattle.result_map.proofs.Adding.{gains_first, gains_next, gains_all}
+use Rattle.route_choice.proofs.Adding.{gains_first, gains_next, gains_all}
 use Rattle.external.specs.Updating.{IsAlso}
 use Rattle.external.proofs.update.list_dests_led_to.Goals as goal
 

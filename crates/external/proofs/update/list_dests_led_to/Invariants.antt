@@ -1,6 +1,6 @@
 -- So far the destinations up to here are there that something leads to.
 use Rattle.std.proofs.Common.{take}
-use Rattle.result_map.specs.Lists.{GainsAll, IsOfSome}
+use Rattle.route_choice.specs.Lists.{GainsAll, IsOfSome}
 use Rattle.external.specs.Updating.{IsAlso}
 use Rattle.external.proofs.update.list_dests_led_to.Given as goal
 

@@ -1,7 +1,7 @@
 -- It is added, or nothing leads to it.
 use Rattle.std.proofs.Common.{true≢false, sym, subst, ◌∙◌}
-use Rattle.offer_index.specs.Indexes.{IsLedTo}
-use Rattle.result_map.proofs.Adding.{gains_none, gains_one}
+use Rattle.advertised_index.specs.Indexes.{IsLedTo}
+use Rattle.route_choice.proofs.Adding.{gains_none, gains_one}
 use Rattle.external.specs.Updating.{IsAlso}
 use Rattle.external.proofs.update.list_if_led_to.Goals as goal
 

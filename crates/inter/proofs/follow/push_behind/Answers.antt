@@ -2,8 +2,8 @@
 use Rattle.std.proofs.Common.{◌≡◌, ℕ, sym, subst, ◌∙◌, inl, inr}
 use Rattle.std.proofs.lemmas.Result.{on_ok_weaker}
 use Rattle.ospf_types.specs.declared.key.Dest.TheVariants.{Router}
-use Rattle.offer_index.specs.Indexes.{GroupLeadsTo}
-use Rattle.offer_index.specs.declared.index_key.IndexKey.TheVariants.{By}
+use Rattle.advertised_index.specs.Indexes.{GroupLeadsTo}
+use Rattle.advertised_index.specs.declared.index_key.IndexKey.TheVariants.{By}
 use Rattle.inter.proofs.follow.push_behind.Goals as goal
 
 pub returns-in-Router-clause-kept : goal.returns-in-Router-clause-kept

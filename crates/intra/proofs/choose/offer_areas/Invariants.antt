@@ -3,7 +3,7 @@ use Rattle.std.specs.Iterator.Adapters.{zip_first, zip_second}
 use Rattle.std.specs.Slice.Iter.{iter_rest}
 use Rattle.ospf_types.specs.declared.hop.Path.{Path}
 use Rattle.ospf_types.specs.Intra.{AreaCost}
-use Rattle.path_choice.specs.Choices.{Chosen}
+use Rattle.route_choice.specs.Choices.{Chosen}
 use Rattle.intra.specs.Choosing.{TakesPaths}
 use Rattle.intra.specs.Indexes.{IndexedOffers}
 use Rattle.intra.proofs.choose.offer_areas.Given as goal

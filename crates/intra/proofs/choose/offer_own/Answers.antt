@@ -1,8 +1,8 @@
 use Rattle.std.proofs.Common.{ℕ, List, sym, subst}
 use Rattle.ospf_types.specs.declared.config.Interface.{Interface}
 use Rattle.intra.specs.Choosing.{TakesPaths, InterfaceOffers}
-use Rattle.path_choice.specs.Takes.{OfferedBySome}
-use Rattle.path_choice.proofs.Taking.{takes_cons, takes_nil}
+use Rattle.route_choice.specs.Takes.{OfferedBySome}
+use Rattle.route_choice.proofs.Taking.{takes_cons, takes_nil}
 use Rattle.intra.proofs.choose.offer_own.Goals as goal
 
 pub loop-id-preserved : goal.loop-id-preserved

@@ -1,9 +1,9 @@
 use Rattle.std.proofs.Common.{Option}
 use Rattle.ospf_types.specs.declared.hop.Path.{Path}
 use Rattle.ospf_types.specs.Intra.{AreaCost}
-use Rattle.path_choice.specs.Choices.{Chosen}
+use Rattle.route_choice.specs.Choices.{Chosen}
 use Rattle.intra.specs.Choosing.{TakesPaths, InterfaceOffers}
-use Rattle.path_choice.specs.Takes.{OfferedBySome}
+use Rattle.route_choice.specs.Takes.{OfferedBySome}
 use Rattle.intra.proofs.choose.offer_own.Given as goal
 
 -- who takes the offers of the interfaces that are left has taken them all

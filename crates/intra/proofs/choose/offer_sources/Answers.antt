@@ -6,7 +6,7 @@ use Rattle.intra.specs.declared.area_index.Source.{Source}
 use Rattle.intra.specs.Choosing.{AmongSources, TakesPaths, ThisSource, KeyedStubs, FindsNearest}
 use Rattle.intra.proofs.Nearest.{nearest_of_none}
 use Rattle.intra.proofs.Sourced.{takes_area, takes_sources}
-use Rattle.path_choice.proofs.Taking.{takes_at, takes_past}
+use Rattle.route_choice.proofs.Taking.{takes_at, takes_past}
 use Rattle.intra.proofs.choose.offer_sources.Goals as goal
 
 pub loop-source-init : goal.loop-source-init

@@ -4,8 +4,8 @@ use Rattle.std.specs.Prelude.{IfSome}
 use Rattle.ospf_types.specs.declared.hop.Path.{Path}
 use Rattle.ospf_types.specs.declared.prefix.Prefix.{Prefix}
 use Rattle.ospf_types.specs.Intra.{AreaCost}
-use Rattle.path_choice.specs.Choices.{Chosen}
-use Rattle.path_choice.specs.Takes.{OfferedBySome}
+use Rattle.route_choice.specs.Choices.{Chosen}
+use Rattle.route_choice.specs.Takes.{OfferedBySome}
 use Rattle.spf.specs.Maps.{most_distance}
 use Rattle.intra.specs.Choosing.{TakesPaths, AmongSources, ThisSource, KeyedStubs, FindsNearest}
 use Rattle.intra.proofs.choose.offer_sources.Given as goal

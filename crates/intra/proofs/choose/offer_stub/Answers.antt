@@ -5,7 +5,7 @@ use Rattle.ospf_types.specs.declared.hop.NextHop.{NextHop}
 use Rattle.ospf_types.specs.Intra.{AreaCost}
 use Rattle.intra.specs.Choosing.{TakesPaths, HopsOffer, InterfaceOffers}
 use Rattle.intra.specs.Inputs.{InputsValue, distance_at, hops_at}
-use Rattle.path_choice.specs.Takes.{OfferedBySome}
+use Rattle.route_choice.specs.Takes.{OfferedBySome}
 use Rattle.intra.proofs.Sourced.{takes_own, takes_reached, takes_unreached}
 use Rattle.intra.proofs.choose.offer_stub.Goals as goal
 

@@ -3,7 +3,7 @@ use Rattle.std.proofs.Common.{List, subst}
 use Rattle.std.specs.Prelude.{◌↔◌, Contains}
 use Rattle.intra.specs.declared.offered.Offer.{Offer}
 use Rattle.intra.proofs.OfferTests.{offer_total, offer_exact, offers_order, once_in_order}
-use Rattle.result_map.proofs.SortedOnce.{strictly, same_items}
+use Rattle.route_choice.proofs.SortedOnce.{strictly, same_items}
 use Rattle.intra.proofs.offered.stub_offers.Goals as goal
 
 pub returns-clause-exact : goal.returns-clause-exact

@@ -4,9 +4,9 @@ use Rattle.std.proofs.lemmas.Result.{on_ok_weaker}
 use Rattle.ospf_types.specs.declared.config.Config.{Config}
 use Rattle.area_trees.specs.Areas.{AreaTreeValue}
 use Rattle.intra.specs.Inputs.{AreaValue}
-use Rattle.state_trees.specs.Trees.{areas_with}
-use Rattle.state_trees.proofs.InputsAre.{ready_of}
-use Rattle.state_trees.proofs.Turns.{trees_long}
+use Rattle.route_layers.specs.Trees.{areas_with}
+use Rattle.route_layers.proofs.InputsAre.{ready_of}
+use Rattle.route_layers.proofs.Turns.{trees_long}
 use Rattle.page_replay.specs.Pictures.{HaveTrees, IsPictureOf, areas_text}
 use Rattle.page_replay.specs.Sections.{AddsAreas}
 use Rattle.page_replay.proofs.Shown.{of_ready}

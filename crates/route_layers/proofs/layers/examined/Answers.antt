@@ -3,7 +3,7 @@ use Rattle.std.specs.FinMap.{empty}
 use Rattle.ospf_types.specs.declared.key.Scope.TheVariants.{Area}
 use Rattle.event_state.specs.States.{place_of}
 use Rattle.route_layers.proofs.Above.{examined_there}
-use Rattle.state_trees.proofs.Places.{some_there}
+use Rattle.route_layers.proofs.Places.{some_there}
 use Rattle.route_layers.proofs.layers.examined.Goals as goal
 
 pub unreachable-requires : goal.unreachable-requires

@@ -3,8 +3,8 @@ use Rattle.std.proofs.Common.{List, subst}
 use Rattle.std.proofs.lemmas.Result.{IfOk-weaker}
 use Rattle.ospf_types.specs.declared.config.AreaConfig.{AreaConfig}
 use Rattle.ospf_types.specs.declared.key.Dest.{Dest}
-use Rattle.result_map.specs.Lists.{GainsAll, IsOfSome}
-use Rattle.result_map.proofs.Adding.{gains_next, gains_all}
+use Rattle.route_choice.specs.Lists.{GainsAll, IsOfSome}
+use Rattle.route_choice.proofs.Adding.{gains_next, gains_all}
 use Rattle.summaries.specs.Touched.{IsOverIn}
 use Rattle.summaries.proofs.Adding.{all_touched}
 use Rattle.summaries.proofs.affected.affected.Goals as goal

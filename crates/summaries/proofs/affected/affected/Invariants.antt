@@ -1,6 +1,6 @@
 -- So far those of the elements up to here are added.
 use Rattle.std.proofs.Common.{take}
-use Rattle.result_map.specs.Lists.{GainsAll, IsOfSome}
+use Rattle.route_choice.specs.Lists.{GainsAll, IsOfSome}
 use Rattle.summaries.specs.Touched.{IsOverIn}
 use Rattle.summaries.proofs.affected.affected.Given as goal
 

@@ -7,7 +7,7 @@ use Rattle.ospf_types.specs.declared.key.Dest.TheVariants.{Net, Router}
 use Rattle.ospf_types.specs.declared.prefix.Prefix.{Prefix}
 use Rattle.active_ranges.specs.Active.{IsActiveIn}
 use Rattle.summaries.specs.Inputs.{SummaryInputsValue}
-use Rattle.result_map.proofs.Adding.{gains_mapped, gains_one}
+use Rattle.route_choice.proofs.Adding.{gains_mapped, gains_one}
 use Rattle.summaries.proofs.Adding.{all_due}
 use Rattle.summaries.proofs.affected.all.Goals as goal
 

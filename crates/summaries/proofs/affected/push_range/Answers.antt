@@ -1,6 +1,6 @@
 -- The prefix is added, or it covers none of the networks.
 use Rattle.summaries.specs.Touched.{IsOver}
-use Rattle.result_map.proofs.Adding.{gains_none, gains_one}
+use Rattle.route_choice.proofs.Adding.{gains_none, gains_one}
 use Rattle.ospf_types.specs.declared.key.Dest.TheVariants.{Net}
 use Rattle.summaries.proofs.affected.push_range.Goals as goal
 

@@ -1,9 +1,9 @@
 -- One range more.
 use Rattle.std.proofs.Common.{List, subst}
 use Rattle.ospf_types.specs.declared.config.Range.{Range}
-use Rattle.result_map.specs.Lists.{GainsAll}
+use Rattle.route_choice.specs.Lists.{GainsAll}
 use Rattle.summaries.specs.Touched.{IsOver, IsOverIn}
-use Rattle.result_map.proofs.Adding.{gains_next, gains_all}
+use Rattle.route_choice.proofs.Adding.{gains_next, gains_all}
 use Rattle.summaries.proofs.affected.push_ranges_of.Goals as goal
 
 pub loop-range-preserved : goal.loop-range-preserved

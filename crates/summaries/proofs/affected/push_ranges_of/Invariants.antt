@@ -1,6 +1,6 @@
 -- So far the prefixes of the ranges up to here are added.
 use Rattle.std.proofs.Common.{take}
-use Rattle.result_map.specs.Lists.{GainsAll}
+use Rattle.route_choice.specs.Lists.{GainsAll}
 use Rattle.summaries.specs.Touched.{IsOverIn}
 use Rattle.summaries.proofs.affected.push_ranges_of.Given as goal
 

@@ -3,8 +3,8 @@ use Rattle.std.specs.List.Sorted.{IsSorted}
 use Rattle.ospf_types.specs.declared.key.Dest.{Dest}
 use Rattle.ospf_types.proofs.DerivedOrders.{dest_cmp_is}
 use Rattle.ospf_types.proofs.Orders.{dest_total, dest_exact}
-use Rattle.result_map.proofs.SortedOnce.{strictly, same_items}
-use Rattle.result_map.proofs.DestOrder.{dests_order}
+use Rattle.route_choice.proofs.SortedOnce.{strictly, same_items}
+use Rattle.route_choice.proofs.DestOrder.{dests_order}
 use Rattle.summaries.proofs.affected.sorted_unique.Goals as goal
 
 pub returns-clause-in_order : goal.returns-clause-in_order

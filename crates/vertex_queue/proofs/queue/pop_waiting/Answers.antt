@@ -2,7 +2,7 @@ use Rattle.std.proofs.Common.{◌≡◌, length, refl, sym, subst, ◌∙◌}
 use Rattle.std.specs.BinaryHeap.{heap_items}
 use Rattle.vertex_queue.specs.Heaps.{AreQueue}
 use Rattle.vertex_queue.specs.Queues.{Queue}
-use Rattle.vertex_queue.proofs.Distances.{no_items, none_in}
+use Rattle.vertex_queue.proofs.QueueDistances.{no_items, none_in}
 use Rattle.vertex_queue.proofs.HeapEntries.{dropped, first_of, nothing_waits, others, none_waits}
 use Rattle.vertex_queue.proofs.queue.pop_waiting.Goals as goal
 

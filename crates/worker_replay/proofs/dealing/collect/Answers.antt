@@ -1,8 +1,8 @@
 use Rattle.std.proofs.Common.{◌+◌, List, Option, map, reverse, subst, sym, arith}
 use Rattle.std.specs.Prelude.{Result}
 use Rattle.std.specs.Global.{Vec}
-use Rattle.engine_state.specs.declared.answer.Answer.{Answer}
-use Rattle.engine_state.specs.declared.answer.Refused.{Refused}
+use Rattle.engine.specs.declared.answer.Answer.{Answer}
+use Rattle.engine.specs.declared.answer.Refused.{Refused}
 use Rattle.worker_replay.specs.Runs.{Answers}
 use Rattle.worker_replay.specs.Dealing.{AreTaken}
 use Rattle.worker_replay.proofs.Turns.{Taking, taking_more, taking_stopped, taking_all}

@@ -2,7 +2,7 @@ use Rattle.std.proofs.Common.{ℕ, List, ◌++◌, ap, refl, string_bytes}
 use Rattle.std.specs.List.{flat_map}
 use Rattle.engine.specs.DueSummary.{DueSummary}
 use Rattle.replay.specs.Lines.{serial_line, area_lines}
-use Rattle.output_format.specs.declared.Show.TheVariants as show
+use Rattle.output_lines.specs.declared.format.Show.TheVariants as show
 use Rattle.replay.specs.declared.buffer.PrintError.TheVariants as stop
 use Rattle.replay.specs.Stops.{stop_of}
 use Rattle.replay.proofs.Written.{err_as}

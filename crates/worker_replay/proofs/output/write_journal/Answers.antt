@@ -1,5 +1,5 @@
 use Rattle.std.proofs.Common.{[], refl}
-use Rattle.output_format.specs.declared.Show.TheVariants as show
+use Rattle.output_lines.specs.declared.format.Show.TheVariants as show
 use Rattle.replay.specs.Stops.{stop_of}
 use Rattle.replay.proofs.Written.{err_as}
 use Rattle.replay.proofs.Wholes.{none_whole}

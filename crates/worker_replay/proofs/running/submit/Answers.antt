@@ -2,8 +2,8 @@ use Rattle.std.proofs.Common.{sym, ◌∙◌}
 use Rattle.std.specs.Prelude.{Result}
 use Rattle.std.specs.Global.{Vec}
 use Rattle.event_state.specs.declared.event.Event.{Event}
-use Rattle.engine_state.specs.declared.answer.Answer.{Answer}
-use Rattle.engine_state.specs.declared.answer.Refused.{Refused}
+use Rattle.engine.specs.declared.answer.Answer.{Answer}
+use Rattle.engine.specs.declared.answer.Refused.{Refused}
 use Rattle.worker_replay.proofs.Ran.{answered_dealt}
 use Rattle.worker_replay.proofs.running.submit.Goals as goal
 

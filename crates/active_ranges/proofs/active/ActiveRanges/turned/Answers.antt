@@ -2,11 +2,11 @@
 use Rattle.std.proofs.Common.{List, [], map, sym, subst}
 use Rattle.ospf_types.specs.declared.prefix.Prefix.{Prefix}
 use Rattle.ospf_types.specs.Network.{network_cmp}
-use Rattle.result_map.specs.Lists.{IsOfSome}
+use Rattle.route_choice.specs.Lists.{IsOfSome}
 use Rattle.active_ranges.specs.Following.{HasMore}
 use Rattle.active_ranges.specs.declared.active.Noted.{Noted}
 use Rattle.active_ranges.proofs.Ascending.{IsAscending, ascending_none}
-use Rattle.result_map.proofs.Adding.{more_first}
+use Rattle.route_choice.proofs.Adding.{more_first}
 use Rattle.active_ranges.proofs.Turning.{HasTurnedAt, ascending_told, exact_told, all_told}
 use Rattle.active_ranges.proofs.active.ActiveRanges.turned.Goals as goal
 

@@ -1,7 +1,7 @@
 -- So far the prefixes of notes up to here are told, where something has turned.
 use Rattle.std.proofs.Common.{[], take, drop, map}
 use Rattle.ospf_types.specs.Network.{network_cmp}
-use Rattle.result_map.specs.Lists.{IsOfSome}
+use Rattle.route_choice.specs.Lists.{IsOfSome}
 use Rattle.active_ranges.specs.Following.{HasMore}
 use Rattle.active_ranges.specs.declared.active.Noted.{Noted}
 use Rattle.active_ranges.proofs.Ascending.{IsAscending}

@@ -6,7 +6,7 @@ use Rattle.intra.specs.Intras.{IsIntraOf}
 use Rattle.active_ranges.specs.Active.{AreRangesOf}
 use Rattle.active_ranges.specs.Right.{AreConfigured}
 use Rattle.event_state.specs.States.{inputs_of}
-use Rattle.state_trees.specs.Trees.{inputs_with}
+use Rattle.route_layers.specs.Trees.{inputs_with}
 use Rattle.route_layers.proofs.Above.{configured}
 use Rattle.calculation.proofs.calculation.Calculation.build.Goals as goal
 

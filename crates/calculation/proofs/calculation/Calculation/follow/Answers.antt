@@ -7,10 +7,10 @@ use Rattle.intra.specs.Changes.{InputsDifferAmong}
 use Rattle.event_state.proofs.InPlace.{items_of_slice}
 use Rattle.active_ranges.specs.Active.{IsWithin}
 use Rattle.calculation.specs.Calculations.{CalculationValue, IsCalculationOf, IsItemOf}
-use Rattle.state_trees.specs.Trees.{inputs_with, AreTreesOf, StatesDifferAmong}
+use Rattle.route_layers.specs.Trees.{inputs_with, AreTreesOf, StatesDifferAmong}
 use Rattle.calculation.specs.Summaries.{RoutesDifferAmong}
-use Rattle.state_trees.proofs.OtherRanges.{any_ranges}
-use Rattle.state_trees.proofs.Followed.{followed_long, followed_trees, followed_inputs, followed_work}
+use Rattle.route_layers.proofs.OtherRanges.{any_ranges}
+use Rattle.route_layers.proofs.Followed.{followed_long, followed_trees, followed_inputs, followed_work}
 use Rattle.calculation.proofs.calculation.Calculation.follow.Goals as goal
 
 pub follow_trees-requires-clause-before : goal.follow_trees-requires-clause-before

@@ -13,11 +13,11 @@ use Rattle.active_ranges.specs.Right.{AreConfigured}
 use Rattle.active_ranges.specs.declared.member.RangeMember.{RangeMember}
 use Rattle.event_state.specs.States.{inputs_of}
 use Rattle.calculation.specs.Calculations.{CalculationValue, AreItemsKept}
-use Rattle.state_trees.specs.Trees.{AreTreesOf, inputs_with}
+use Rattle.route_layers.specs.Trees.{AreTreesOf, inputs_with}
 use Rattle.calculation.specs.Summaries.{RoutesDifferAmong}
 use Rattle.calculation.specs.Followed.{AreLayersOutOfDateBy, routers_in}
 use Rattle.ospf_types.proofs.RangeChanges.{areas_kept}
-use Rattle.state_trees.proofs.OtherRanges.{apart_kept}
+use Rattle.route_layers.proofs.OtherRanges.{apart_kept}
 use Rattle.route_layers.proofs.Above.{configured}
 use Rattle.calculation.proofs.Following.{range_before, ranges_before, inter_before, external_before, items_kept, range_named, routes_kept}
 use Rattle.calculation.proofs.calculation.Calculation.follow_layers.Goals as goal

@@ -6,7 +6,7 @@ use Rattle.ospf_types.specs.Network.{network_cmp}
 use Rattle.route_table.specs.declared.table.Item.{Item}
 use Rattle.route_table.specs.Tables.{TableValue}
 use Rattle.calculation.specs.Calculations.{IsItemOf}
-use Rattle.state_trees.proofs.Filling.{AreFilled, none_filled, one_filled, one_empty, all_filled}
+use Rattle.route_layers.proofs.Filling.{AreFilled, none_filled, one_filled, one_empty, all_filled}
 use Rattle.calculation.proofs.calculation.Calculation.table.Goals.{in-Some+in_ok-set, in_default}
 use Rattle.calculation.proofs.calculation.Calculation.table.Goals as goal
 

@@ -1,6 +1,6 @@
 use Rattle.std.proofs.Common.{◌≡◌, take}
 use Rattle.calculation.specs.Calculations.{IsItemOf}
-use Rattle.state_trees.proofs.Filling.{AreFilled}
+use Rattle.route_layers.proofs.Filling.{AreFilled}
 use Rattle.calculation.proofs.calculation.Calculation.table.Given as goal
 
 abbrev pub invariant-loop-network : goal.invariant-loop-network

@@ -1,6 +1,6 @@
 use Rattle.std.proofs.Common.{inl, inr}
 use Rattle.std.proofs.lemmas.Result.{on_ok_weaker}
-use Rattle.capture_reader.specs.Positions.{shown_packet}
+use Rattle.captures.specs.Positions.{shown_packet}
 use Rattle.capture_recording.proofs.Taking.{takes_nothing, takes_fault, takes_whole}
 use Rattle.capture_recording.proofs.session.Session.take.Goals as goal
 

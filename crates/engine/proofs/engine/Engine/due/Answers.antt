@@ -2,7 +2,7 @@ use Rattle.std.proofs.Common.{◌≡◌, MatchResult, subst, ◌∙◌}
 use Rattle.std.specs.Prelude.{◌↔◌}
 use Rattle.event_state.specs.declared.refusal.Refusal.TheVariants.{NoArea}
 use Rattle.publication.specs.Names.{Name}
-use Rattle.engine_state.specs.Answers.{HasArea}
+use Rattle.engine.specs.Answers.{HasArea}
 use Rattle.engine.proofs.engine.Engine.due.Goals as goal
 
 pub returns-clause-area : goal.returns-clause-area

@@ -1,5 +1,5 @@
 use Rattle.std.proofs.Common.{◌≡◌, None, subst}
-use Rattle.config_faults.specs.Configs.{config_fault_of}
+use Rattle.ospf_types.specs.Configs.{config_fault_of}
 use Rattle.event_state.specs.contracts.state.State.{the_view}
 use Rattle.event_state.specs.Changes.{limits_in}
 use Rattle.event_state.specs.Rolls.{CanBeRolled}

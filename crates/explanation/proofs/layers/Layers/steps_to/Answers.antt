@@ -1,7 +1,7 @@
 use Rattle.std.proofs.Common.{List, Bor, sym, subst, inl}
 use Rattle.std.specs.Prelude.{Contains}
 use Rattle.vertex_graph.specs.Link.{Link}
-use Rattle.tree_paths.specs.LeastPaths.{IsPathOver, links_at}
+use Rattle.area_trees.specs.LeastPaths.{IsPathOver, links_at}
 use Rattle.intra.specs.Inputs.{AreaValue, HasTree}
 use Rattle.explanation.specs.Traces.{AreLinkSteps}
 use Rattle.explanation.proofs.PathLinks.{links_in}

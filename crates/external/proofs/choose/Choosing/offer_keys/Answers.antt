@@ -1,5 +1,5 @@
 use Rattle.std.specs.FinMap as map
-use Rattle.path_choice.proofs.Taking.{takes_at, takes_past}
+use Rattle.route_choice.proofs.Taking.{takes_at, takes_past}
 use Rattle.external.specs.Choosing.{KeyOffers}
 use Rattle.external.proofs.choose.Choosing.offer_keys.Goals as goal
 

@@ -2,8 +2,8 @@ use Rattle.std.proofs.Common.{drop, Option}
 use Rattle.std.specs.FinMap as map
 use Rattle.ospf_types.specs.declared.hop.Path.{Path}
 use Rattle.ospf_types.specs.External.{ExternalPreference}
-use Rattle.path_choice.specs.Choices.{Chosen}
-use Rattle.path_choice.specs.Takes.{OfferedBySome}
+use Rattle.route_choice.specs.Choices.{Chosen}
+use Rattle.route_choice.specs.Takes.{OfferedBySome}
 use Rattle.external.specs.Choosing.{TakesPaths, KeyOffers}
 use Rattle.external.proofs.choose.Choosing.offer_keys.Given as goal
 

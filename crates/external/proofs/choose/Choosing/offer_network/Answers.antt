@@ -6,8 +6,8 @@ use Rattle.std.proofs.lemmas.Result.{on_ok_weaker}
 use Rattle.ospf_types.proofs.Elements.{no_element}
 use Rattle.ospf_types.specs.declared.key.Dest.TheVariants.{Net}
 use Rattle.ospf_types.specs.declared.key.Key.{Key}
-use Rattle.offer_index.specs.Indexes.{IsInGroup}
-use Rattle.offer_index.specs.declared.index_key.IndexKey.TheVariants.{To}
+use Rattle.advertised_index.specs.Indexes.{IsInGroup}
+use Rattle.advertised_index.specs.declared.index_key.IndexKey.TheVariants.{To}
 use Rattle.external.proofs.ExternalOffers.{takes_keys}
 use Rattle.external.proofs.choose.Choosing.offer_network.Goals as goal
 

@@ -6,8 +6,8 @@ use Rattle.ospf_types.specs.declared.key.Key.{Key}
 use Rattle.ospf_types.specs.declared.key.Scope.{Scope}
 use Rattle.ospf_types.specs.declared.key.Scope.TheVariants.{As}
 use Rattle.lsdb.specs.Contents.{body_at}
-use Rattle.offer_index.specs.AdvertisedRoute.{advertised_at}
-use Rattle.offer_index.specs.Indexes.{OfferIndexValue, AreTouched, IsIndexOf}
+use Rattle.advertised_index.specs.AdvertisedRoute.{advertised_at}
+use Rattle.advertised_index.specs.Indexes.{OfferIndexValue, AreTouched, IsIndexOf}
 use Rattle.external.specs.Externals.{ExternalValue}
 use Rattle.external.specs.Inputs.{ExternalInputsValue}
 use Rattle.external.proofs.Frame.{stands_after}

@@ -1,7 +1,7 @@
 -- From nothing the index follows all LSAs of the AS.
 use Rattle.std.proofs.Common.{ap, subst, ◌∙◌}
 use Rattle.ospf_types.specs.declared.key.Scope.TheVariants.{As}
-use Rattle.offer_index.specs.Indexes.{AreTouched, IsIndexOf}
+use Rattle.advertised_index.specs.Indexes.{AreTouched, IsIndexOf}
 use Rattle.external.specs.Externals.{ExternalValue}
 use Rattle.external.specs.Inputs.{ExternalInputsValue}
 use Rattle.external.proofs.Frame.{stands_from_nothing}

@@ -8,9 +8,9 @@ use Rattle.ospf_types.specs.declared.key.Dest.{Dest}
 use Rattle.ospf_types.specs.declared.key.Dest.TheVariants.{Net, Router}
 use Rattle.ospf_types.specs.declared.prefix.Prefix.{Prefix}
 use Rattle.ospf_types.specs.Keys.{dest_cmp}
-use Rattle.offer_index.specs.Indexes.{ChangedOffersValue}
-use Rattle.result_map.specs.Lists.{HasMore, IsOfSome}
-use Rattle.result_map.proofs.Among.{dests_sorted, networks_among, routers_among}
+use Rattle.advertised_index.specs.Indexes.{ChangedOffersValue}
+use Rattle.route_choice.specs.Lists.{HasMore, IsOfSome}
+use Rattle.route_choice.proofs.Among.{dests_sorted, networks_among, routers_among}
 use Rattle.external.specs.Changes.{DiffersAt}
 use Rattle.external.specs.Externals.{ExternalValue}
 use Rattle.external.specs.Updating.{IsLedBy, IsLedByAddress, StandsBut}

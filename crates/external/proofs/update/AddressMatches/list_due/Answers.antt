@@ -1,6 +1,6 @@
 -- One destination more.
 use Rattle.std.proofs.Common.{true≢false, sym, ◌∙◌, inl, inr}
-use Rattle.result_map.proofs.Adding.{gains_first, gains_next, gains_all}
+use Rattle.route_choice.proofs.Adding.{gains_first, gains_next, gains_all}
 use Rattle.external.specs.Forwards.{forwards_in}
 use Rattle.ospf_types.specs.declared.key.Dest.TheVariants.{Net}
 use Rattle.external.specs.Updating.{IsDueInDest}

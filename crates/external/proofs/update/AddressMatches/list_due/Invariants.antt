@@ -1,6 +1,6 @@
 -- So far those are there that are due for the destinations up to here.
 use Rattle.std.proofs.Common.{take}
-use Rattle.result_map.specs.Lists.{GainsAll, IsOfSome}
+use Rattle.route_choice.specs.Lists.{GainsAll, IsOfSome}
 use Rattle.external.specs.Forwards.{forwards_in}
 use Rattle.external.specs.Updating.{IsDueInDest}
 use Rattle.external.proofs.update.AddressMatches.list_due.Given as goal

@@ -2,8 +2,8 @@
 use Rattle.std.proofs.Common.{sym, subst}
 use Rattle.std.proofs.lemmas.Result.{on_ok_weaker}
 use Rattle.ospf_types.specs.declared.key.Dest.{Dest}
-use Rattle.result_map.specs.Lists.{GainsAll}
-use Rattle.result_map.proofs.Adding.{gains_none}
+use Rattle.route_choice.specs.Lists.{GainsAll}
+use Rattle.route_choice.proofs.Adding.{gains_none}
 use Rattle.external.specs.Forwards.{forwards_in}
 use Rattle.external.specs.Updating.{IsDueInDest}
 use Rattle.external.proofs.update.AddressMatches.list_due_at.Goals as goal

@@ -2,7 +2,7 @@
 use Rattle.std.proofs.Common.{ℕ, List, get_or, refl, sym, subst, inl, inr}
 use Rattle.std.specs.Prelude.{Contains}
 use Rattle.std.proofs.lemmas.List.{get_or_default}
-use Rattle.result_map.proofs.Adding.{gains_first, gains_next, gains_all}
+use Rattle.route_choice.proofs.Adding.{gains_first, gains_next, gains_all}
 use Rattle.external.specs.Forwards.{forwards_in}
 use Rattle.external.specs.Updating.{IsDueAt}
 use Rattle.external.proofs.update.AddressMatches.list_due_in.Goals as goal

@@ -1,6 +1,6 @@
 -- So far those up to here are there whose match is no longer.
 use Rattle.std.proofs.Common.{take}
-use Rattle.result_map.specs.Lists.{GainsAll, IsOfSome}
+use Rattle.route_choice.specs.Lists.{GainsAll, IsOfSome}
 use Rattle.external.specs.Forwards.{forwards_in}
 use Rattle.external.specs.Updating.{IsDueAt}
 use Rattle.external.proofs.update.AddressMatches.list_due_in.Given as goal

@@ -1,7 +1,7 @@
 -- It is added, or its match is longer.
 use Rattle.std.proofs.Common.{ℕ, Option, true≢false, sym, subst, ◌∙◌}
 use Rattle.std.specs.FinMap.{get}
-use Rattle.result_map.proofs.Adding.{gains_none, gains_one}
+use Rattle.route_choice.proofs.Adding.{gains_none, gains_one}
 use Rattle.external.specs.Forwards.{ForwardValue, forwards_in}
 use Rattle.external.specs.Updating.{IsDueAt, IsNoShorter}
 use Rattle.external.proofs.update.AddressMatches.list_if_due.Goals as goal

@@ -1,4 +1,4 @@
-use Rattle.path_choice.proofs.Taking.{takes_at, takes_past}
+use Rattle.route_choice.proofs.Taking.{takes_at, takes_past}
 use Rattle.inter.specs.Choosing.{KeyOffers}
 use Rattle.inter.proofs.choose.AreaOffers.offer_keys.Goals as goal
 

@@ -1,7 +1,7 @@
 use Rattle.std.proofs.Common.{ℕ, drop, Option}
 use Rattle.ospf_types.specs.declared.hop.Path.{Path}
-use Rattle.path_choice.specs.Choices.{Chosen}
-use Rattle.path_choice.specs.Takes.{OfferedBySome}
+use Rattle.route_choice.specs.Choices.{Chosen}
+use Rattle.route_choice.specs.Takes.{OfferedBySome}
 use Rattle.inter.specs.Choosing.{TakesPaths, KeyOffers}
 use Rattle.inter.proofs.choose.AreaOffers.offer_keys.Given as goal
 

@@ -1,7 +1,7 @@
 -- What may get another entry is gathered.
 use Rattle.std.proofs.Common.{ℕ, List, Option, ap, subst}
 use Rattle.ospf_types.specs.declared.key.Dest.{Dest}
-use Rattle.offer_index.specs.Indexes.{ChangedOffersValue, OfferIndexValue}
+use Rattle.advertised_index.specs.Indexes.{ChangedOffersValue, OfferIndexValue}
 use Rattle.inter.specs.Following.{AreLed, ArePushed, area_of}
 use Rattle.inter.specs.Inters.{InterValue}
 use Rattle.inter.proofs.Following.{followed_from}

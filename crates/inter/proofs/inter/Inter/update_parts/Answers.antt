@@ -3,7 +3,7 @@ use Rattle.std.proofs.Common.{◌≢◌, ap, subst, sym, ◌∙◌}
 use Rattle.std.specs.Prelude.{◌↔◌, Contains}
 use Rattle.std.specs.FinMap.{get, from_entries}
 use Rattle.ospf_types.specs.Keys.{dest_cmp}
-use Rattle.offer_index.specs.Indexes.{OfferIndexValue}
+use Rattle.advertised_index.specs.Indexes.{OfferIndexValue}
 use Rattle.inter.specs.Choosing.{IsChosenFor}
 use Rattle.inter.specs.Following.{IsFollowed}
 use Rattle.inter.specs.Inters.{EntriesByDest, InterValue}

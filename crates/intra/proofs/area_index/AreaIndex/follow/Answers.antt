@@ -7,7 +7,7 @@ use Rattle.intra.specs.Indexes.{OfferedByVertex, OfferedValue, IsOfferedFor, off
 use Rattle.intra.specs.IndexSteps.{AreAlike}
 use Rattle.intra.specs.Inputs.{AreaValue}
 use Rattle.ospf_types.proofs.VertexOrder.{vertex_total, vertex_exact}
-use Rattle.result_map.proofs.KeyedMaps.{set_here, set_elsewhere, gone_here, gone_elsewhere}
+use Rattle.route_choice.proofs.KeyedMaps.{set_here, set_elsewhere, gone_here, gone_elsewhere}
 use Rattle.intra.proofs.IndexSteps.{touched_by, taken_from}
 use Rattle.intra.proofs.area_index.AreaIndex.follow.Goals as goal
 

@@ -2,7 +2,7 @@ use Rattle.std.proofs.Common.{ap, ◌∙◌}
 use Rattle.std.specs.FinMap.{get}
 use Rattle.intra.specs.Indexes.{IndexValue}
 use Rattle.ospf_types.proofs.VertexOrder.{vertex_total, vertex_exact, vertices_order}
-use Rattle.result_map.proofs.KeyedMaps.{looked_up}
+use Rattle.route_choice.proofs.KeyedMaps.{looked_up}
 use Rattle.intra.proofs.area_index.AreaIndex.offered.Goals as goal
 
 pub returns : goal.returns

@@ -8,7 +8,7 @@ use Rattle.ospf_types.specs.declared.entry.Vertex.{Vertex}
 use Rattle.intra.specs.Indexes.{IndexValue, IsSource, OfferedByVertex, offers_of}
 use Rattle.intra.specs.IndexSteps.{HaveCome, IsOfferOf}
 use Rattle.ospf_types.proofs.VertexOrder.{vertex_total, vertex_exact, vertices_order}
-use Rattle.result_map.proofs.KeyedMaps.{inserted}
+use Rattle.route_choice.proofs.KeyedMaps.{inserted}
 use Rattle.intra.proofs.SourceMaps.{sources_map}
 use Rattle.intra.proofs.IndexSteps.{put_there, come_kept}
 use Rattle.intra.proofs.area_index.AreaIndex.put_in.Goals as goal

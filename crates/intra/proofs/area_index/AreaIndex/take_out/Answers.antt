@@ -3,7 +3,7 @@ use Rattle.std.specs.FinMap.{get, remove, from_entries}
 use Rattle.ospf_types.specs.Vertices.{vertex_cmp}
 use Rattle.intra.specs.Indexes.{IndexValue, offers_of}
 use Rattle.ospf_types.proofs.VertexOrder.{vertex_total, vertex_exact, vertices_order}
-use Rattle.result_map.proofs.KeyedMaps.{looked_up, removed}
+use Rattle.route_choice.proofs.KeyedMaps.{looked_up, removed}
 use Rattle.intra.proofs.SourceMaps.{sources_map}
 use Rattle.intra.proofs.IndexSteps.{taken_out, gone_kept}
 use Rattle.intra.proofs.area_index.AreaIndex.take_out.Goals as goal

@@ -6,7 +6,7 @@ use Rattle.intra.specs.Intras.{IntraValue}
 use Rattle.ospf_types.proofs.Orders.{network_total, network_exact}
 use Rattle.intra.specs.Updating.{IsBroughtTo}
 use Rattle.ospf_types.proofs.KeyOrders.{numbers_order, prefixes_order}
-use Rattle.result_map.proofs.SortedOnce.{strictly, same_items}
+use Rattle.route_choice.proofs.SortedOnce.{strictly, same_items}
 use Rattle.intra.proofs.Placing.{first_at, first_weaker, brought_grown, items_of_slice, other_at}
 use Rattle.intra.proofs.intra.Intra.follow.Goals as goal
 

@@ -3,7 +3,7 @@ use Rattle.std.proofs.Common.{List, ap, subst}
 use Rattle.std.specs.FinMap.{get, from_entries}
 use Rattle.ospf_types.specs.declared.key.Dest.TheVariants.{Net}
 use Rattle.ospf_types.specs.Network.{network_cmp}
-use Rattle.result_map.specs.Chosen.{AreRechosen}
+use Rattle.route_choice.specs.Chosen.{AreRechosen}
 use Rattle.intra.specs.ChosenAnew.{IsEntryBy}
 use Rattle.intra.specs.Intras.{AreaIntraValue, EntriesByPrefix, IntraValue}
 use Rattle.intra.proofs.intra.Intra.update_entries.Goals as goal

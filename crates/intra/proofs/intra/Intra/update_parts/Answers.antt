@@ -9,7 +9,7 @@ use Rattle.intra.specs.Changes.{DiffersAt}
 use Rattle.ospf_types.specs.Keys.{dest_cmp}
 use Rattle.intra.specs.Intras.{AreAreaIntras, IntraValue, IsIntraOf}
 use Rattle.intra.proofs.Updating.{updated, exactly, are_before, anew_from}
-use Rattle.result_map.proofs.Among.{dests_sorted}
+use Rattle.route_choice.proofs.Among.{dests_sorted}
 use Rattle.intra.proofs.intra.Intra.update_parts.Goals as goal
 
 pub follow-requires-clause-before : goal.follow-requires-clause-before

@@ -1,6 +1,6 @@
 use Rattle.std.proofs.Common.{sym, subst, ◌∙◌}
 use Rattle.std.specs.FinMap.{FinMap}
-use Rattle.network_map.proofs.Standing.{none_removed}
+use Rattle.prefix_index.proofs.Standing.{none_removed}
 use Rattle.ospf_types.specs.Network.{network_cmp}
 use Rattle.prefix_index.specs.Kept.{AreNoted, AreOrdered, IsWhole}
 use Rattle.prefix_index.specs.Noted.{IsNoted}

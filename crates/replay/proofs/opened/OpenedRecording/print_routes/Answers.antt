@@ -3,7 +3,7 @@ use Rattle.std.specs.List.{flat_map}
 use Rattle.std.specs.FinMap.{entries}
 use Rattle.route_table.specs.Tables.{TableValue}
 use Rattle.replay.specs.Lines.{serial_line, item_line}
-use Rattle.output_format.specs.declared.Show.TheVariants as show
+use Rattle.output_lines.specs.declared.format.Show.TheVariants as show
 use Rattle.replay.specs.declared.buffer.PrintError.TheVariants as stop
 use Rattle.replay.specs.Stops.{stop_of}
 use Rattle.replay.proofs.Written.{err_as}

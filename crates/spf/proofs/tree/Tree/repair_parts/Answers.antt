@@ -1,7 +1,7 @@
 use Rattle.std.proofs.Common.{List, ◌∷◌, map, refl, sym, ap, subst, ◌∙◌}
 use Rattle.ospf_types.specs.declared.entry.Vertex.{Vertex}
 use Rattle.vertex_graph.specs.Link.{Link}
-use Rattle.tree_parts.specs.Maps.{AreHopsInOrder}
+use Rattle.vertex_queue.specs.Maps.{AreHopsInOrder}
 use Rattle.spf.specs.contracts.tree.Tree.{the_view}
 use Rattle.spf.specs.TreeValues.{TreeValue, IsTreeBefore, IsBegun}
 use Rattle.spf.proofs.Finished.{begun, bare_begun, carried_out_at, listed_tree, listed_work, changed_list, with_distance}

@@ -3,7 +3,7 @@ use Rattle.std.specs.Prelude.{is_some, Contains}
 use Rattle.std.specs.FinMap.{get}
 use Rattle.ospf_types.specs.declared.entry.Vertex.{Vertex}
 use Rattle.spf.specs.declared.update_next_hops.HopWriter.{HopWriter}
-use Rattle.tree_parts.specs.Maps.{HopMap, with_hops}
+use Rattle.vertex_queue.specs.Maps.{HopMap, with_hops}
 use Rattle.spf.specs.HandedOn.{AreBlanked}
 use Rattle.spf.proofs.Blanks.{not_written, blanked_start, blanked_skip, blanked_more, blanked_end}
 use Rattle.spf.proofs.update_next_hops.HopWriter.blank.Goals as goal

@@ -1,7 +1,7 @@
 use Rattle.std.proofs.Common.{◌≡◌, ◌∙◌, ◌-◌, ℕ, List, sym, ap, subst, arith}
 use Rattle.std.specs.FinMap.{get}
 use Rattle.ospf_types.specs.declared.entry.Vertex.{Vertex}
-use Rattle.tree_parts.specs.declared.touched.Touched.{Touched}
+use Rattle.vertex_queue.specs.declared.touched.Touched.{Touched}
 use Rattle.spf.specs.HandedOn.{AreBlanked}
 use Rattle.spf.specs.Parts.{AreSettled, hops_of}
 use Rattle.spf.proofs.OptionCases.{of_absent}

@@ -1,5 +1,5 @@
 use Rattle.std.proofs.Common.{sym, ◌∙◌}
-use Rattle.vertex_queue.proofs.Distances.{none_in, as_many_as_none}
+use Rattle.vertex_queue.proofs.QueueDistances.{none_in, as_many_as_none}
 use Rattle.vertex_queue.proofs.queue.Queue.is_empty.Goals as goal
 
 pub returns : goal.returns

@@ -1,4 +1,0 @@
-mod Digits
-mod Counted
-pub mod Gained
-mod LsTypes

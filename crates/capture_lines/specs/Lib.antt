@@ -1,4 +1,0 @@
-pub mod Seconds
-pub mod Notes
-pub mod Counts
-pub mod Events

@@ -1,6 +1,0 @@
-pub mod Windows
-pub mod Fronts
-pub mod Going
-pub mod Parts
-pub mod Stepping
-pub mod Walking

@@ -1,5 +1,0 @@
-use Rattle.capture_reader.proofs.Walking.{IsUnderWay}
-use Rattle.capture_reader.proofs.reader.PacketReader.next.Given as goal
-
-abbrev pub invariant-loop : goal.invariant-loop
-invariant-loop g l = IsUnderWay l.counter l.fn.self (g.R.Read.remaining l.fn.input) l.self (g.R.Read.remaining l.input)

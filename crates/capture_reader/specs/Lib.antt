@@ -1,4 +1,0 @@
-pub mod Faults
-pub mod Window
-pub mod Positions
-pub mod Steps

@@ -1,0 +1,90 @@
+-- How far a capture is read, and what is read of it from there on.
+use Rattle.std.specs.Prelude.{ℕ, ◌≡◌, ◌⊎◌, ◌+◌, ◌-◌, ◌^◌, ◌<◌, min, nat_lt, if◌then◌else◌, List, [], ◌∷◌, ◌++◌, length, drop, Option, Result, MatchResult, MatchOption}
+use Rattle.std.specs.Io.KnownBytes.{Consumes, IsAtEnd}
+use Rattle.captures.specs.declared.capture.Packet.{Packet}
+use Rattle.captures.specs.declared.fault.FaultKind.{FaultKind}
+use Rattle.captures.specs.Reading.{State, unread}
+use Rattle.captures.specs.declared.reader.PacketHead.{PacketHead}
+use Rattle.captures.specs.Runs.{Shown, Whole, CutOff, Faulty, Run, ends_by, with_front, run}
+use Rattle.captures.specs.declared.capture_error.CaptureError.{CaptureError}
+use Rattle.captures.specs.declared.capture_error.CaptureError.TheVariants.{Fault, Read, Memory}
+
+-- what is known of the capture, how many bytes are to be read past before the next part, the bytes that were read of the
+-- input and are not read past, and the place of the first of them in the capture
+pub record Position : Type 0 where
+  pub state : State
+  pub ahead : ℕ
+  pub pending : List ℕ
+  pub place : ℕ
+
+-- nothing is read
+abbrev pub beginning : Position
+beginning = record { state = unread; ahead = 0; pending = []; place = 0 }
+
+-- a place that is so much further; it stops at the last that 64 bits can count
+abbrev pub further : ℕ → ℕ → ℕ
+further place count = min (place + count) (2 ^ 64 - 1)
+
+-- what is read of all bytes of an input, by no more than so many parts, where so many bytes are to be read past before
+abbrev pub run_behind : (ahead limit : ℕ) → State → List ℕ → Run
+run_behind ahead limit s bytes = if nat_lt (length bytes) ahead then ends_by CutOff else run limit s (drop ahead bytes)
+
+-- this is read of the bytes from a position on; there are no more parts than bytes
+abbrev pub IsRun : Position → List ℕ → Run → Type 0
+IsRun p bytes r = (limit : ℕ) → length (drop p.ahead bytes) < limit → run_behind p.ahead limit p.state bytes ≡ r
+
+-- From a position, and what is left of the input, to others. Whatever comes behind, the packets are the first of it, and
+-- those of the new position come next.
+pub record GoesOn (old : Position) (before : Option (List ℕ)) (new : Position) (after : Option (List ℕ)) (packets : List Shown) : Type 0 where
+  -- the bytes that were read of the input
+  pub read : List ℕ
+  -- the bytes that were read past
+  pub past : List ℕ
+  pub taken : Consumes before after read
+  pub whole : past ++ new.pending ≡ old.pending ++ read
+  pub place : new.place ≡ further old.place (length past)
+  pub run : (more : List ℕ) (r : Run) → IsRun new (new.pending ++ more) r → IsRun old (past ++ (new.pending ++ more)) (with_front packets r)
+
+-- the capture has ended behind a part
+pub record IsWhole (p : Position) (left : Option (List ℕ)) : Type 0 where
+  pub run : IsRun p [] (ends_by Whole)
+  pub none : p.pending ≡ []
+  pub ended : IsAtEnd left
+
+-- the input has ended at this place, and with it the capture, within a part or before the first
+pub record IsCutOff (p : Position) (left : Option (List ℕ)) (kind : FaultKind) (at : ℕ) : Type 0 where
+  pub run : IsRun p p.pending (ends_by CutOff)
+  pub ended : IsAtEnd left
+  pub of_input : kind ≡ FaultKind.CutOff
+  pub place : at ≡ further p.place (length p.pending)
+
+-- the next part, which begins at this place, is at fault, whatever comes behind
+pub record IsFaulty (p : Position) (kind : FaultKind) (at : ℕ) : Type 0 where
+  pub run : (more : List ℕ) → IsRun p (p.pending ++ more) (ends_by (Faulty kind))
+  pub place : at ≡ p.place
+
+-- the bytes that were read have no whole part: with them alone the capture ends behind a part, or within one
+abbrev pub IsUnread : Position → Type 0
+IsUnread p = IsRun p p.pending (ends_by Whole) ⊎ IsRun p p.pending (ends_by CutOff)
+
+-- why there is no packet
+abbrev pub Stops : CaptureError → Position → Option (List ℕ) → Type 0
+Stops (Fault kind place) p left = IsFaulty p kind place ⊎ IsCutOff p left kind place
+Stops Read p left = IsUnread p
+Stops Memory p left = Unit {0}
+
+-- a packet that is handed out, and its bytes
+abbrev pub shown : PacketHead → List ℕ → Shown
+shown head bytes = record { time = head.time; link = head.link; wire_length = head.wire_length; bytes = bytes }
+
+abbrev pub shown_packet : Packet → Shown
+shown_packet packet = record { time = packet.time; link = packet.link; wire_length = packet.wire_length; bytes = packet.bytes.now }
+
+-- what `next` answers: the next packet, or that the capture has ended, or why there is none; no byte is lost
+abbrev pub ReadsNext : (old : Position) (before : Option (List ℕ)) (new : Position) (after : Option (List ℕ)) (bytes : List ℕ) → Result (Option PacketHead) CaptureError → Type 0
+ReadsNext old before new after bytes result =
+    MatchResult result
+    (λ found. MatchOption found
+    (GoesOn old before new after [] × IsWhole new after)
+    (λ head. GoesOn old before new after (shown head bytes ∷ [])))
+    (λ error. GoesOn old before new after [] × Stops error new after)

@@ -1,0 +1,11 @@
+-- What a clause reads of a window.
+use Rattle.std.specs.Prelude.{ℕ, ◌-◌, List, slice_range, vec_len}
+use Rattle.captures.specs.declared.window.Window.{Window}
+
+-- the bytes that were read and not read past
+abbrev pub pending : Window → List ℕ
+pending w = slice_range w.bytes.items w.start w.end
+
+-- how many bytes can be read behind them
+abbrev pub room : Window → ℕ
+room w = vec_len w.bytes - w.end

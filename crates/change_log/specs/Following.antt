@@ -1,0 +1,119 @@
+-- Lines that are taken as they come: from one state of a run to the next.
+use Rattle.std.specs.Prelude.{ℕ, ◌≡◌, ◌≢◌, ◌+◌, ◌⊎◌, ◌++◌, false, List, [], ◌∷◌, length, Option, Some, None, string_bytes}
+use Rattle.std.specs.Io.KnownBytes.{Consumes, IsAtEnd, prepend_known}
+use Rattle.event_core.specs.Cores.{IsCore, IsCurrent}
+use Rattle.input_reading.specs.Shortened.{shortened}
+use Rattle.input_reading.specs.Tails.{HasNoLineFeed}
+use Rattle.recording.specs.declared.fault.Fault.{Fault}
+use Rattle.recording.specs.declared.fault.Fault.TheVariants as fault
+use Rattle.replay.specs.declared.buffer.PrintError.{PrintError}
+use Rattle.change_log.specs.declared.following.End.{End}
+use Rattle.change_log.specs.declared.following.End.TheVariants as end
+use Rattle.change_log.specs.declared.following.Run.{Run}
+use Rattle.recording.specs.declared.version.Version.{Version}
+use Rattle.change_log.specs.Changes.{Give}
+use Rattle.change_log.specs.Openings.{IsWhole, Opens}
+use Rattle.change_log.specs.declared.opening.PreambleEnd.{PreambleEnd}
+use Rattle.input_reading.specs.Taking as input
+use Rattle.change_log.specs.Lines.{Change}
+use Rattle.change_log.specs.Runs.{Fails, Taken, Told, ToldPart, ToldTaken}
+use Rattle.change_log.specs.Streams.{AllSay, AreTaken, ComesFrom, IsReadAs}
+
+-- what stays of a run
+pub record IsSameRun (old new : Run) : Type 0 where
+  pub version : new.version ≡ old.version
+  pub skips_faults : new.skips_faults ≡ old.skips_faults
+  pub progress : new.progress ≡ old.progress
+  pub wanted : new.at.wanted ≡ old.at.wanted
+  pub answers : new.at.answers ≡ old.at.answers
+
+-- ---- one line
+
+-- the line that came was taken, and what is told of it stands behind the buffer
+pub record IsTaken (old new : Run) (from to : Option (List ℕ)) : Type 0 where
+  pub same : IsSameRun old new
+  pub taken : Taken
+  pub reads : IsReadAs old.version old.line.items taken
+  pub said : old.skips_faults ≡ false → AllSay (taken ∷ [])
+  pub told : ToldTaken old.at.wanted old.at.answers old.core old.at.number taken new.core from to (string_bytes old.buffer) (string_bytes new.buffer)
+  pub core : IsCore new.core
+  pub current : IsCurrent new.core
+
+-- the line that came is at fault, and nothing changed
+pub record IsLeft (f : Fault) (old new : Run) (from to : Option (List ℕ)) : Type 0 where
+  pub same : IsSameRun old new
+  pub counted : new.at.number ≡ old.at.number
+  pub reads : IsReadAs old.version old.line.items (Fails f)
+  pub core : new.core ≡ old.core
+  pub buffer : string_bytes new.buffer ≡ string_bytes old.buffer
+  pub out : to ≡ from
+
+abbrev pub Tells : Option Fault → (old new : Run) → (from to : Option (List ℕ)) → Type 0
+Tells None old new from to = IsTaken old new from to × (new.at.number ≡ old.at.number)
+Tells (Some f) old new from to = IsLeft f old new from to
+
+abbrev pub Takes : Option Fault → (old new : Run) → (from to : Option (List ℕ)) → Type 0
+Takes None old new from to = IsTaken old new from to × (new.at.number ≡ old.at.number + 1)
+Takes (Some f) old new from to = IsLeft f old new from to
+
+-- this is what the line that came was taken for, or it was not taken
+abbrev pub IsFirst : Version → List ℕ → List Taken → Type 0
+IsFirst v line [] = Unit {0}
+IsFirst v line (t ∷ taken) = IsReadAs v line t × (taken ≡ [])
+
+-- The line that came was taken, and a beginning of what is told of it was written; or it was not.
+pub record StopsTaking (why : PrintError) (old : Run) (from to : Option (List ℕ)) : Type 0 where
+  pub taken : List Taken
+  pub reads : IsFirst old.version old.line.items taken
+  pub said : old.skips_faults ≡ false → AllSay taken
+  pub part : (before : List Change) → Give before old.core → ToldPart why old.at.wanted old.at.answers old.core old.at.number taken before from to (string_bytes old.buffer)
+
+-- ---- lines, one after the other
+
+-- these bytes were taken, and what is told of their lines stands behind the buffer
+pub record IsFollowed (before : List Change) (bytes : List ℕ) (old new : Run) (from to : Option (List ℕ)) : Type 0 where
+  pub same : IsSameRun old new
+  pub taken : List Taken
+  pub lines : AreTaken old.version bytes taken
+  pub said : old.skips_faults ≡ false → AllSay taken
+  pub counted : new.at.number ≡ old.at.number + length taken
+  pub told : Told old.at.wanted old.at.answers old.core old.at.number taken before new.core from to (string_bytes old.buffer) (string_bytes new.buffer)
+
+-- the next line is at fault, or there is no line feed behind the last
+pub record IsAtFault (f : Fault) (before : List Change) (old new : Run) (held : List ℕ) (known left : Option (List ℕ)) (from to : Option (List ℕ)) : Type 0 where
+  pub bytes : List ℕ
+  pub followed : IsFollowed before bytes old new from to
+  pub raw : List ℕ
+  pub line : HasNoLineFeed raw
+  pub comes : ComesFrom (prepend_known held known) left (bytes ++ raw)
+  pub is : IsReadAs old.version (shortened raw) (Fails f) ⊎ ((raw ≢ []) × (f ≡ fault.Truncated) × IsAtEnd left)
+
+-- how it ends: the input is over, it could not be read further, or a line is at fault
+abbrev pub Ends : End → (before : List Change) → (old new : Run) → (held : List ℕ) → (known left : Option (List ℕ)) → (from to : Option (List ℕ)) → Type 0
+Ends end.Over before old new held known left from to =
+    (bytes : List ℕ) × IsFollowed before bytes old new from to × Consumes (prepend_known held known) left bytes × IsAtEnd left
+Ends end.Unread before old new held known left from to = (bytes : List ℕ) × IsFollowed before bytes old new from to × ComesFrom (prepend_known held known) left bytes
+Ends (end.AtFault f) before old new held known left from to = IsAtFault f before old new held known left from to
+
+-- a beginning of what is told of these bytes was written
+pub record StopsIn (why : PrintError) (before : List Change) (old : Run) (held : List ℕ) (known left : Option (List ℕ)) (from to : Option (List ℕ)) : Type 0 where
+  pub bytes : List ℕ
+  pub comes : ComesFrom (prepend_known held known) left bytes
+  pub taken : List Taken
+  pub lines : AreTaken old.version bytes taken
+  pub said : old.skips_faults ≡ false → AllSay taken
+  pub part : ToldPart why old.at.wanted old.at.answers old.core old.at.number taken before from to (string_bytes old.buffer)
+
+-- ---- lines behind the front, of which one came with it
+
+-- How it ends behind a front, whichever that is.
+abbrev pub EndsBehind : PreambleEnd → End → (old new : Run) → (kept : List ℕ) → (left further : Option (List ℕ)) → (from to : Option (List ℕ)) → Type 0
+EndsBehind front e old new kept left further from to =
+    (text held : List ℕ) → (known : Option (List ℕ)) → IsWhole front → Opens front text old.line.items held known kept left → (before : List Change) → Give before old.core
+    → (mid : List ℕ) × (rest : Option (List ℕ)) × input.Takes held known mid rest text × Ends e before old new mid rest further from to
+
+-- it stops behind a front
+abbrev pub StopsBehind : PreambleEnd → PrintError → (old : Run) → (kept : List ℕ) → (left further : Option (List ℕ)) → (from to : Option (List ℕ)) → Type 0
+StopsBehind front why old kept left further from to =
+    (text held : List ℕ) → (known : Option (List ℕ)) → IsWhole front → Opens front text old.line.items held known kept left → (before : List Change) → Give before old.core
+    → (mid : List ℕ) × (rest : Option (List ℕ)) × input.Takes held known mid rest text × StopsIn why before old mid rest further from to

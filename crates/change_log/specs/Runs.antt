@@ -1,0 +1,130 @@
+-- A run of a recording's lines, and what is told of it.
+use Rattle.std.specs.Prelude.{ℕ, ◌≡◌, ◌≢◌, ◌≤◌, ◌<◌, ◌+◌, ◌⊎◌, ◌++◌, Bool, true, false, List, [], ◌∷◌, length, Option, Result, Ok, Err}
+use Rattle.change_log.specs.declared.printing.ChangeFilter.{ChangeFilter}
+use Rattle.event_state.specs.declared.refusal.Refusal.{Refusal}
+use Rattle.event_state.specs.declared.refusal.Refusal.TheVariants as refusal
+use Rattle.event_state.specs.Steps.{standard_limits}
+use Rattle.event_core.specs.declared.reply.Reply.{Reply}
+use Rattle.event_core.specs.Cores.{CoreValue, Applies, IsCore, IsCurrent}
+use Rattle.recording.specs.declared.fault.Fault.{Fault}
+use Rattle.recording.specs.declared.line.Line.{Line}
+use Rattle.recording.specs.declared.line.Line.TheVariants as line
+use Rattle.route_table.specs.declared.table.Match.{Match}
+use Rattle.route_table.specs.Tables.{IsMatch}
+use Rattle.replay.specs.Pages.{Adds, AddsPart, TakesRoll}
+use Rattle.replay.specs.Runs.{RollsBy}
+use Rattle.replay.specs.declared.buffer.PrintError.{PrintError}
+use Rattle.replay.specs.declared.buffer.PrintError.TheVariants as stop
+use Rattle.change_log.specs.Lines.{AtFault, Change, Found, Refused, lines_of}
+use Rattle.change_log.specs.Changes.{AreDifferences, Give}
+
+-- ---- what is told of one line; what changed nothing is told where answers are asked for
+
+abbrev pub answered : Bool → Change → List Change
+answered true change = change ∷ []
+answered false change = []
+
+-- a refused event may be passed over: it is told that it was refused, or memory did not run out
+abbrev pub MayPass : Bool → Refusal → Type 0
+MayPass true why = Unit {0}
+MayPass false why = why ≢ refusal.Memory
+
+-- Of an event that was taken, what it changed is told, and table and due summaries follow it. Of a refused one, that it was.
+abbrev pub IsToldOf : Bool → CoreValue → Result Reply Refusal → CoreValue → List Change → Type 0
+IsToldOf answers old (Ok reply) new told = IsCurrent new × AreDifferences old new told
+IsToldOf answers old (Err why) new told = MayPass answers why × (told ≡ answered answers (Refused why))
+
+-- what the table has for the address
+abbrev pub IsFoundIn : Bool → CoreValue → ℕ → List Change → Type 0
+IsFoundIn true c address told = (found : Match) × IsMatch c.table.items address found × (told ≡ Found address c.table.serial found ∷ [])
+IsFoundIn false c address told = told ≡ []
+
+-- a roll that was refused
+abbrev pub told_of_roll : Bool → Result ℕ Refusal → List Change
+told_of_roll answers (Ok serial) = []
+told_of_roll answers (Err refusal) = answered answers (Refused refusal)
+
+-- The line leads from one core to the other, and this is told of it. A look-up and a roll change nothing of what is told.
+abbrev pub TellsLine : Bool → CoreValue → Line → CoreValue → List Change → Type 0
+TellsLine answers old (line.Event e) new told = (answer : Result Reply Refusal) × Applies old e answer new × IsToldOf answers old answer new told
+TellsLine answers old (line.Lookup address) new told = IsFoundIn answers old address told × (new ≡ old)
+TellsLine answers old line.Roll new told = (answer : Result ℕ Refusal) × RollsBy old answer new × (told ≡ told_of_roll answers answer)
+
+-- ---- lines, one after the other
+
+-- a line as it was taken: what a line of a recording says, or one that comes behind it, or why the latter is at fault
+pub data Taken : Type 0 where
+  Says : (line : Line) → Taken
+  Comes : (line : Line) → Taken
+  Fails : (fault : Fault) → Taken
+
+-- so many events are a long journal
+abbrev pub long_journal : ℕ
+long_journal = 65536
+
+-- Before a line that comes, a long journal is rolled, and no other. Where memory runs out for the roll, a journal that is long stays so, but a full one does
+-- not: there is room for an event. Nothing that is told changes.
+abbrev pub KeepsShort : CoreValue → CoreValue → Type 0
+KeepsShort old new =
+    ((length old.journal < long_journal) × (new ≡ old))
+    ⊎ (((long_journal ≤ length old.journal) × TakesRoll old new)
+    ⊎ ((long_journal ≤ length old.journal) × (length old.journal < standard_limits.events) × (new ≡ old)))
+
+-- A line of a recording is run by the core as it is. A line at fault is told of, and changes nothing.
+abbrev pub TellsTaken : Bool → CoreValue → Taken → CoreValue → List Change → Type 0
+TellsTaken answers old (Says l) new told = IsCore old × TellsLine answers old l new told
+TellsTaken answers old (Comes l) new told = (ready : CoreValue) × IsCore ready × KeepsShort old ready × TellsLine answers ready l new told
+TellsTaken answers old (Fails f) new told = (told ≡ AtFault f ∷ []) × (new ≡ old)
+
+-- From one core to the other, over lines that are numbered from here on: what came of each of them is printed. Behind each, all the changes that were told
+-- give table and due summaries; those of before, and those that were told then.
+abbrev pub TellsLines : ChangeFilter → Bool → CoreValue → ℕ → List Taken → (before : List Change) → (text : List ℕ) → (after : List Change) → CoreValue → Type 0
+TellsLines wanted answers old number [] before text after new = (text ≡ []) × (after ≡ before) × (new ≡ old)
+TellsLines wanted answers old number (t ∷ taken) before text after new =
+    (mid : CoreValue) × (told : List Change) × (rest : List ℕ) × TellsTaken answers old t mid told × Give (before ++ told) mid × (text ≡ lines_of number wanted told ++ rest)
+    × TellsLines wanted answers mid (number + 1) taken (before ++ told) rest after new
+
+-- ---- one line, printed
+
+-- the line led from one core to the other, and what is told of it stands behind the buffer
+pub record ToldLine (wanted : ChangeFilter) (answers : Bool) (old : CoreValue) (number : ℕ) (l : Line) (new : CoreValue) (from to : Option (List ℕ)) (buffer put : List ℕ) : Type 0 where
+  pub told : List Change
+  pub tells : TellsLine answers old l new told
+  pub printed : Adds from to buffer put (lines_of number wanted told)
+
+-- the line was taken, likewise
+pub record ToldTaken (wanted : ChangeFilter) (answers : Bool) (old : CoreValue) (number : ℕ) (t : Taken) (new : CoreValue) (from to : Option (List ℕ)) (buffer put : List ℕ) : Type 0 where
+  pub told : List Change
+  pub tells : TellsTaken answers old t new told
+  pub printed : Adds from to buffer put (lines_of number wanted told)
+
+-- memory ran out, and nothing was written
+abbrev pub StopsBefore : PrintError → (from to : Option (List ℕ)) → Type 0
+StopsBefore why from to = (why ≡ stop.Memory) × (to ≡ from)
+
+-- the line was run, and a beginning of what is told of it was written; or memory ran out over what follows from its event
+abbrev pub StopsAtLine : PrintError → ChangeFilter → Bool → CoreValue → ℕ → Line → CoreValue → (from to : Option (List ℕ)) → (buffer : List ℕ) → Type 0
+StopsAtLine why wanted answers old number l new from to buffer =
+    ((told : List Change) × TellsLine answers old l new told × AddsPart why from to (buffer ++ lines_of number wanted told)) ⊎ StopsBefore why from to
+
+-- the line was taken, likewise
+abbrev pub StopsAtTaken : PrintError → ChangeFilter → Bool → CoreValue → ℕ → Taken → CoreValue → (from to : Option (List ℕ)) → (buffer : List ℕ) → Type 0
+StopsAtTaken why wanted answers old number t new from to buffer =
+    ((told : List Change) × TellsTaken answers old t new told × AddsPart why from to (buffer ++ lines_of number wanted told)) ⊎ StopsBefore why from to
+
+-- ---- all of them, printed
+
+-- a beginning of what is told of the lines was written
+pub record ToldPart (why : PrintError) (wanted : ChangeFilter) (answers : Bool) (old : CoreValue) (number : ℕ) (taken : List Taken) (before : List Change) (from to : Option (List ℕ)) (buffer : List ℕ) : Type 0 where
+  pub text : List ℕ
+  pub after : List Change
+  pub now : CoreValue
+  pub run : TellsLines wanted answers old number taken before text after now
+  pub part : AddsPart why from to (buffer ++ text)
+
+-- the lines were taken, and what is told of them stands behind the buffer
+pub record Told (wanted : ChangeFilter) (answers : Bool) (old : CoreValue) (number : ℕ) (taken : List Taken) (before : List Change) (new : CoreValue) (from to : Option (List ℕ)) (buffer put : List ℕ) : Type 0 where
+  pub text : List ℕ
+  pub after : List Change
+  pub run : TellsLines wanted answers old number taken before text after new
+  pub printed : Adds from to buffer put text

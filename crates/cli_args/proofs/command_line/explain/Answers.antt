@@ -1,0 +1,26 @@
+use Rattle.std.proofs.Common.{◌≡◌, ◌∙◌, ap, codes, false}
+use Rattle.std.proofs.lemmas.Result.{IfOk-weaker}
+use Rattle.clap.specs.Words.{app_of, new_app}
+use Rattle.clap.specs.Simple.{app_of_fields}
+use Rattle.clap.specs.declared.builder.command.Command.TheViews.{out-Command}
+use Rattle.cli_args.proofs.Building.{added_app, added_local}
+use Rattle.cli_args.proofs.command_line.explain.Goals as goal
+
+pub returns-clause-app : goal.returns-clause-app
+returns-clause-app c =
+    let start : app_of c.after_help.result ≡ new_app (codes "explain") = ap app_of_fields c.after_help.ensures ∙ ap app_of_fields c.about.ensures ∙ c.new.ensures.app in
+    let file = added_app _ _ _ _ _ c.in_ok-arg.ensures c.word.ensures.local start c.word.ensures.rule in
+    let address = added_app _ _ _ _ _ c.in_ok-arg-2.ensures c.word-2.ensures.local file c.word-2.ensures.rule in
+    let due = added_app _ _ _ _ _ c.in_ok-arg-3.ensures c.due_option.ensures.local address c.due_option.ensures.rule in
+    let formats = c.format_option.ensures.rule in
+    let format = added_app _ _ _ _ _ c.in_ok-arg-4.ensures c.format_option.ensures.local due formats.2 in
+    IfOk-weaker c.arg-5.result _ _ (λ r h. (formats.0, formats.1, added_app _ _ _ _ _ h c.progress_flag.ensures.local format c.progress_flag.ensures.rule)) c.arg-5.ensures
+
+pub returns-clause-local : goal.returns-clause-local
+returns-clause-local c =
+    let start : (out-Command c.after_help.result).has_globals ≡ false = ap (λ f. f.has_globals) c.after_help.ensures ∙ ap (λ f. f.has_globals) c.about.ensures ∙ c.new.ensures.local in
+    let file = added_local _ _ _ c.in_ok-arg.ensures c.word.ensures.local start in
+    let address = added_local _ _ _ c.in_ok-arg-2.ensures c.word-2.ensures.local file in
+    let due = added_local _ _ _ c.in_ok-arg-3.ensures c.due_option.ensures.local address in
+    let format = added_local _ _ _ c.in_ok-arg-4.ensures c.format_option.ensures.local due in
+    IfOk-weaker c.arg-5.result _ _ (λ r h. added_local _ _ _ h c.progress_flag.ensures.local format) c.arg-5.ensures

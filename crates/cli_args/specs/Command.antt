@@ -1,0 +1,766 @@
+-- The command line: `abr one ROUTER AREA ADDRESS HEX LOOKUP`, `abr decode HEX [--long]`, `abr replay FILE [--workers N] [--show NAME] [--format NAME] [--progress]`, `abr changes FILE [--only PREFIX] [--format NAME] [--progress]`, `abr follow [--only PREFIX] [--strict] [--format NAME]`, `abr explain FILE ADDRESS [--due AREA] [--format NAME] [--progress]`, `abr page FILE [-o OUT] [--progress]`, `abr capture FILE [--router ADDRESS] [--begin HEAD] [--all] [--no-seconds]` and `abr fault NUMBER`.
+use Rattle.std.specs.Prelude.{ℕ, ◌≡◌, ◌⊎◌, ◌≤◌, Bool, true, false, List, [], ◌∷◌, ◌++◌, Option, Some, None, Result, MatchResult, codes, map, option_map}
+use Rattle.std.specs.Borrow.{Bor}
+use Rattle.std.specs.Str.{bytes_eq}
+use Rattle.std.specs.Str.Parse.{IsNumeral, digits_value, without_leading_plus}
+use Rattle.clap.specs.Words.{App, Row, Rule, Text, IsAmong, fault_of, first_of, kind_of, new_app, new_rule, subcommand_of, with_rule, with_subcommand}
+use Rattle.clap.specs.Lexer.{strip_byte}
+use Rattle.clap.specs.declared.builder.action.ArgAction.TheVariants.{SetTrue}
+use Rattle.clap.specs.declared.builder.value_parser.ValueParser.TheVariants.{Names, Unsigned}
+use Rattle.clap.specs.declared.error.kind.ErrorKind.TheVariants.{MissingRequiredArgument}
+use Rattle.output_lines.specs.declared.format.Format.{Format}
+use Rattle.output_lines.specs.declared.format.Format.TheVariants as form
+use Rattle.output_lines.specs.declared.format.Show.{Show}
+use Rattle.output_lines.specs.declared.format.Show.TheVariants.{Routes, Due, Lsdb, Journal}
+use Rattle.cli_args.specs.declared.command.OneWords.{OneWords}
+use Rattle.cli_args.specs.declared.command.Job.{Job}
+use Rattle.cli_args.specs.declared.command.Job.TheVariants.{One, Decode, Replay, Changes, Follow, Explain, Page, Capture, Fault}
+use Rattle.cli_args.specs.declared.command.Usage.{Usage}
+use Rattle.cli_args.specs.declared.command.Usage.TheVariants.{Told, Memory}
+
+-- a word that has to be there
+abbrev pub required_word : Text → Rule
+required_word id = record (new_rule id) { required = true }
+
+abbrev pub one_command : App
+one_command =
+    with_rule (with_rule (with_rule (with_rule (with_rule (new_app (codes "one")) (required_word (codes "ROUTER"))) (required_word (codes "AREA"))) (required_word (codes "ADDRESS"))) (required_word (codes "HEX"))) (required_word (codes "LOOKUP"))
+
+-- the flag `--long`
+abbrev pub long_flag : Rule
+long_flag = record (new_rule (codes "long")) { long = Some (codes "long"); action = Some SetTrue }
+
+abbrev pub decode_command : App
+decode_command = with_rule (with_rule (new_app (codes "decode")) (required_word (codes "HEX"))) long_flag
+
+-- `--only PREFIX`
+abbrev pub only_option : Rule
+only_option = record (new_rule (codes "only")) { long = Some (codes "only"); value_names = 1 }
+
+-- `--due AREA`
+abbrev pub due_option : Rule
+due_option = record (new_rule (codes "due")) { long = Some (codes "due"); value_names = 1 }
+
+-- `-o OUT` or `--output OUT`
+abbrev pub output_option : Rule
+output_option = record (new_rule (codes "output")) { short = Some 111; long = Some (codes "output"); value_names = 1 }
+
+-- `--router ADDRESS`
+abbrev pub router_option : Rule
+router_option = record (new_rule (codes "router")) { long = Some (codes "router"); value_names = 1 }
+
+-- `--begin HEAD`
+abbrev pub begin_option : Rule
+begin_option = record (new_rule (codes "begin")) { long = Some (codes "begin"); value_names = 1 }
+
+-- the flag `--all`
+abbrev pub all_flag : Rule
+all_flag = record (new_rule (codes "all")) { long = Some (codes "all"); action = Some SetTrue }
+
+-- the flag `--no-seconds`
+abbrev pub no_seconds_flag : Rule
+no_seconds_flag = record (new_rule (codes "no-seconds")) { long = Some (codes "no-seconds"); action = Some SetTrue }
+
+-- the flag `--progress`
+abbrev pub progress_flag : Rule
+progress_flag = record (new_rule (codes "progress")) { long = Some (codes "progress"); action = Some SetTrue }
+
+-- the flag `--strict`
+abbrev pub strict_flag : Rule
+strict_flag = record (new_rule (codes "strict")) { long = Some (codes "strict"); action = Some SetTrue }
+
+abbrev pub fault_command : App
+fault_command = with_rule (new_app (codes "fault")) (required_word (codes "NUMBER"))
+
+-- the name of what is shown
+abbrev pub show_name : Show → Text
+show_name Routes = codes "routes"
+show_name Due = codes "due"
+show_name Lsdb = codes "lsdb"
+show_name Journal = codes "journal"
+
+-- the names that `--show` takes
+abbrev pub show_names : List Text
+show_names = show_name Routes ∷ show_name Due ∷ show_name Lsdb ∷ show_name Journal ∷ []
+
+-- the name of the form
+abbrev pub format_name : Format → Text
+format_name form.Text = codes "text"
+format_name form.Json = codes "json"
+
+-- the names that `--format` takes
+abbrev pub format_names : List Text
+format_names = format_name form.Text ∷ format_name form.Json ∷ []
+
+-- a reference to references to names
+abbrev pub References : Type 0
+References = Bor (List (Bor Text))
+
+-- they point to the names that `--show` takes
+abbrev pub AreShowNames : References → Type 0
+AreShowNames names = map (λ s. s.now) names.now ≡ show_names
+
+-- they point to the names that `--format` takes
+abbrev pub AreFormatNames : References → Type 0
+AreFormatNames names = map (λ s. s.now) names.now ≡ format_names
+
+-- `--show NAME`, by default `routes`
+abbrev pub show_option : References → Rule
+show_option names = record (new_rule (codes "show")) {
+  long = Some (codes "show");
+  value_names = 1;
+  parser = Some (Names names);
+  defaults = show_name Routes ∷ [];
+}
+
+-- `--format NAME`, by default `text`
+abbrev pub format_option : References → Rule
+format_option names = record (new_rule (codes "format")) {
+  long = Some (codes "format");
+  value_names = 1;
+  parser = Some (Names names);
+  defaults = format_name form.Text ∷ [];
+}
+
+-- `--workers N`, by default 1
+abbrev pub workers_option : Rule
+workers_option = record (new_rule (codes "workers")) {
+  long = Some (codes "workers");
+  value_names = 1;
+  parser = Some (Unsigned 1 16);
+  defaults = codes "1" ∷ [];
+}
+
+-- a command that reads a file
+abbrev pub file_command : Text → App
+file_command name = with_rule (new_app name) (required_word (codes "FILE"))
+
+-- with the names that `--show` takes, and those that `--format` does
+abbrev pub replay_command : References → References → App
+replay_command shows formats =
+    with_rule (with_rule (with_rule (with_rule (file_command (codes "replay")) workers_option) (show_option shows)) (format_option formats)) progress_flag
+
+abbrev pub changes_command : References → App
+changes_command formats = with_rule (with_rule (with_rule (file_command (codes "changes")) only_option) (format_option formats)) progress_flag
+
+abbrev pub follow_command : References → App
+follow_command formats = with_rule (with_rule (with_rule (new_app (codes "follow")) only_option) strict_flag) (format_option formats)
+
+abbrev pub explain_command : References → App
+explain_command formats =
+    with_rule (with_rule (with_rule (with_rule (file_command (codes "explain")) (required_word (codes "ADDRESS"))) due_option) (format_option formats)) progress_flag
+
+abbrev pub page_command : App
+page_command = with_rule (with_rule (file_command (codes "page")) output_option) progress_flag
+
+abbrev pub capture_command : App
+capture_command =
+    with_rule (with_rule (with_rule (with_rule (file_command (codes "capture")) router_option) begin_option) all_flag) no_seconds_flag
+
+-- the command `abr replay`, wherever its references point
+abbrev pub IsReplayCommand : App → Type 0
+IsReplayCommand a = (shows formats : References) × AreShowNames shows × AreFormatNames formats × (a ≡ replay_command shows formats)
+
+-- the command `abr changes`, wherever its references point
+abbrev pub IsChangesCommand : App → Type 0
+IsChangesCommand a = (formats : References) × AreFormatNames formats × (a ≡ changes_command formats)
+
+-- the command `abr follow`, wherever its references point
+abbrev pub IsFollowCommand : App → Type 0
+IsFollowCommand a = (formats : References) × AreFormatNames formats × (a ≡ follow_command formats)
+
+-- the command `abr explain`, wherever its references point
+abbrev pub IsExplainCommand : App → Type 0
+IsExplainCommand a = (formats : References) × AreFormatNames formats × (a ≡ explain_command formats)
+
+-- the option `--show`, wherever its references point
+abbrev pub IsShowOption : Rule → Type 0
+IsShowOption rule = (names : References) × AreShowNames names × (rule ≡ show_option names)
+
+-- the option `--format`, wherever its references point
+abbrev pub IsFormatOption : Rule → Type 0
+IsFormatOption rule = (names : References) × AreFormatNames names × (rule ≡ format_option names)
+
+-- where the options of the program have their names: those of `--show`, and of `--format` in each command
+pub record Places : Type 0 where
+  pub shows : References
+  pub of_replay : References
+  pub of_changes : References
+  pub of_follow : References
+  pub of_explain : References
+
+-- the names stand there
+pub record HaveNames (p : Places) : Type 0 where
+  pub shows : AreShowNames p.shows
+  pub of_replay : AreFormatNames p.of_replay
+  pub of_changes : AreFormatNames p.of_changes
+  pub of_follow : AreFormatNames p.of_follow
+  pub of_explain : AreFormatNames p.of_explain
+
+-- what follows the program's name is one of its commands, or asks for its version
+abbrev pub program_with : Places → App
+program_with p =
+    let named = new_app (codes "abr") in
+    let top = record named { top = record named.top { has_version = true; subcommand_required = true; arg_required_else_help = true } } in
+    let first = with_subcommand (with_subcommand top one_command.top) decode_command.top in
+    let second = with_subcommand (with_subcommand first (replay_command p.shows p.of_replay).top) (changes_command p.of_changes).top in
+    let third = with_subcommand (with_subcommand second (follow_command p.of_follow).top) (explain_command p.of_explain).top in
+    let fourth = with_subcommand (with_subcommand third page_command.top) capture_command.top in
+    with_subcommand fourth fault_command.top
+
+-- the program, wherever its references point
+abbrev pub IsProgram : App → Type 0
+IsProgram a = (p : Places) × HaveNames p × (a ≡ program_with p)
+
+-- a reference to the value, at no place
+abbrev pub reference : {X : Type 0} → X → Bor X
+reference x = record { ref_ptr = (0, 0); now = x }
+
+-- references to the names, at no place
+abbrev pub references : List Text → References
+references names = reference (map reference names)
+
+-- The program. A parse gives the same for all its references, and here they point nowhere.
+abbrev pub program : App
+program = program_with (record {
+  shows = references show_names;
+  of_replay = references format_names;
+  of_changes = references format_names;
+  of_follow = references format_names;
+  of_explain = references format_names;
+})
+
+-- the texts of the words of `abr one`
+pub record OneTexts : Type 0 where
+  pub router : Text
+  pub area : Text
+  pub address : Text
+  pub lsa : Text
+  pub lookup : Text
+
+abbrev pub texts_of : OneWords → OneTexts
+texts_of w = record {
+  router = w.router.now;
+  area = w.area.now;
+  address = w.address.now;
+  lsa = w.lsa.now;
+  lookup = w.lookup.now;
+}
+
+-- each word was given
+abbrev pub HasWords : List Row → OneTexts → Type 0
+HasWords rows t = (first_of (codes "ROUTER") rows ≡ Some t.router)
+    × (first_of (codes "AREA") rows ≡ Some t.area)
+    × (first_of (codes "ADDRESS") rows ≡ Some t.address)
+    × (first_of (codes "HEX") rows ≡ Some t.lsa)
+    × (first_of (codes "LOOKUP") rows ≡ Some t.lookup)
+
+-- the flag has a value, and it is set where this is `true`
+abbrev pub HasFlag : List Row → Text → Bool → Type 0
+HasFlag rows id is_set = (value : Text) × (first_of id rows ≡ Some value) × (bytes_eq value (codes "true") ≡ is_set)
+
+-- this LSA was given, and `--long` or not; if not, the matches have `false`
+abbrev pub HasDecodeWords : List Row → Text → Bool → Type 0
+HasDecodeWords rows hex long = (first_of (codes "HEX") rows ≡ Some hex) × HasFlag rows (codes "long") long
+
+-- there may be so many workers
+abbrev pub AreWorkers : ℕ → Type 0
+AreWorkers n = (1 ≤ n) × (n ≤ 16)
+
+-- the word writes so many workers: decimal digits, and a plus sign may stand before them
+pub record WritesWorkers (word : Text) (n : ℕ) : Type 0 where
+  pub numeral : IsNumeral 10 (without_leading_plus word)
+  pub written : digits_value 10 (without_leading_plus word) ≡ n
+  pub within : AreWorkers n
+
+-- what the words of `abr replay` say
+pub record ReplayTexts : Type 0 where
+  pub file : Text
+  pub workers : ℕ
+  pub show : Show
+  pub format : Format
+  pub progress : Bool
+
+-- what the words of `abr changes` say
+pub record ChangesTexts : Type 0 where
+  pub file : Text
+  pub only : Option Text
+  pub format : Format
+  pub progress : Bool
+
+-- what the words of `abr follow` say
+pub record FollowTexts : Type 0 where
+  pub only : Option Text
+  pub strict : Bool
+  pub format : Format
+
+-- what the words of `abr explain` say
+pub record ExplainTexts : Type 0 where
+  pub file : Text
+  pub address : Text
+  pub due : Option Text
+  pub format : Format
+  pub progress : Bool
+
+-- what the words of `abr page` say
+pub record PageTexts : Type 0 where
+  pub file : Text
+  pub output : Option Text
+  pub progress : Bool
+
+-- what the words of `abr capture` say
+pub record CaptureTexts : Type 0 where
+  pub file : Text
+  pub router : Option Text
+  pub begin : Option Text
+  pub keeps_all : Bool
+  pub without_seconds : Bool
+
+-- the name of the form was given; if none was, the matches have `text`
+abbrev pub HasFormat : List Row → Format → Type 0
+HasFormat rows format = first_of (codes "format") rows ≡ Some (format_name format)
+
+-- this file, so many workers, the name of what is shown, its form, and `--progress` or not were given; if no number was given, the matches have 1, if no name was, `routes`, and if `--progress` was not, `false`
+abbrev pub HasReplayWords : List Row → ReplayTexts → Type 0
+HasReplayWords rows t = (first_of (codes "FILE") rows ≡ Some t.file)
+    × ((word : Text) × (first_of (codes "workers") rows ≡ Some word) × WritesWorkers word t.workers)
+    × (first_of (codes "show") rows ≡ Some (show_name t.show))
+    × HasFormat rows t.format
+    × HasFlag rows (codes "progress") t.progress
+
+-- this file was given, this network or none, the form, and `--progress` or not; if not, the matches have `false`
+abbrev pub HasChangesWords : List Row → ChangesTexts → Type 0
+HasChangesWords rows t = (first_of (codes "FILE") rows ≡ Some t.file)
+    × (first_of (codes "only") rows ≡ t.only)
+    × HasFormat rows t.format
+    × HasFlag rows (codes "progress") t.progress
+
+-- this network was given or none, `--strict` or not, and the form; if `--strict` was not given, the matches have `false`
+abbrev pub HasFollowWords : List Row → FollowTexts → Type 0
+HasFollowWords rows t = (first_of (codes "only") rows ≡ t.only) × HasFlag rows (codes "strict") t.strict × HasFormat rows t.format
+
+-- this file and this address were given, this area or none, the form, and `--progress` or not; if not, the matches have `false`
+abbrev pub HasExplainWords : List Row → ExplainTexts → Type 0
+HasExplainWords rows t = (first_of (codes "FILE") rows ≡ Some t.file)
+    × (first_of (codes "ADDRESS") rows ≡ Some t.address)
+    × (first_of (codes "due") rows ≡ t.due)
+    × HasFormat rows t.format
+    × HasFlag rows (codes "progress") t.progress
+
+-- this file was given, this file for the page or none, and `--progress` or not; if not, the matches have `false`
+abbrev pub HasPageWords : List Row → PageTexts → Type 0
+HasPageWords rows t = (first_of (codes "FILE") rows ≡ Some t.file) × (first_of (codes "output") rows ≡ t.output) × HasFlag rows (codes "progress") t.progress
+
+-- this file was given, this router or none, this file with a beginning or none, and `--all` and `--no-seconds` or not; where one is not, the matches have `false`
+abbrev pub HasCaptureWords : List Row → CaptureTexts → Type 0
+HasCaptureWords rows t = (first_of (codes "FILE") rows ≡ Some t.file)
+    × (first_of (codes "router") rows ≡ t.router)
+    × (first_of (codes "begin") rows ≡ t.begin)
+    × HasFlag rows (codes "all") t.keeps_all
+    × HasFlag rows (codes "no-seconds") t.without_seconds
+
+-- a job, with the texts of its words
+pub data JobTexts : Type 0 where
+  OfOne : (texts : OneTexts) → JobTexts
+  OfDecode : (hex : Text) (long : Bool) → JobTexts
+  OfReplay : (texts : ReplayTexts) → JobTexts
+  OfChanges : (texts : ChangesTexts) → JobTexts
+  OfFollow : (texts : FollowTexts) → JobTexts
+  OfExplain : (texts : ExplainTexts) → JobTexts
+  OfPage : (texts : PageTexts) → JobTexts
+  OfCapture : (texts : CaptureTexts) → JobTexts
+  OfFault : (number : Text) → JobTexts
+
+-- the text of the word, where there is one
+abbrev pub word_text : Option (Bor Text) → Option Text
+word_text given = option_map (λ word. word.now) given
+
+abbrev pub job_texts : Job → JobTexts
+job_texts (One w) = OfOne (texts_of w)
+job_texts (Decode word long) = OfDecode word.now long
+job_texts (Replay file workers show format progress) =
+    OfReplay (record { file = file.now; workers = workers; show = show; format = format; progress = progress })
+job_texts (Changes file only format progress) = OfChanges (record { file = file.now; only = word_text only; format = format; progress = progress })
+job_texts (Follow only strict format) = OfFollow (record { only = word_text only; strict = strict; format = format })
+job_texts (Explain file address due format progress) =
+    OfExplain (record { file = file.now; address = address.now; due = word_text due; format = format; progress = progress })
+job_texts (Page file output progress) = OfPage (record { file = file.now; output = word_text output; progress = progress })
+job_texts (Capture w) =
+    OfCapture (record { file = w.file.now; router = word_text w.router; begin = word_text w.begin; keeps_all = w.keeps_all; without_seconds = w.without_seconds })
+job_texts (Fault number) = OfFault number.now
+
+-- the name of its command
+abbrev pub command_name : JobTexts → Text
+command_name (OfOne t) = codes "one"
+command_name (OfDecode hex long) = codes "decode"
+command_name (OfReplay t) = codes "replay"
+command_name (OfChanges t) = codes "changes"
+command_name (OfFollow t) = codes "follow"
+command_name (OfExplain t) = codes "explain"
+command_name (OfPage t) = codes "page"
+command_name (OfCapture t) = codes "capture"
+command_name (OfFault number) = codes "fault"
+
+-- its words were given
+abbrev pub HasJobWords : List Row → JobTexts → Type 0
+HasJobWords rows (OfOne t) = HasWords rows t
+HasJobWords rows (OfDecode hex long) = HasDecodeWords rows hex long
+HasJobWords rows (OfReplay t) = HasReplayWords rows t
+HasJobWords rows (OfChanges t) = HasChangesWords rows t
+HasJobWords rows (OfFollow t) = HasFollowWords rows t
+HasJobWords rows (OfExplain t) = HasExplainWords rows t
+HasJobWords rows (OfPage t) = HasPageWords rows t
+HasJobWords rows (OfCapture t) = HasCaptureWords rows t
+HasJobWords rows (OfFault number) = first_of (codes "NUMBER") rows ≡ Some number
+
+-- the job is one of the command with this name, and its words were given
+abbrev pub IsJobOf : Text → List Row → Job → Type 0
+IsJobOf name rows job = (command_name (job_texts job) ≡ name) × HasJobWords rows (job_texts job)
+
+-- its command was met, and its words were given for it
+abbrev pub HasTexts : Option (Text × List Row) → JobTexts → Type 0
+HasTexts met texts = (rows : List Row) × (met ≡ Some (command_name texts, rows)) × HasJobWords rows texts
+
+-- a command was met, and its words were given
+abbrev pub HasJob : Option (Text × List Row) → Type 0
+HasJob met = (texts : JobTexts) × HasTexts met texts
+
+-- the job is the command that was met, with the words that were given for it
+abbrev pub IsJob : Option (Text × List Row) → Job → Type 0
+IsJob met job = HasTexts met (job_texts job)
+
+-- the job can be done: if it is a replay, there may be so many workers
+abbrev pub IsFit : Job → Type 0
+IsFit (One w) = Unit {0}
+IsFit (Decode word long) = Unit {0}
+IsFit (Replay file workers show format progress) = AreWorkers workers
+IsFit (Changes file only format progress) = Unit {0}
+IsFit (Follow only strict format) = Unit {0}
+IsFit (Explain file address due format progress) = Unit {0}
+IsFit (Page file output progress) = Unit {0}
+IsFit (Capture words) = Unit {0}
+IsFit (Fault number) = Unit {0}
+
+-- A mistake is one that the command line has. If no mistake is found and there is no job, a word is missing.
+abbrev pub IsMistake : List Text → Usage → Type 0
+IsMistake words (Told e) = IsAmong (kind_of e) (fault_of program words)
+    ⊎ ((kind_of e ≡ MissingRequiredArgument) × (¬ HasJob (subcommand_of program words)))
+IsMistake words Memory = Unit {0}
+
+-- the command line `abr one` with these words, whatever the program is called
+abbrev pub one_line : Text → OneTexts → List Text
+one_line name t = name ∷ codes "one" ∷ t.router ∷ t.area ∷ t.address ∷ t.lsa ∷ t.lookup ∷ []
+
+-- the word does not begin with a hyphen
+abbrev pub IsPlainWord : Text → Type 0
+IsPlainWord word = strip_byte 45 word ≡ None
+
+pub record ArePlain (t : OneTexts) : Type 0 where
+  pub router : IsPlainWord t.router
+  pub area : IsPlainWord t.area
+  pub address : IsPlainWord t.address
+  pub lsa : IsPlainWord t.lsa
+  pub lookup : IsPlainWord t.lookup
+
+-- the command line `abr decode` with this word, whatever the program is called
+abbrev pub decode_line : Text → Text → List Text
+decode_line name hex = name ∷ codes "decode" ∷ hex ∷ []
+
+-- the command line `abr decode` with this word and `--long`
+abbrev pub long_line : Text → Text → List Text
+long_line name hex = name ∷ codes "decode" ∷ hex ∷ codes "--long" ∷ []
+
+-- the word does not begin with a hyphen, or is one
+abbrev pub IsFileWord : Text → Type 0
+IsFileWord word = IsPlainWord word ⊎ (word ≡ codes "-")
+
+-- the command line `abr replay` with this file, whatever the program is called
+abbrev pub replay_line : Text → Text → List Text
+replay_line name file = name ∷ codes "replay" ∷ file ∷ []
+
+-- the command line `abr replay` with this file, `--show` and a name
+abbrev pub show_line : Text → Text → Show → List Text
+show_line name file show = name ∷ codes "replay" ∷ file ∷ codes "--show" ∷ show_name show ∷ []
+
+-- the command line `abr replay` with this file, `--workers` and a number
+abbrev pub workers_line : Text → Text → Text → List Text
+workers_line name file number = name ∷ codes "replay" ∷ file ∷ codes "--workers" ∷ number ∷ []
+
+-- the command line `abr replay` with this file, `--format` and a name
+abbrev pub replay_format_line : Text → Text → Format → List Text
+replay_format_line name file format = name ∷ codes "replay" ∷ file ∷ codes "--format" ∷ format_name format ∷ []
+
+-- the command line `abr replay` with this file and `--progress`
+abbrev pub replay_progress_line : Text → Text → List Text
+replay_progress_line name file = name ∷ codes "replay" ∷ file ∷ codes "--progress" ∷ []
+
+-- the command line `abr changes` with this file, whatever the program is called
+abbrev pub changes_line : Text → Text → List Text
+changes_line name file = name ∷ codes "changes" ∷ file ∷ []
+
+-- the command line `abr changes` with this file, `--only` and a network
+abbrev pub only_line : Text → Text → Text → List Text
+only_line name file prefix = name ∷ codes "changes" ∷ file ∷ codes "--only" ∷ prefix ∷ []
+
+-- the command line `abr changes` with this file, `--format` and a name
+abbrev pub changes_format_line : Text → Text → Format → List Text
+changes_format_line name file format = name ∷ codes "changes" ∷ file ∷ codes "--format" ∷ format_name format ∷ []
+
+-- the command line `abr changes` with this file and `--progress`
+abbrev pub changes_progress_line : Text → Text → List Text
+changes_progress_line name file = name ∷ codes "changes" ∷ file ∷ codes "--progress" ∷ []
+
+-- the command line `abr follow`, whatever the program is called
+abbrev pub follow_line : Text → List Text
+follow_line name = name ∷ codes "follow" ∷ []
+
+-- the command line `abr follow` with `--strict`
+abbrev pub strict_line : Text → List Text
+strict_line name = name ∷ codes "follow" ∷ codes "--strict" ∷ []
+
+-- the command line `abr follow` with `--only` and a network
+abbrev pub follow_only_line : Text → Text → List Text
+follow_only_line name prefix = name ∷ codes "follow" ∷ codes "--only" ∷ prefix ∷ []
+
+-- the command line `abr follow` with `--format` and a name
+abbrev pub follow_format_line : Text → Format → List Text
+follow_format_line name format = name ∷ codes "follow" ∷ codes "--format" ∷ format_name format ∷ []
+
+-- the command line `abr explain` with this file and this address, whatever the program is called
+abbrev pub explain_line : Text → Text → Text → List Text
+explain_line name file address = name ∷ codes "explain" ∷ file ∷ address ∷ []
+
+-- the command line `abr explain` with these, `--due` and an area
+abbrev pub due_line : Text → Text → Text → Text → List Text
+due_line name file address area = name ∷ codes "explain" ∷ file ∷ address ∷ codes "--due" ∷ area ∷ []
+
+-- the command line `abr explain` with these, `--format` and a name
+abbrev pub explain_format_line : Text → Text → Text → Format → List Text
+explain_format_line name file address format = name ∷ codes "explain" ∷ file ∷ address ∷ codes "--format" ∷ format_name format ∷ []
+
+-- the command line `abr explain` with these and `--progress`
+abbrev pub explain_progress_line : Text → Text → Text → List Text
+explain_progress_line name file address = name ∷ codes "explain" ∷ file ∷ address ∷ codes "--progress" ∷ []
+
+-- the command line `abr page` with this file, whatever the program is called
+abbrev pub page_line : Text → Text → List Text
+page_line name file = name ∷ codes "page" ∷ file ∷ []
+
+-- a word that names the file for the page
+abbrev pub IsOutputFlag : Text → Type 0
+IsOutputFlag flag = (flag ≡ codes "-o") ⊎ (flag ≡ codes "--output")
+
+-- the command line `abr page` with this file, `-o` or `--output`, and the file for the page
+abbrev pub output_line : Text → Text → Text → Text → List Text
+output_line name file flag output = name ∷ codes "page" ∷ file ∷ flag ∷ output ∷ []
+
+-- the command line `abr page` with this file and `--progress`
+abbrev pub page_progress_line : Text → Text → List Text
+page_progress_line name file = name ∷ codes "page" ∷ file ∷ codes "--progress" ∷ []
+
+-- the words of an option, if it has a value
+abbrev pub option_words : Text → Option Text → List Text
+option_words option None = []
+option_words option (Some value) = option ∷ value ∷ []
+
+-- the word of a flag, if it is set
+abbrev pub flag_words : Text → Bool → List Text
+flag_words flag false = []
+flag_words flag true = flag ∷ []
+
+-- the words of `abr capture` behind its file that say this
+abbrev pub capture_words : CaptureTexts → List Text
+capture_words t =
+    option_words (codes "--router") t.router
+    ++ (option_words (codes "--begin") t.begin ++ (flag_words (codes "--all") t.keeps_all ++ flag_words (codes "--no-seconds") t.without_seconds))
+
+-- the command line `abr capture` that says this, with its words in the order of the help, whatever the program is called
+abbrev pub capture_line : Text → CaptureTexts → List Text
+capture_line name t = name ∷ codes "capture" ∷ t.file ∷ capture_words t
+
+-- the word does not begin with a hyphen, if there is one
+abbrev pub IsPlainIfGiven : Option Text → Type 0
+IsPlainIfGiven None = Unit {0}
+IsPlainIfGiven (Some word) = IsPlainWord word
+
+-- the word does not begin with a hyphen, or is one, if there is one
+abbrev pub IsFileIfGiven : Option Text → Type 0
+IsFileIfGiven None = Unit {0}
+IsFileIfGiven (Some word) = IsFileWord word
+
+-- what it says can be read from its words
+pub record AreReadable (t : CaptureTexts) : Type 0 where
+  pub file : IsFileWord t.file
+  pub router : IsPlainIfGiven t.router
+  pub begin : IsFileIfGiven t.begin
+
+-- the command line `abr fault` with this word, whatever the program is called
+abbrev pub fault_line : Text → Text → List Text
+fault_line name number = name ∷ codes "fault" ∷ number ∷ []
+
+-- ---- what each command line gives
+
+-- `abr replay` with this file only: one worker, and the routing table as text, without progress
+abbrev pub plain_replay : Text → ReplayTexts
+plain_replay file = record { file = file; workers = 1; show = Routes; format = form.Text; progress = false }
+
+-- `abr changes` with this file only: of all networks, as text, without progress
+abbrev pub plain_changes : Text → ChangesTexts
+plain_changes file = record { file = file; only = None; format = form.Text; progress = false }
+
+-- `abr follow` with no further word: of all networks, not strict, as text
+abbrev pub plain_follow : FollowTexts
+plain_follow = record { only = None; strict = false; format = form.Text }
+
+-- `abr explain` with this file and this address only: by the routing table, as text, without progress
+abbrev pub plain_explain : Text → Text → ExplainTexts
+plain_explain file address = record { file = file; address = address; due = None; format = form.Text; progress = false }
+
+-- `abr page` with this file only: the page to standard output, without progress
+abbrev pub plain_page : Text → PageTexts
+plain_page file = record { file = file; output = None; progress = false }
+
+-- the command line that the words are
+abbrev pub command_words : List (Bor Text) → List Text
+command_words words = map (λ w. w.now) words
+
+-- the job is this one, unless memory runs out
+abbrev pub GivesJob : Result Job Usage → JobTexts → Type 0
+GivesJob result texts = MatchResult result (λ job. job_texts job ≡ texts) (λ u. u ≡ Memory)
+
+-- if the line is `abr one` with plain words, the job is `one` with these
+abbrev pub GivesOne : List Text → Result Job Usage → Type 0
+GivesOne line result = (name : Text) (t : OneTexts) → line ≡ one_line name t → ArePlain t → GivesJob result (OfOne t)
+
+-- if the line is `abr decode` with a plain word, the job is `decode` with it, not long
+abbrev pub GivesDecode : List Text → Result Job Usage → Type 0
+GivesDecode line result = (name hex : Text) → line ≡ decode_line name hex → IsPlainWord hex → GivesJob result (OfDecode hex false)
+
+-- if the line is `abr decode` with a plain word and `--long`, the job is `decode` with it, long
+abbrev pub GivesLong : List Text → Result Job Usage → Type 0
+GivesLong line result = (name hex : Text) → line ≡ long_line name hex → IsPlainWord hex → GivesJob result (OfDecode hex true)
+
+-- if the line is `abr replay` with a file, the job is `replay` of it by one worker, to show the routing table as text, and no progress
+abbrev pub GivesReplay : List Text → Result Job Usage → Type 0
+GivesReplay line result = (name file : Text) → line ≡ replay_line name file → IsFileWord file → GivesJob result (OfReplay (plain_replay file))
+
+-- if the line is `abr replay` with a file and `--workers`, the job is `replay` of it by so many
+abbrev pub GivesWorkers : List Text → Result Job Usage → Type 0
+GivesWorkers line result =
+    (name file number : Text) (count : ℕ) → line ≡ workers_line name file number
+    → IsFileWord file → WritesWorkers number count → GivesJob result (OfReplay (record (plain_replay file) { workers = count }))
+
+-- if the line is `abr replay` with a file and `--show`, the job is `replay` of it by one worker, to show that
+abbrev pub GivesShow : List Text → Result Job Usage → Type 0
+GivesShow line result =
+    (name file : Text) (show : Show) → line ≡ show_line name file show → IsFileWord file → GivesJob result (OfReplay (record (plain_replay file) { show = show }))
+
+-- if the line is `abr changes` with a file, the job is `changes` of it, of all networks, as text and without progress
+abbrev pub GivesChanges : List Text → Result Job Usage → Type 0
+GivesChanges line result = (name file : Text) → line ≡ changes_line name file → IsFileWord file → GivesJob result (OfChanges (plain_changes file))
+
+-- if the line is `abr changes` with a file, `--only` and a plain word, the job is `changes` of it, of that network
+abbrev pub GivesOnly : List Text → Result Job Usage → Type 0
+GivesOnly line result =
+    (name file prefix : Text) → line ≡ only_line name file prefix
+    → IsFileWord file → IsPlainWord prefix → GivesJob result (OfChanges (record (plain_changes file) { only = Some prefix }))
+
+-- if the line is `abr follow`, the job is `follow` of all networks, not strict, as text
+abbrev pub GivesFollow : List Text → Result Job Usage → Type 0
+GivesFollow line result = (name : Text) → line ≡ follow_line name → GivesJob result (OfFollow plain_follow)
+
+-- if the line is `abr follow` with `--strict`, the job is `follow` of all networks, strict
+abbrev pub GivesStrict : List Text → Result Job Usage → Type 0
+GivesStrict line result = (name : Text) → line ≡ strict_line name → GivesJob result (OfFollow (record plain_follow { strict = true }))
+
+-- if the line is `abr follow` with `--only` and a plain word, the job is `follow` of that network, not strict
+abbrev pub GivesFollowOnly : List Text → Result Job Usage → Type 0
+GivesFollowOnly line result =
+    (name prefix : Text) → line ≡ follow_only_line name prefix → IsPlainWord prefix → GivesJob result (OfFollow (record plain_follow { only = Some prefix }))
+
+-- if the line is `abr explain` with a file and a plain word, the job explains the word by the file's routing table, as text and without progress
+abbrev pub GivesExplain : List Text → Result Job Usage → Type 0
+GivesExplain line result =
+    (name file address : Text) → line ≡ explain_line name file address
+    → IsFileWord file → IsPlainWord address → GivesJob result (OfExplain (plain_explain file address))
+
+-- if the line is `abr explain` with a file, a plain word, `--due` and another, the job explains the first word's summary in the area that the other names
+abbrev pub GivesDue : List Text → Result Job Usage → Type 0
+GivesDue line result =
+    (name file address area : Text) → line ≡ due_line name file address area
+    → IsFileWord file → IsPlainWord address → IsPlainWord area → GivesJob result (OfExplain (record (plain_explain file address) { due = Some area }))
+
+-- if the line is `abr page` with a file, the job writes the page of it to standard output, without progress
+abbrev pub GivesPage : List Text → Result Job Usage → Type 0
+GivesPage line result = (name file : Text) → line ≡ page_line name file → IsFileWord file → GivesJob result (OfPage (plain_page file))
+
+-- if the line is `abr page` with a file, `-o` or `--output`, and another, the job writes the page of the first to the second
+abbrev pub GivesOutput : List Text → Result Job Usage → Type 0
+GivesOutput line result =
+    (name file flag output : Text) → line ≡ output_line name file flag output → IsOutputFlag flag
+    → IsFileWord file → IsFileWord output → GivesJob result (OfPage (record (plain_page file) { output = Some output }))
+
+-- if the line is `abr capture` with a file and any of its options and flags, in the order of the help, the job is `capture` with these, and has none of the others
+abbrev pub GivesCapture : List Text → Result Job Usage → Type 0
+GivesCapture line result = (name : Text) (t : CaptureTexts) → line ≡ capture_line name t → AreReadable t → GivesJob result (OfCapture t)
+
+-- if the line is `abr replay` with a file and `--format`, the job is `replay` of it, in that form
+abbrev pub GivesReplayFormat : List Text → Result Job Usage → Type 0
+GivesReplayFormat line result =
+    (name file : Text) (format : Format) → line ≡ replay_format_line name file format
+    → IsFileWord file → GivesJob result (OfReplay (record (plain_replay file) { format = format }))
+
+-- if the line is `abr changes` with a file and `--format`, the job is `changes` of it, in that form
+abbrev pub GivesChangesFormat : List Text → Result Job Usage → Type 0
+GivesChangesFormat line result =
+    (name file : Text) (format : Format) → line ≡ changes_format_line name file format
+    → IsFileWord file → GivesJob result (OfChanges (record (plain_changes file) { format = format }))
+
+-- if the line is `abr follow` with `--format`, the job is `follow` in that form
+abbrev pub GivesFollowFormat : List Text → Result Job Usage → Type 0
+GivesFollowFormat line result =
+    (name : Text) (format : Format) → line ≡ follow_format_line name format → GivesJob result (OfFollow (record plain_follow { format = format }))
+
+-- if the line is `abr explain` with a file, a plain word and `--format`, the job explains the word in that form
+abbrev pub GivesExplainFormat : List Text → Result Job Usage → Type 0
+GivesExplainFormat line result =
+    (name file address : Text) (format : Format) → line ≡ explain_format_line name file address format
+    → IsFileWord file → IsPlainWord address → GivesJob result (OfExplain (record (plain_explain file address) { format = format }))
+
+-- `--format` gives the form, in each command that takes it
+abbrev pub GivesFormat : List Text → Result Job Usage → Type 0
+GivesFormat line result =
+    GivesReplayFormat line result × GivesChangesFormat line result × GivesFollowFormat line result × GivesExplainFormat line result
+
+-- if the line is `abr replay` with a file and `--progress`, the job is `replay` of it, with progress
+abbrev pub GivesReplayProgress : List Text → Result Job Usage → Type 0
+GivesReplayProgress line result =
+    (name file : Text) → line ≡ replay_progress_line name file
+    → IsFileWord file → GivesJob result (OfReplay (record (plain_replay file) { progress = true }))
+
+-- if the line is `abr changes` with a file and `--progress`, the job is `changes` of it, with progress
+abbrev pub GivesChangesProgress : List Text → Result Job Usage → Type 0
+GivesChangesProgress line result =
+    (name file : Text) → line ≡ changes_progress_line name file
+    → IsFileWord file → GivesJob result (OfChanges (record (plain_changes file) { progress = true }))
+
+-- if the line is `abr explain` with a file, a plain word and `--progress`, the job explains the word, with progress
+abbrev pub GivesExplainProgress : List Text → Result Job Usage → Type 0
+GivesExplainProgress line result =
+    (name file address : Text) → line ≡ explain_progress_line name file address
+    → IsFileWord file → IsPlainWord address → GivesJob result (OfExplain (record (plain_explain file address) { progress = true }))
+
+-- if the line is `abr page` with a file and `--progress`, the job writes the page of it, with progress
+abbrev pub GivesPageProgress : List Text → Result Job Usage → Type 0
+GivesPageProgress line result =
+    (name file : Text) → line ≡ page_progress_line name file
+    → IsFileWord file → GivesJob result (OfPage (record (plain_page file) { progress = true }))
+
+-- `--progress` asks for progress, in each command that takes it
+abbrev pub GivesProgress : List Text → Result Job Usage → Type 0
+GivesProgress line result =
+    GivesReplayProgress line result × GivesChangesProgress line result × GivesExplainProgress line result × GivesPageProgress line result
+
+-- if the line is `abr fault` with a plain word, the job is `fault` with it
+abbrev pub GivesFault : List Text → Result Job Usage → Type 0
+GivesFault line result = (name number : Text) → line ≡ fault_line name number → IsPlainWord number → GivesJob result (OfFault number)

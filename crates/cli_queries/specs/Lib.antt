@@ -1,0 +1,9 @@
+pub mod Advice
+pub mod Writing
+pub mod Words
+pub mod Faults
+pub mod Answers
+pub mod One
+pub mod Decode
+pub mod Usage
+pub mod Number

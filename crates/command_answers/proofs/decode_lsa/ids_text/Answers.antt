@@ -1,5 +1,0 @@
-use Rattle.command_answers.proofs.Decoding.{ids_printed}
-use Rattle.command_answers.proofs.decode_lsa.ids_text.Goals as goal
-
-pub returns : goal.returns
-returns c = ids_printed _ c.args.header.now c.in_ok-format.ensures.ok

@@ -1,6 +1,0 @@
-use Rattle.std.proofs.Common.{inl}
-use Rattle.command_answers.proofs.Said.{appends_nothing}
-use Rattle.command_answers.proofs.printing.print_answer.Goals as goal
-
-pub returns-in-NoMemory : goal.returns-in-NoMemory
-returns-in-NoMemory g c = rw c.in-NoMemory.is (inl (appends_nothing _, c.print_fault-in-NoMemory.ensures))

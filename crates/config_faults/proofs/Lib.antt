@@ -1,3 +1,0 @@
-pub mod Intervals
-pub mod Neighbours
-pub mod RangeChanges

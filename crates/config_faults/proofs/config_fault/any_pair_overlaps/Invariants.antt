@@ -1,6 +1,0 @@
-use Rattle.std.proofs.Common.{◌≡◌, drop}
-use Rattle.config_faults.specs.Configs.{has_overlap}
-use Rattle.config_faults.proofs.config_fault.any_pair_overlaps.Given as goal
-
-abbrev pub invariant-loop-i : goal.invariant-loop-i
-invariant-loop-i l = has_overlap (drop l.i l.ranges) ≡ has_overlap l.ranges

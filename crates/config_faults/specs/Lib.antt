@@ -1,4 +1,0 @@
-pub mod Configs
-pub mod Neighbours
-pub mod Overlaps
-pub mod Texts

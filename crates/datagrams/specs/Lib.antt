@@ -1,9 +1,0 @@
-pub mod Frames
-pub mod Links
-pub mod Layout
-pub mod Reading
-pub mod Text
-pub mod Parts
-pub mod Kept
-pub mod Keeping
-pub mod Taking

@@ -1,7 +1,0 @@
-use Rattle.std.proofs.Common.{◌≡◌, ◌++◌, string_bytes, take}
-use Rattle.std.specs.List.{flat_map}
-use Rattle.drawings.specs.Links.{link_off_tree}
-use Rattle.drawings.proofs.links.put_others.Given as goal
-
-abbrev pub invariant-loop-link : goal.invariant-loop-link
-invariant-loop-link l = string_bytes l.text ≡ string_bytes l.initial.text ++ flat_map link_off_tree (take l.link-index l.links)

@@ -1,6 +1,0 @@
-use Rattle.drawings.specs.Pictures.{box_text}
-use Rattle.drawings.proofs.picture.put_box.Goals as goal
-
-pub returns : goal.returns
-unfolding box_text
-returns c = c.in_ok-write.ensures.bytes

@@ -1,6 +1,0 @@
-use Rattle.drawings.specs.Vertices.{circle_start}
-use Rattle.drawings.proofs.vertices.put_circle_start.Goals as goal
-
-pub returns : goal.returns
-unfolding circle_start
-returns c = c.in_ok-write.ensures.bytes

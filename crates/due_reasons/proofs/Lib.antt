@@ -1,4 +1,0 @@
-pub mod Ranges
-pub mod Fates
-pub mod Listing
-pub mod Metrics

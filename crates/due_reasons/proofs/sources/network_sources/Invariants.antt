@@ -1,5 +1,0 @@
-use Rattle.due_reasons.proofs.Listing.{Completes}
-use Rattle.due_reasons.proofs.sources.network_sources.Given as goal
-
-abbrev pub invariant-loop-area : goal.invariant-loop-area
-invariant-loop-area l = Completes l.inputs l.network l.area-items l.area-index l.initial.sources.items l.sources.items

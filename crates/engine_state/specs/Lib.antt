@@ -1,4 +1,0 @@
-pub mod Answers
-pub mod Gates
-pub mod EngineStates
-pub mod Texts

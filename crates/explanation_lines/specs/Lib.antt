@@ -1,5 +1,0 @@
-pub mod Reasons
-pub mod Words
-pub mod Objects
-pub mod Lines
-pub mod Explanations

@@ -1,7 +1,0 @@
-use Rattle.std.proofs.Common.{ap, ◌∙◌}
-use Rattle.serde_json.specs.Written.{has_float}
-use Rattle.json_objects.proofs.Floats.{has_float-paths_data}
-use Rattle.json_objects.proofs.route.route_value.Goals as goal
-
-pub put-requires : goal.put-requires
-put-requires c = ap has_float c.in_ok-paths_value.ensures ∙ has_float-paths_data c.as_slice.result.now

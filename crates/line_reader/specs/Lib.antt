@@ -1,3 +1,0 @@
-pub mod Shortened
-pub mod Tails
-pub mod Taking

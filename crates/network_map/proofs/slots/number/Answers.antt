@@ -1,5 +1,0 @@
-use Rattle.std.proofs.Common.{arith}
-use Rattle.network_map.proofs.slots.number.Goals as goal
-
-pub overflow_cast-result : goal.overflow_cast-result
-overflow_cast-result c = omega (arith, c.base.ensures.bound, c.requires)

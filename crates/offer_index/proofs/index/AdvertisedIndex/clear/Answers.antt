@@ -1,5 +1,0 @@
-use Rattle.offer_index.proofs.Gathering.{nothing_listed}
-use Rattle.offer_index.proofs.index.AdvertisedIndex.clear.Goals as goal
-
-pub invariant_of-self : goal.invariant_of-self
-invariant_of-self c = nothing_listed c.clear.new.self.entries c.clear-2.new.self c.clear.ensures c.clear-2.ensures

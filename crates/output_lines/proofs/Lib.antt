@@ -1,0 +1,4 @@
+pub mod Floats
+pub mod Texts
+pub mod Walked
+pub mod Bodies

@@ -1,4 +1,0 @@
-pub mod Costs
-pub mod Choices
-pub mod Takes
-pub mod ReachedRouter

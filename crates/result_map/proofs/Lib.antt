@@ -1,9 +1,0 @@
-pub mod ChosenAnew
-pub mod DestOrder
-pub mod Adding
-pub mod Left
-pub mod Among
-pub mod KeyedMaps
-pub mod KeyLaws
-pub mod Standing
-pub mod SortedOnce

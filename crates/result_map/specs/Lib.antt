@@ -1,4 +1,0 @@
-pub mod Chosen
-pub mod Dests
-pub mod Lists
-pub mod Results

@@ -1,0 +1,11 @@
+pub mod Choosing
+pub mod Taking
+pub mod ChosenAnew
+pub mod DestOrder
+pub mod Adding
+pub mod Left
+pub mod Among
+pub mod KeyedMaps
+pub mod KeyLaws
+pub mod Standing
+pub mod SortedOnce

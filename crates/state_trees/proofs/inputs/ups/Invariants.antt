@@ -1,6 +1,0 @@
-use Rattle.std.specs.FinMap.{entries}
-use Rattle.state_trees.proofs.Ups.{AreTaken}
-use Rattle.state_trees.proofs.inputs.ups.Given as goal
-
-abbrev pub invariant-loop-id : goal.invariant-loop-id
-invariant-loop-id l = AreTaken l.area (entries l.state.interfaces) l.ups.items l.id-iterator

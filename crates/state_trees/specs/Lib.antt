@@ -1,3 +1,0 @@
-pub mod Trees
-pub mod Works
-pub mod Turns

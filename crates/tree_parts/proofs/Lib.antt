@@ -1,8 +1,0 @@
-pub mod Counting
-pub mod Elements
-pub mod VertexMaps
-pub mod VertexSets
-pub mod Marking
-pub mod Keys
-pub mod Grown
-pub mod SortedOnce

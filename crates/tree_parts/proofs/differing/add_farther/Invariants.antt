@@ -1,6 +1,0 @@
-use Rattle.std.proofs.Common.{take}
-use Rattle.tree_parts.specs.Differing.{IsFarther, IsGrown}
-use Rattle.tree_parts.proofs.differing.add_farther.Given as goal
-
-abbrev pub invariant-loop-vertex : goal.invariant-loop-vertex
-invariant-loop-vertex l = IsGrown l.listing l.initial.listing (IsFarther (take l.vertex-index l.remembered) l.distances)

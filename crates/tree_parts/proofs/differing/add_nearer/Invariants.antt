@@ -1,6 +1,0 @@
-use Rattle.std.proofs.Common.{take}
-use Rattle.tree_parts.specs.Differing.{IsGrown, IsNearer}
-use Rattle.tree_parts.proofs.differing.add_nearer.Given as goal
-
-abbrev pub invariant-loop-vertex : goal.invariant-loop-vertex
-invariant-loop-vertex l = IsGrown l.listing l.initial.listing (IsNearer (take l.vertex-index l.moved) l.lost)

@@ -1,7 +1,0 @@
-use Rattle.std.proofs.Common.{◌<◌, sym, subst}
-use Rattle.tree_parts.specs.Maps.{AreBounded, most_distance}
-use Rattle.tree_parts.proofs.VertexMaps.{all_none}
-use Rattle.tree_parts.proofs.distances.Distances.with_room.Goals as goal
-
-pub invariant_of-result : goal.invariant_of-result
-invariant_of-result c = subst AreBounded (sym c.in_ok-by_vertex.ensures) (all_none (λ distance. distance < most_distance))

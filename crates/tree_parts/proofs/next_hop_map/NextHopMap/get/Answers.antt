@@ -1,7 +1,0 @@
-use Rattle.std.proofs.Common.{ap, ◌∙◌}
-use Rattle.std.specs.FinMap.{get}
-use Rattle.tree_parts.specs.Maps.{HopMap}
-use Rattle.tree_parts.proofs.next_hop_map.NextHopMap.get.Goals as goal
-
-pub returns : goal.returns
-returns c = c.get.ensures ∙ ap (λ (m : HopMap). get m c.args.vertex.now) c.self.view_is

@@ -1,6 +1,0 @@
-pub mod Maps
-pub mod VertexSet
-pub mod Differing
-pub mod Marks
-pub mod Keys
-pub mod Counts
