@@ -1,3 +1,4 @@
+//! The networks in the address ranges of areas (RFC 2328, C.2).
 ghost use Rattle.std.specs.Prelude.{◌≡◌};
 
 use ospf_types::prefix::Prefix;

@@ -1,3 +1,4 @@
+//! The groups of advertised routes by which an index finds them.
 use ospf_types::key::Dest;
 
 /// A group of advertised routes, by which they are found.

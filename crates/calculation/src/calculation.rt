@@ -1,3 +1,4 @@
+//! The calculation of a state's results, layer by layer (RFC 2328, 16), built and updated.
 ghost use Rattle.std.specs.Prelude.{◌≡◌, ◌≤◌, ◌↔◌, ◌++◌, ℕ, List, Option, Some, None, Contains};
 ghost use Rattle.std.specs.Prelude.{OnOk, IfOk, is_some, option_copied, map as list_map};
 ghost use Rattle.std.specs.FinMap as map;

@@ -1,3 +1,5 @@
+//! The core: a state, the results calculated from it, the routing table and the due summaries. An
+//! event changes them in this order.
 ghost use Rattle.std.specs.Prelude.{◌≡◌, ◌≤◌, ◌<◌, ◌+◌, [], length, true, None, IfErr, IfNone};
 ghost use Rattle.std.specs.Prelude.{IfOk, IfSome, MatchBool, OnOk, OnErr, option_map};
 ghost use Rattle.vertex_graph.specs.Graphs.{max_routers};

@@ -1,3 +1,5 @@
+//! The reply to an event that was taken.
+
 /// The status of the routing table and the due summaries.
 #[derive(Clone, Copy, Debug, PartialEq, Eq)]
 pub enum Status {

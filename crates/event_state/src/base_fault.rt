@@ -1,3 +1,4 @@
+//! The faults of a base, with their numbers and names.
 ghost use Rattle.std.specs.Prelude.{Some};
 ghost use Rattle.event_state.specs.Texts.{unfit_text, base_fault_text};
 

@@ -1,3 +1,4 @@
+//! The events that change a router's databases, interfaces or address ranges.
 ghost use Rattle.std.specs.Prelude.{◌≡◌, IfOk};
 
 use lsa_codec::Checked;

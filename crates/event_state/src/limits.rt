@@ -1,3 +1,5 @@
+//! The maximum sizes of a state's databases and journal.
+
 /// The sizes that a state may grow to.
 #[derive(Clone, Copy, Debug, PartialEq, Eq)]
 pub struct Limits {

@@ -1,3 +1,4 @@
+//! The refusals of events, with their numbers and names.
 ghost use Rattle.std.specs.Prelude.{◌≡◌, Some};
 ghost use Rattle.event_state.specs.Texts.{refusal_text};
 ghost use Rattle.event_state.specs.Refusals.{refusal_for};

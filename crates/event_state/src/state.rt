@@ -1,3 +1,5 @@
+//! The state of a router: databases, interfaces, address ranges, base and journal. An event is
+//! checked first, then appended to the journal, and then carried out.
 ghost use Rattle.std.specs.Prelude.{◌≡◌, ◌<◌, ◌≤◌, None, IfErr, IfOk, IfSome, OnOk, OnErr};
 ghost use Rattle.std.specs.Prelude.{option_map};
 ghost use Rattle.std.specs.List.{list_any};

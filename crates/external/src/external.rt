@@ -1,3 +1,4 @@
+//! External routes and preferred routes (RFC 2328, 16.4): built, updated and read.
 ghost use Rattle.std.specs.Prelude.{◌≡◌, ◌≢◌, IfOk, OnOk, OnErr, option_copied};
 ghost use Rattle.std.specs.FinMap as map;
 ghost use Rattle.std.specs.List.{AllPairs};

@@ -1,3 +1,4 @@
+//! The inputs of external routes.
 use active_ranges::ActiveRanges;
 use inter::Inter;
 use intra::Intra;

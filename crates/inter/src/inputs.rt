@@ -1,3 +1,4 @@
+//! The inputs of inter-area routes, with the examined area (RFC 2328, 16.2).
 ghost use Rattle.std.specs.Prelude.{◌≡◌};
 ghost use Rattle.inter.specs.Inputs.{examined_area};
 

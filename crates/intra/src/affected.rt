@@ -1,3 +1,4 @@
+//! The prefixes and routers that an update may change.
 ghost use Rattle.std.specs.Prelude.{◌≡◌, []};
 
 use ospf_types::prefix::Prefix;

@@ -1,3 +1,4 @@
+//! The change set that one layer of routes passes to the next.
 use ospf_types::entry::Vertex;
 use ospf_types::key::{Dest, Key, Scope};
 

@@ -1,3 +1,4 @@
+//! The inputs of intra-area routes.
 use area_trees::AreaTree;
 use lsdb::Database;
 use ospf_types::config::Interface;

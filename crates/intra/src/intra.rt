@@ -1,3 +1,4 @@
+//! Intra-area routes (RFC 2328, 16.1 and 16.8): built, updated and read.
 ghost use Rattle.std.specs.Prelude.{◌≡◌, ◌≢◌, ◌↔◌, ◌<◌, [], Some, None, length, IfOk, OnOk, OnErr};
 ghost use Rattle.std.specs.Prelude.{IfNone, IfSome, IsSome, IsTrue, option_copied};
 ghost use Rattle.std.specs.FinMap as map;

@@ -1,3 +1,4 @@
+//! LSAs as checked bytes, and the functions that read their fields (RFC 2328, A.4).
 ghost use Rattle.std.specs.Prelude.{◌≡◌, ◌≤◌, ◌↔◌, ◌==◌, ◌||◌, IsTrue, length, map, IfOk};
 ghost use Rattle.ospf_types.specs.Lsa.{MaxAge, key_of, kind_of};
 ghost use Rattle.lsa_codec.specs.Spelling.{IsLegal, body_bytes};

@@ -1,3 +1,4 @@
+//! The faults of bytes that are not a valid LSA, with their numbers and names.
 ghost use Rattle.std.specs.Prelude.{◌≡◌, Some};
 ghost use Rattle.lsa_codec.specs.Text.{wire_fault_text};
 

@@ -1,3 +1,5 @@
+//! The kinds of faults that a check of a body finds.
+
 /// The kinds of faults found in a body.
 #[derive(Clone, Copy)]
 pub(crate) struct Findings {

@@ -1,3 +1,4 @@
+//! The check of a mask.
 ghost use Rattle.std.specs.Prelude.{◌≡◌};
 ghost use Rattle.lsa_codec.specs.Faults.{is_mask as is_mask_test};
 

@@ -1,3 +1,4 @@
+//! The reading of an LSA from bytes, with the order of its checks (RFC 2328, A.4).
 ghost use Rattle.std.specs.Prelude.{◌≡◌, ◌≤◌, length, IfOk, MatchResult, IsOkUnless, drop};
 ghost use Rattle.ospf_types.specs.Lsa.{Lsa};
 ghost use Rattle.lsa_codec.specs.Spelling.{Spells};

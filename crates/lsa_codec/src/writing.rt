@@ -1,3 +1,4 @@
+//! The writing of an LSA as bytes.
 ghost use Rattle.std.specs.Prelude.{◌≡◌, ◌++◌, ℕ, List, None, OnOk, OnErr};
 ghost use Rattle.lsa_codec.specs.Spelling.{spelling, Spells};
 ghost use Rattle.lsa_codec.specs.Checksum.{IsSound};

@@ -1,3 +1,4 @@
+//! The comparison of the contents of two instances of an LSA (RFC 2328, 13.2).
 ghost use Rattle.std.specs.Prelude.{◌≡◌, ◌↔◌, false};
 ghost use Rattle.ospf_types.specs.Instances.{HaveSameContents};
 ghost use Rattle.lsa_codec.specs.Readers.{with_age};

@@ -1,3 +1,4 @@
+//! The comparison of two instances of an LSA, which finds the newer one (RFC 2328, 13.1).
 ghost use Rattle.std.specs.Prelude.{◌≡◌};
 ghost use Rattle.ospf_types.specs.Instances.{newer_of, age_cmp, swapped};
 

@@ -1,3 +1,4 @@
+//! The check that an installed LSA changes what calculations use (RFC 2328, 13.2).
 ghost use Rattle.lsdb.specs.Contents.{TellsUseBeside};
 
 use lsa_codec::Checked;

@@ -1,3 +1,4 @@
+//! The refusals of a database, with their numbers and names.
 ghost use Rattle.std.specs.Prelude.{Some};
 ghost use Rattle.lsdb.specs.Texts.{install_refusal_text, no_lsa_text, purge_refusal_text};
 

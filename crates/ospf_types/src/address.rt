@@ -1,3 +1,4 @@
+//! Addresses, Router IDs and Area IDs, and their dotted form.
 ghost use Rattle.std.specs.Prelude.{◌≡◌, ◌≢◌, ◌^◌, ◌<◌, ℕ, Some, IfSome, IsNone};
 ghost use Rattle.ospf_types.specs.Text.{address_text};
 

@@ -1,3 +1,4 @@
+//! Interfaces, areas and address ranges, and the configuration of a router (RFC 2328, C).
 ghost use Rattle.std.specs.Prelude.{◌≡◌, IfOk};
 
 use crate::listed::Listed;

@@ -1,3 +1,4 @@
+//! The check of a configuration (RFC 2328, 3.5, 3.6 and C.2).
 ghost use Rattle.std.specs.Prelude.{◌≡◌, ◌==◌, true, length, nat_lt, All};
 ghost use Rattle.std.specs.List.{list_any};
 ghost use Rattle.ospf_types.specs.Configs.{config_fault_of, has_alike, has_wrong_areas};

@@ -1,3 +1,4 @@
+//! Vertices of an area's graph (RFC 2328, 16.1), and the entries of the routing table (11).
 ghost use Rattle.std.specs.Prelude.{◌≡◌, ◌↔◌, [], length, IsTrue, IfOk};
 ghost use Rattle.std.specs.List.Sorted.{IsStrictlySortedBy};
 ghost use Rattle.ospf_types.specs.Hops.{path_cmp};

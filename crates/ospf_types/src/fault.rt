@@ -1,3 +1,4 @@
+//! The faults of a configuration, with their numbers and names.
 ghost use Rattle.std.specs.Prelude.{Some};
 ghost use Rattle.ospf_types.specs.Texts.{config_fault_text};
 

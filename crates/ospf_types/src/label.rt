@@ -1,3 +1,4 @@
+//! The labels of links, as contracts see them (RFC 2328, 16.1.1).
 use crate::listed::Listed;
 
 /// The part of a link that decides next hops (RFC 2328, 16.1.1), as contracts see it. Links store

@@ -1,3 +1,4 @@
+//! The error that memory ran out, 30 Memory.
 ghost use Rattle.std.specs.Prelude.{Some};
 ghost use Rattle.ospf_types.specs.Text.{memory_text};
 

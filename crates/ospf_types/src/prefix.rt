@@ -1,3 +1,4 @@
+//! Networks: a network number and a prefix length.
 ghost use Rattle.std.specs.Prelude.{◌≡◌, ◌≤◌, ◌↔◌, IsTrue, IsSome, IfSome};
 ghost use Rattle.ospf_types.specs.Masks.{masked};
 ghost use Rattle.ospf_types.specs.Network.{network_cmp, network_word};

@@ -1,3 +1,4 @@
+//! The authentication of a packet (RFC 2328, D).
 ghost use Rattle.std.specs.Prelude.{◌≡◌, ◌≤◌, length, take, drop};
 ghost use Rattle.packets.specs.Packets.{authentication_of, authentication_data};
 

@@ -1,3 +1,4 @@
+//! IPv4 datagrams and their fragments, by their headers (RFC 791, 3.1).
 ghost use Rattle.std.specs.Prelude.{◌≤◌, ◌+◌, length};
 
 /// The length of the longest datagram, in bytes.

@@ -1,3 +1,4 @@
+//! The faults of bytes that are not a valid IPv4 datagram, with their numbers and names.
 ghost use Rattle.std.specs.Prelude.{Some};
 ghost use Rattle.packets.specs.DatagramText.{datagram_fault_text};
 

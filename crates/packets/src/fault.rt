@@ -1,3 +1,4 @@
+//! The faults of packets and of Link State Updates, with their numbers and names.
 ghost use Rattle.std.specs.Prelude.{◌≡◌, Some};
 ghost use Rattle.packets.specs.Text.{packet_fault_text, update_fault_text};
 

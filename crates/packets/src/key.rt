@@ -1,3 +1,4 @@
+//! The key by which the fragments of one datagram are found (RFC 791, 3.2).
 ghost use Rattle.std.specs.Prelude.{◌≡◌};
 
 use crate::datagram::Datagram;

@@ -1,3 +1,4 @@
+//! The packet types (RFC 2328, A.3.1).
 ghost use Rattle.std.specs.Prelude.{◌≡◌};
 ghost use Rattle.packets.specs.Packets.{kind_of_number, number_of_kind};
 

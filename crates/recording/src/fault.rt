@@ -1,3 +1,4 @@
+//! The faults of a recording's lines, with their numbers and names.
 ghost use Rattle.std.specs.Prelude.{Some};
 ghost use Rattle.recording.specs.Texts.{fault_text, line_fault_text};
 

@@ -1,3 +1,4 @@
+//! The lines after the base of a recording.
 use event_state::Event;
 
 /// A line after the base: an event, a lookup or a roll.

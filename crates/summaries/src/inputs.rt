@@ -1,3 +1,4 @@
+//! The inputs of due summaries.
 use active_ranges::ActiveRanges;
 use external::External;
 use inter::Inter;

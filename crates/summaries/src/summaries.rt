@@ -1,3 +1,4 @@
+//! Due summaries (RFC 2328, 12.4.3): built, planned and carried out.
 ghost use Rattle.std.specs.Prelude.{◌≡◌, ◌++◌, length, map as list_map, IfOk, OnOk, option_map};
 ghost use Rattle.std.specs.List.{flat_map};
 ghost use Rattle.std.specs.List.Sorted.{IsStrictlySortedBy};

@@ -1,3 +1,4 @@
+//! A summary-LSA that is due in an area (RFC 2328, 12.4.3).
 ghost use Rattle.std.specs.Prelude.{◌≡◌};
 ghost use Rattle.summary_lists.specs.Lists.{due_for};
 
