@@ -1,4 +1,7 @@
 //! The LSAs that an event may affect, listed before the event is taken.
+//!
+//! They are listed first because a second ages the LSAs that it brings to MaxAge: afterwards they
+//! are like the LSAs that were at MaxAge before.
 ghost use Rattle.std.specs.Prelude.{◌≡◌, ◌++◌, [], ◌∷◌, IfOk, OnOk};
 ghost use Rattle.event_state.specs.Affected.{AreListed, IsAmong, NamesAll, with_scope};
 
@@ -14,6 +17,9 @@ impl State {
     /// or change.
     ///
     /// They are the LSA of the event, or each LSA that a second brings to MaxAge (RFC 2328, 14).
+    ///
+    /// The list may have an LSA whose use does not change, such as one that is at MaxAge when it is
+    /// flushed. The use of an LSA that is not listed never changes.
     pub fn affected_lsas(&self, alloc: Global, event: &Event) -> Result<Vec<(Scope, Key)>, Memory>
         ensures { IfOk result (λ named. NamesAll self.now event.now named.items) }
     {

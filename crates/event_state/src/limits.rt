@@ -1,4 +1,6 @@
 //! The maximum sizes of a state's databases and journal.
+//!
+//! The limits are part of a state, so that tests can open one with small limits.
 
 /// The sizes that a state may grow to.
 #[derive(Clone, Copy, Debug, PartialEq, Eq)]

@@ -10,6 +10,10 @@ use thiserror::Error;
 /// The reason why an event was not taken: the first of these variants, in this order, that holds.
 /// Nothing is changed.
 ///
+/// 28 JournalFull comes before 29, so a full journal refuses an interface before its address is
+/// compared. 34 compares a range with ranges of other prefixes only, and 36 never refuses a range
+/// that replaces the one with its prefix.
+///
 /// The last three variants never refuse a single event. `Spawn` and `Workers` refuse the lists of
 /// several workers, and `NotCurrent` refuses a roll.
 #[derive(Clone, Copy, Debug, PartialEq, Eq, Error)]
@@ -17,6 +21,7 @@ pub enum Refusal {
     /// The area of the scope, of the interface or of the range is not configured.
     NoArea,
     /// The key of an AS-external-LSA for an area, or a key of another LS type for the AS.
+    /// It does not depend on the LSAs that the database has.
     Scope,
     /// The database instance is newer (RFC 2328, 13.1).
     Older,

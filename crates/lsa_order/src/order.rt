@@ -17,6 +17,9 @@ const MAX_AGE_DIFF: u16 = 900;
 /// 4. the lower age, if the ages differ by more than 900 seconds.
 ///
 /// It compares nothing else: the caller has to pass two instances of the same LSA.
+///
+/// The rules give no total order. Of three instances that differ only in their ages of 0, 600 and
+/// 1200, the first is newer than the last. The second is the same as either.
 #[tactic(auto, using(crate::proofs::Swapping::other_way))]
 pub fn newer(first: &Header, second: &Header) -> Newer
     ensures value { result ≡ newer_of first.now second.now }

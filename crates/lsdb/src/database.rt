@@ -19,6 +19,9 @@
 //!
 //! Contracts see a finite map from key to LSA at its present age, and the keys in the order of
 //! their rows. Only `ages`, `kinds`, `keys` and `key_at` speak of rows.
+//!
+//! The index of a key in the `IndexMap` is its row, and the values of that map are the column of
+//! LSAs. `by_router` and `at_age` have an exact result because contracts see the order of rows.
 ghost use Rattle.std.specs.Prelude.{◌≡◌, ◌+◌, ◌<◌, ◌≤◌, ◌++◌, [], ◌∷◌, None, Some, IsSome, OnOk};
 ghost use Rattle.std.specs.Prelude.{OnErr, IfOk, IfErr, IfSome, nat_le, count_by, length};
 ghost use Rattle.std.specs.Prelude.{option_map, is_some, position, slice_get, vec_len};
@@ -179,6 +182,9 @@ impl Database {
 
     /// Installs an LSA that `install_refusal` does not refuse (RFC 2328, 13.2). Returns true if
     /// this changes what calculations use.
+    ///
+    /// A state calls `install_refusal` before, as the refusal 28 of its journal comes between the
+    /// refusals of the database and 30 Memory. No check is made twice.
     ///
     /// # Errors
     ///

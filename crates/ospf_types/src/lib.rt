@@ -1,14 +1,16 @@
-//! The types of an OSPF area border router (RFC 2328): prefixes, keys, links, next hops, routes and
-//! configurations, and their printed forms.
+//! The types of an OSPF area border router (RFC 2328), on which all other crates are built.
 //!
-//! `specs/` holds the definitions of the results that are calculated from them.
+//! - Values: addresses, prefixes, next hops, paths, entries of the routing table, and the keys,
+//!   scopes, headers and links of LSAs, with their printed forms. Each type that contracts have to
+//!   order has a `compare`, and the contract of `compare` states that order.
+//! - Configurations, and `fault_in`, which finds the first fault of one (3.5, 3.6 and C.2).
+//! - `WordHash`, the hash function of all hash maps: networks, vertices, destinations and keys hash
+//!   as one or two words.
+//! - `Memory`, the error that memory ran out, and `Listed`, a vector that contracts see as a list.
 //!
-//! The faults of a router's configuration (RFC 2328, 3.5, 3.6 and C.2): of its areas, their address
-//! ranges and their default costs.
-//!
-//! A hash function for keys that hash as one word.
-//!
-//! It has two keys of its own, takes two multiplications for each word, and is not cryptographic.
+//! `specs/` has the definitions of all results: links, distances, routes, the choice between two
+//! instances of an LSA, and due summaries. So types that only these definitions need are here too,
+//! below the codec: `Header`, `Link`, `ExternalFields`, `Newer` and `Vertex`.
 #![tactic(auto)]
 
 pub mod address;

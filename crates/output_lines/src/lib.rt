@@ -9,6 +9,10 @@
 //! Metrics, costs and serials are numbers. A serial goes up to 18446744073709551615, and a reader
 //! that keeps numbers as floating point is exact only up to 2^53. Addresses, Router IDs and Area
 //! IDs are strings, as `"192.0.2.1"`, and so are networks, as `"192.0.2.0/24"`.
+//!
+//! Hexadecimal fields of an LSA are printed from its bytes, in their order, so the printed digits
+//! are the encoding of those bytes.
+
 #![tactic(auto)]
 
 mod external;

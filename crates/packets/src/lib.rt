@@ -1,9 +1,23 @@
-//! OSPF version 2 packets (RFC 2328, A.3): their header, and the LSAs of a Link State Update.
+//! The packets of a captured network, from the bytes of a frame to the LSAs of a Link State Update
+//! (RFC 2328, A.3).
 //!
-//! The bytes of a packet are the payload of a whole IPv4 datagram of protocol 89. Bodies and LSAs
-//! are borrowed, and nothing is allocated.
+//! ```text
+//!  frame ──────> IPv4 packet ─────────────> datagram ───────────> Packet ─────────────> LSAs
+//!        LinkType            read_datagram           read_packet         update_lsas
+//!                            Fragments
+//! ```
 //!
-//! The IPv4 datagrams of captured frames (RFC 791), reassembled from fragments.
+//! - `LinkType` finds the IPv4 packet that a frame carries, after the headers of its link.
+//! - `read_datagram` reads an IPv4 header (RFC 791, 3.1). It does not compare the header's
+//!   checksum: many captures of what their own machine sent have none.
+//! - `Fragments` reassembles a datagram that was sent in fragments (RFC 791, 3.2).
+//! - `read_packet` reads the header of an OSPF packet, which is the payload of a whole datagram of
+//!   protocol 89. It compares the checksum, except with cryptographic authentication (RFC 2328,
+//!   D.4.3).
+//! - `update_lsas` returns the bytes of the LSAs in the body of a Link State Update (A.3.5).
+//!
+//! Payloads, bodies and LSAs are borrowed. Only `Fragments` allocates memory, for the parts that it
+//! keeps.
 #![tactic(auto)]
 
 mod authentication;

@@ -1,8 +1,20 @@
-//! The choice between paths (RFC 2328, 16.1 to 16.4): paths are offered one by one, and the best
-//! are kept. Area border routers and AS boundary routers that are reached are here too.
+//! The choice between paths, and the results that layers of routes keep (RFC 2328, 16.1 to 16.4).
 //!
-//! Maps of results that follow changes key by key. A layer of routes keeps its results in a
-//! `ResultMap`. It passes on to the layer above only the keys whose result changed.
+//! A layer of routes has three parts: an index of what LSAs advertise, sources, and one choice. The
+//! index depends on the LSAs only. Distances, next hops and the match of a forwarding address are
+//! sources: they are read when an entry is chosen, and are not copied. This crate has the choice,
+//! and a map for its results:
+//!
+//! - `Best` collects offers, and gives their `Choice`: the least key, with all items that are
+//!   offered at it. One item is stored inline, and most networks have one next hop, so most choices
+//!   allocate no memory.
+//! - A layer implements `Choose`, which defines its offers and chooses the result at a key. It
+//!   keeps its results in a `ResultMap`, which recomputes them key by key and returns the keys
+//!   whose result changed. Only these are passed on to the layer above.
+//! - `add_networks`, `add_routers` and `dests_of` build the lists of destinations in which layers
+//!   report changes.
+//! - `ReachedRouter` is an area border router or AS boundary router that is reached in an area. A
+//!   router is one if bit B or bit E of its router-LSA is set (16.1 (4)).
 #![tactic(auto)]
 
 mod choice;

@@ -1,8 +1,18 @@
-//! The queue of a shortest-path search (RFC 2328, 16.1 (3)): vertices, each at a distance from the
-//! root. The nearest vertex comes first, and at equal distances networks come before routers.
+//! The parts of a shortest-path tree that do not depend on the graph (RFC 2328, 16.1 and 16.1.1).
 //!
-//! The parts of a shortest-path tree that do not need the graph: distances, next hops, sets of
-//! vertices, the count of its work, and the list of vertices that a repair changed.
+//! - `Queue` is the candidate list of a search. The nearest vertex comes first, and at equal
+//!   distances networks come before routers (16.1 (3)).
+//! - `Distances` and `NextHopMap` have the distance and the next hops of each vertex that is
+//!   reached.
+//! - `VertexSet`, `VertexList` and `SortedVertices` are collections of vertices: with lookup,
+//!   without it, and sorted at the end.
+//! - `Touched` is the work of a tree: it counts the vertices taken from the queue and the next-hop
+//!   sets written.
+//! - `differing` lists the vertices that a repair changed.
+//!
+//! The crate `spf` builds and repairs trees of these parts. A vertex comes with a hint to its place
+//! in a map, so it is usually found without hashing it. A queue keeps the places of vertices that
+//! it no longer has, because the next repair needs them again.
 #![tactic(auto)]
 
 pub mod differing;
