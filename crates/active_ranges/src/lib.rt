@@ -18,6 +18,11 @@
 //! No other member changes. The layers above use the prefix as they use the prefixes that other
 //! events change. Due summaries are recomputed for the prefix and for the networks that it covers:
 //! a range hides them, or no longer does.
+//!
+//! Members have their costs, so one structure gives both the active ranges and the cost at which
+//! each is due. Each range has its own list of networks, in order: a change finds its place by a
+//! binary search, and the greatest cost is found by a pass over the list. A network is a member of
+//! every range of its area that covers it (C.2).
 #![tactic(auto)]
 
 mod active;

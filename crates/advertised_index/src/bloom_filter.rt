@@ -1,4 +1,8 @@
 //! A coarse set of numbers, which shows at little cost that a number was not put in.
+//!
+//! It has 4,096 marks. Most networks have neither a summary-LSA nor an AS-external-LSA, and without
+//! the filter the answer took three times as long on a border router, when measured. A mark stays
+//! when the last number with it is removed.
 ghost use Rattle.std.specs.Prelude.{◌≡◌, ◌<◌, ◌↔◌, ℕ, IsTrue, OnOk};
 ghost use Rattle.advertised_index.specs.BloomFilter.{IsMarked, place_of};
 

@@ -21,6 +21,9 @@
 //! and the forwarding addresses that have a key. It is exact too. One access by hash shows if a
 //! route leads to a destination, and the addresses in a network are found by a search among
 //! addresses only. `IndexFilter` is a coarse filter before both.
+//!
+//! No event scans all AS-external-LSAs: the keys that it affects are found by destination, by
+//! advertising router and by forwarding address.
 #![tactic(auto)]
 
 mod advertised;

@@ -2,6 +2,12 @@
 //! are updated with the changed LSAs of the area's database and with its interfaces.
 //!
 //! Also here: paths in a tree, the links over which a vertex gets a next hop.
+//!
+//! The graph and the tree are one value, so that both follow the same LSAs. A router's vertex is
+//! its router-LSA under its own key. The usable network-LSAs are in an ordered set by Link State ID
+//! and Advertising Router, in which the last one of an ID describes the network. So the LSA of a
+//! vertex is found without a scan. Every area gets each changed interface, because an interface may
+//! move from one area to another.
 #![tactic(auto)]
 
 mod area_graph;

@@ -266,6 +266,11 @@ impl Core {
     ///
     /// A second roll with no event in between copies nothing.
     ///
+    /// A roll is no event and takes no serial. The base is the configuration with its ranges, the
+    /// serial, the interfaces, and each LSA at its present age. A core that is opened from the base
+    /// and applies the journal equals this one. 37 comes before 30: nothing is tried while the core
+    /// is behind.
+    ///
     /// # Errors
     ///
     /// Returns 37 NotCurrent if the core is behind, or 30 Memory. The core is then unchanged.

@@ -21,7 +21,6 @@
 //! A state does not check its configuration. If two areas have the same Area ID, a scope means the
 //! first of them, and the database of the second stays empty. A core is opened only for a
 //! configuration without faults, in which no two areas do.
-
 #![tactic(auto)]
 
 mod affected;

@@ -19,6 +19,8 @@
 //!
 //! A listed network without an LSA has no entry, and had none before. A router or address that is
 //! looked up again with the same result affects no network.
+//!
+//! A forwarding address is looked up once for all LSAs that name it.
 #![tactic(auto)]
 
 mod choose;

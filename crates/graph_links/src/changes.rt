@@ -19,6 +19,9 @@ use std::alloc::Global;
 /// and only links from updated vertices are compared.
 ///
 /// If no two updates are for one vertex, no list has duplicates.
+///
+/// Links are compared in ascending cost, or one by one if there are at most eight. So the thousands
+/// of links of a router cost no quadratic time.
 pub fn changed_links(alloc: Global, rows: &Rows, fresh: &[RowUpdate]) -> Result<LinkChanges, Memory>
     requires { AreOwn rows.now.entries fresh.now }
     ensures gone { IfOk result (λ changes. HaveGone rows.now.entries fresh.now changes.gone.items) }

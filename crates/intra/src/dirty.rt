@@ -4,6 +4,10 @@ use ospf_types::key::{Dest, Key, Scope};
 
 /// The change set that the layers of routes pass on. It may list more than what changed, and things
 /// that do not exist.
+///
+/// A list that is too long is harmless, because each new result is compared with the old one. A
+/// vertex that was not there before need not be listed, so a build is an update that lists all LSAs
+/// and nothing else.
 #[derive(Drop)]
 pub struct Dirty {
     /// Vertices whose distance or next hops changed, each with its Area ID.

@@ -20,6 +20,13 @@
 //! A router other than the root is kept if bit B or bit E of its router-LSA is set and the tree
 //! reaches it. An update looks at the routers among the changed vertices, and at the routers of
 //! changed router-LSAs. A router with neither bit is not looked up in the tree.
+//!
+//! The index keeps the offers of an LSA, as they cannot be read after the LSA is removed. They are
+//! in ascending order without duplicates. So another order of the links in an LSA is no change, and
+//! no prefix has a source twice. The source of a prefix has the place of its vertex in the graph as
+//! a hint, and an entry has the place of its sources: usually only the entry itself is hashed.
+//!
+//! Contracts state the offers as a relation, not as a list, so that the parts of a loop compose.
 #![tactic(auto)]
 
 mod affected;

@@ -10,7 +10,6 @@
 //! sums modulo 255. `sum_of` returns the one checksum that fits and has no zero byte. `read` also
 //! accepts a 0 in place of a 255, unless both bytes are then 0: that means that there is no
 //! checksum.
-
 #![tactic(auto)]
 
 mod body_checks;

@@ -3,7 +3,6 @@
 //!
 //! The definitions are in `ospf_types`. The age that counts is the present age of an instance, not
 //! the age in its header: a database keeps the two apart.
-
 #![tactic(auto)]
 
 mod contents;

@@ -5,7 +5,6 @@
 //!
 //! An LSA at MaxAge, which is an age of exactly 3600 seconds, stays in the database until it is
 //! purged. It is not used in calculations, and a second does not age it further (14).
-
 #![tactic(auto)]
 
 mod contents;

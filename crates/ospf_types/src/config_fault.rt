@@ -22,6 +22,8 @@ const BACKBONE: u32 = 0;
 
 /// Returns the first fault of the configuration, in the order of `ConfigFault`, or `None` if it has
 /// no fault. The fault is never `Memory`.
+///
+/// A core is not opened for a configuration with a fault, and no recording has one.
 pub fn fault_in(config: &Config) -> Option<ConfigFault>
     ensures { result ≡ config_fault_of config.now }
 {

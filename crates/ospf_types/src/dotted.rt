@@ -1,4 +1,7 @@
 //! Addresses in dotted form, written from the last digit to the first.
+//!
+//! An address or network is printed in one piece. A line of changes has up to three, and each piece
+//! that is written costs more than its digits.
 ghost use Rattle.std.specs.Prelude.{◌≡◌, ◌+◌, ◌≤◌, ◌++◌, length, drop, codes, decimal};
 ghost use Rattle.ospf_types.specs.Text.{address_text};
 

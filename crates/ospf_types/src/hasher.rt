@@ -1,4 +1,12 @@
 //! The keys of the hash function, and the state of one hash.
+//!
+//! Anyone who may originate external routes chooses up to 65,536 networks, and with a fixed hash
+//! function could choose networks that collide. So the keys are drawn from the `RandomState` with
+//! which a core or an engine is opened. That strangers cannot predict collisions is an argument,
+//! not a proof. The function is not cryptographic: a cryptographic one would take three times the
+//! instructions, and exact timing of very many lookups might reveal the keys.
+//!
+//! Both published copies of a table share the keys. A table of another core has others.
 ghost use Rattle.std.specs.Prelude.{◌≡◌};
 ghost use Rattle.ospf_types.specs.Words.{folded, word_of, mixed, mixed_bytes, drawn, drawn_odd};
 
@@ -102,6 +110,9 @@ impl Hasher for WordHasher {
 
 // Under some keys, one product maps words at even distances to few places. A second product does
 // not.
+// This was simulated with 3,000 consecutive /24s and 8,000 keys: one product cost more than three
+// further slots a lookup under 2 keys of 100. Two products cost at most 0.4 on average under any
+// key.
 #[inline]
 fn mix(multiplier: u64, state: u64, word: u64) -> u64
     ensures { result ≡ mixed multiplier state word }

@@ -1,4 +1,7 @@
 //! A list that contracts see as its items.
+//!
+//! The vectors of public structs are of this type, so that a contract of `copy` can promise an
+//! equal value.
 ghost use Rattle.std.specs.Prelude.{◌≡◌, ◌↔◌, ◌≤◌, ◌<◌, [], ◌∷◌, ◌++◌, length, get_or};
 ghost use Rattle.std.specs.Prelude.{set as list_set, IsTrue, OnOk, OnErr, IfOk};
 ghost use Rattle.std.specs.List.{insert as list_insert, remove as list_remove};

@@ -12,7 +12,6 @@
 //!
 //! Hexadecimal fields of an LSA are printed from its bytes, in their order, so the printed digits
 //! are the encoding of those bytes.
-
 #![tactic(auto)]
 
 mod external;

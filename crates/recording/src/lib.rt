@@ -23,6 +23,29 @@
 //! read. `parse` stops at the first line with a fault, and returns the first fault of that line.
 //!
 //! `print` appends the text of a recording.
+//!
+//! Choices of the format, where several faults or spellings are possible:
+//!
+//! - A line that is neither an `area` nor a `range` line ends the header. The fault of a
+//!   configuration is on the last line of the header, so it comes before a fault of the next line.
+//!   If the next line is cut off, the fault is 50, as that line could have been part of the header.
+//! - A header has at least two lines, three in version 2 and four in version 3. The fault 50 is at
+//!   the next of them if the text ends before it.
+//! - From version 2 on, the third line gives RFC1583Compatibility, whatever its value. A `compat`
+//!   line has no form in version 1 (52), and is out of place on any other line (53).
+//! - The lines of version 3 have no form in versions 1 and 2. So the base of such a recording has
+//!   serial 0, no interfaces and no LSAs, and each recording has one text.
+//! - A version line after line 1 is 53 if it is of this version, and 52 if it is of another.
+//! - The scope of an LSA of the base is checked before its bytes are read, and its key afterwards:
+//!   53 for its scope comes before 54, and 54 before 53 for its key. A key or interface that is
+//!   listed twice is 53, as they must ascend.
+//! - 56 is at the first line whose base no events could have made. A line out of place is 53 even
+//!   if it also has a fault 56.
+//! - `install SCOPE ` without digits is an LSA of no bytes: 54 with 1 Length. Hexadecimal digits
+//!   are lower case.
+//!
+//! If memory runs out while a line is read, the fault is 30 at that line, and no line before it has
+//! a fault.
 #![tactic(auto)]
 
 mod base_lines;

@@ -59,6 +59,8 @@ impl Model for Recording {
 impl Recording {
     /// Creates a recording of this version from a base and the lines after it.
     ///
+    /// It allocates no memory.
+    ///
     /// Returns `None` if a rule of `Recording` does not hold: the base has a fault or is not in
     /// order, or the LS type in a key is not one of 1 to 5. The same holds if the version is 1 and
     /// RFC1583Compatibility is enabled, or if something needs version 3 and the version is 1 or 2.

@@ -23,6 +23,20 @@
 //!
 //! Vertices have hints to their distances and next hops. Memory is kept from one repair for the
 //! next.
+//!
+//! A tree is repaired even without changed links if its root was added to the graph or removed, as
+//! the root's own distance then changes.
+//!
+//! The number of vertices taken in a repair has bounds, and no exact value: the head of a changed
+//! least link is taken for its next hops, which may stay. The number of next-hop sets written is
+//! exact, and so are both numbers of a build. The links before a repair are the links of the graph
+//! with the changes undone, so `repair` needs no earlier graph.
+//!
+//! Sets of up to sixteen vertices are searched one by one. Larger ones are marked by place, and a
+//! mark counts only if the set has the vertex there, so a set is emptied without visiting its
+//! marks. The memory of a repair with more than 512 vertices is given back. The queue keeps its
+//! places, as an empty one would hash each vertex again. Places of removed vertices are dropped if
+//! there are more than twice as many places as vertices.
 #![tactic(auto)]
 
 mod gathering;

@@ -200,6 +200,8 @@ impl Tree {
 
     /// Returns the vertices whose distance or next hops the last repair changed, in ascending
     /// order.
+    ///
+    /// The list of a tree that was built, and not repaired since, is empty.
     pub fn changed(&self) -> &[Vertex]
         ensures { result.now ≡ self.now.changed }
     {

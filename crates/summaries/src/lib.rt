@@ -14,6 +14,13 @@
 //!    differences are the plan of the area, for which memory is reserved.
 //! 3. The plans are carried out without allocating. They are then the changes that the event made
 //!    (`DueChanges`).
+//!
+//! The plans are made before the routing table changes, and carried out afterwards without memory.
+//! So the table and the due summaries always reflect the same events. If no destination is affected
+//! there is no plan.
+//!
+//! No interface is read here. An entry through another area has no next hop into this one, because
+//! each next hop of an entry leaves over an interface of the entry's area. This is proved.
 #![tactic(auto)]
 
 mod affected;

@@ -11,7 +11,6 @@
 //!
 //! An entry keeps its place when its value is removed, so that a queue that is emptied keeps its
 //! places. `trim` removes such entries when there are many.
-
 #![tactic(auto)]
 
 mod hinted_vertex;
