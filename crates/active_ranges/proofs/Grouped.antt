@@ -1,5 +1,5 @@
 -- The members of ranges, by their ranges.
---   found: the cost of a member is that of its network in its range
+--   found: the cost of a member belongs to its network in its range
 --   changed_here, changed_elsewhere: a range that has other networks
 --   put_here, put_elsewhere: a member at another cost
 use Rattle.std.proofs.Common.{◌≡◌, ◌≢◌, ℕ, Bool, cond, true, false, not, List, [], ◌∷◌, ◌++◌, map, Option, Some, None, Ordering, refl, sym, ap, ◌∙◌, inl, inr}
@@ -34,7 +34,7 @@ range_exact a b h =
     ap (λ (t : Prefix × ℕ). let r : AreaRange = record { prefix = t.0; area = t.1 } in r)
     (exact_pairs network_cmp nat_cmp network_exact exact_unsigned (a.prefix, a.area) (b.prefix, b.area) h)
 
--- ---- a look-up in a list that two make
+-- ---- a lookup in a list that two make
 
 pub lookup_in_two : {K X : Type 0} (test : K → Bool) (xs ys : List (K × X)) → lookup test (xs ++ ys) ≡ option_or (lookup test xs) (lookup test ys)
 lookup_in_two test [] ys = refl

@@ -44,7 +44,7 @@ module _ (entries : EntriesByPrefix) (area : ℕ) (range : Prefix) (networks : L
     λ is. (more x).1 (inr (from_network x is)),
   )
 
--- where the cost of the network's entry is that of one through the area
+-- where the cost of the network's entry belongs to one through the area
 module _ (entries : EntriesByPrefix) (member : RangeMember) (looked : Option Entry) (held : looked ≡ get entries member.network) (found : Option ℕ) (costs : (cost : ℕ) → (found ≡ Some cost) ↔ IsCostIn looked member.area cost) where
   -- it is that cost alone
   pub within_by : (cost : ℕ) → found ≡ Some cost → Covers member.range member.network → (x : RangeMember × ℕ) → IsAddedWithin entries member x ↔ (x ≡ (member, cost))

@@ -23,7 +23,7 @@ module _ (networks : Networks) (b : Bool) (tells : IsTrue b ↔ (networks.entrie
   pub some_entries : b ≡ false → networks.entries ≢ []
   some_entries is none = let t : b ≡ true = tells.1 none in let wrong : true ≡ false = sym t ∙ is in cc
 
--- a look-up that finds nothing
+-- a lookup that finds nothing
 pub nothing_there : {A : Type 0} (o : Option A) → is_some o ≡ false → o ≡ None
 nothing_there None none = refl
 nothing_there (Some x) none = absurd (let wrong : true ≡ false = none in cc)

@@ -33,7 +33,7 @@ not_greater Greater b first second = first
 pub zero_least : (n : ℕ) → is_gt (nat_cmp 0 n) ≡ false
 zero_least n = grind arith
 
--- what stands first in an order decides
+-- what is first in an order decides
 pub not_first : (a b : Ordering) → is_gt (ordering_then a b) ≡ false → a ≢ Greater
 not_first a b is greater = let e : is_gt (ordering_then Greater b) ≡ false = subst (λ (o : Ordering). is_gt (ordering_then o b) ≡ false) greater is in cc
 

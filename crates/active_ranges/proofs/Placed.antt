@@ -1,5 +1,5 @@
 -- The networks of a range in their order: where one is, and what is left of them where it has another cost.
---   put_changed: by what stands before and after it
+--   put_changed: by what comes before and after it
 --   was_set, was_removed, was_inserted: by the place of the edit
 use Rattle.std.proofs.Common.{◌≡◌, ℕ, zero, suc, ◌+◌, ◌-◌, ◌<◌, Bool, cond, true, false, List, [], ◌∷◌, ◌++◌, map, length, take, drop, get_or, set, Option, Some, None, Ordering, Result, Ok, Err, IfOk, IfErr, refl, sym, ap, subst, ◌∙◌, inl, inr, add-one, arith}
 use Rattle.std.specs.declared.cmp.Ordering.TheVariants.{Less, Greater}
@@ -39,7 +39,7 @@ turned p q h = network_total.antisymm q p ∙ ap ordering_reverse h
 turned_back : (p q : Prefix) → network_cmp p q ≡ Greater → network_cmp q p ≡ Less
 turned_back p q h = network_total.antisymm q p ∙ ap ordering_reverse h
 
--- ---- by what stands before and after it
+-- ---- by what comes before and after it
 
 -- the network at this cost
 abbrev at_cost : Prefix → Option ℕ → Entries

@@ -1,5 +1,5 @@
 -- What a range that is set or dropped changes.
---   ranges_reconfigured: active ranges are those of the other areas
+--   ranges_reconfigured: active ranges belong to the other areas
 --   active_alike: other prefixes are active as before
 --   members_stay: members differ only where the network is named and lies in the range
 use Rattle.std.proofs.Common.{◌≡◌, ℕ, List, Option, Some, None, refl, sym, ap, subst, ◌∙◌, inl, inr}
@@ -51,7 +51,7 @@ module _ (before after : List AreaConfig) (area : ℕ) (range : Prefix) (differ 
         λ w. (w.0, w.1, w.2, w.3),
       )
 
-  -- and none where it is not
+  -- and `None` if it is not
   none_here : (IsConfigured after area range → ⊥) → (m : RangeMember) (cost : ℕ) → Contains members m → IsCostIn (get (empty {R = network_cmp}) m.network) m.area cost ↔ IsMember after entries m cost
   none_here absent m cost c =
       let is = (exact m).0 c in (

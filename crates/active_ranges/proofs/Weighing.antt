@@ -70,7 +70,7 @@ module _ (networks : Networks) (limit : ℕ) where
   pub weighed_all : (most : Option ℕ) (left : Entries) → left ≡ [] → AreWeighed most left → (n : ℕ) → (most ≡ Some n) ↔ IsGreatest IsCost n
   weighed_all most left none are = is_greatest IsCost most are.found (λ n is. elim (are.reached n is) [ inl r ↦ r | inr w ↦ absurd (no_element (w.0, n) (subst (λ (es : Entries). Contains es (w.0, n)) none w.1)) ])
 
--- ---- the costs of a range are those of its networks
+-- ---- the costs of a range belong to its networks
 
 greatest_alike : (P Q : ℕ → Type 0) → ((c : ℕ) → P c ↔ Q c) → (n : ℕ) → IsGreatest P n → IsGreatest Q n
 greatest_alike P Q alike n g = record { holds = (alike n).0 g.holds; greatest = λ m q. g.greatest m ((alike m).1 q) }

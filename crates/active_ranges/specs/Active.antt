@@ -51,7 +51,7 @@ pub record AreRangesOf (areas : List AreaConfig) (entries : EntriesByPrefix) (v 
   pub fresh : v.spent ≡ false
   pub members : (m : RangeMember) (cost : ℕ) → (get v.members m ≡ Some cost) ↔ IsMember areas entries m cost
 
--- the prefix is that of a range, of some area, that has a member
+-- the prefix belongs to a range, of some area, that has a member
 abbrev pub IsActiveIn : ActiveValue → Prefix → Type 0
 IsActiveIn v p = (m : RangeMember) × (cost : ℕ) × (get v.members m ≡ Some cost) × (m.range ≡ p)
 
@@ -59,7 +59,7 @@ IsActiveIn v p = (m : RangeMember) × (cost : ℕ) × (get v.members m ≡ Some 
 abbrev pub HasCost : ActiveValue → Prefix → ℕ → ℕ → Type 0
 HasCost v range area cost = (network : Prefix) × (get v.members (record { range = range; area = area; network = network }) ≡ Some cost)
 
--- the prefix is that of an active range either before or after
+-- the prefix belongs to an active range either before or after
 abbrev pub DiffersAt : ActiveValue → ActiveValue → Prefix → Type 0
 DiffersAt old new p = (IsActiveIn old p × (IsActiveIn new p → ⊥)) ⊎ ((IsActiveIn old p → ⊥) × IsActiveIn new p)
 
@@ -85,7 +85,7 @@ RangesDifferAt named before after = (area : ℕ) (r : Range) → (named ≡ Some
 abbrev pub IsWithin : EntriesByPrefix → ℕ → Prefix → Prefix → Type 0
 IsWithin entries area range network = (e : Entry) × (get entries network ≡ Some e) × (e.area ≡ Some area) × Covers range network
 
--- the ranges are those of an earlier configuration, which differs from this one only in the range that is named
+-- the ranges belong to an earlier configuration, which differs from this one only in the range that is named
 abbrev pub AreRangesButAt : ℕ × Prefix → List AreaConfig → EntriesByPrefix → ActiveValue → Type 0
 AreRangesButAt named areas entries v = (before : List AreaConfig) × AreRangesOf before entries v × RangesDifferAt (Some named) before areas
 

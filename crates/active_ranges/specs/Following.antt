@@ -84,7 +84,7 @@ pub record AreTakenIn (area : ℕ) (range : Prefix) (costs : List (RangeMember �
   pub none : (m : RangeMember) → m.range ≡ range → m.area ≡ area → ((c : ℕ) → Contains costs (m, c) → ⊥) → get new.members m ≡ None
   pub others : (m : RangeMember) → ((m.range ≡ range) × (m.area ≡ area) → ⊥) → get new.members m ≡ get old.members m
 
--- the area's range has no members, and the others are as they were
+-- the area's range has no members, and the others are unchanged
 pub record HasLeft (area : ℕ) (range : Prefix) (old new : ActiveValue) : Type 0 where
   pub spent : new.spent ≡ old.spent
   pub here : (m : RangeMember) → m.range ≡ range → m.area ≡ area → get new.members m ≡ None

@@ -42,7 +42,7 @@ pub record AreMadeOf (came : List (Prefix × ℕ)) (networks : Networks) : Type 
 
 -- ---- places among the networks
 
--- it stands at this place
+-- it is at this place
 pub record IsAt (es : List (Prefix × ℕ)) (network : Prefix) (at : ℕ) : Type 0 where
   pub in_range : at < length es
   pub here : (e : Prefix × ℕ) → (get_or es at e).0 ≡ network
@@ -63,7 +63,7 @@ member_in r x = (member_of r x.0, x.1)
 abbrev pub is_elsewhere : AreaRange → RangeMember → Bool
 is_elsewhere r m = not (is_at (range_cmp (range_of m)) r)
 
--- the members of all ranges (a range stands once; if one stood twice, its first networks would count)
+-- the members of all ranges (a range occurs once; if one occurred twice, its first networks would count)
 abbrev pub members_in : NetworksByRange → List (RangeMember × ℕ)
 members_in [] = []
 members_in (r ∷ rs) = map (member_in r.0) r.1.entries ++ filter (λ x. is_elsewhere r.0 x.0) (members_in rs)

@@ -1,4 +1,4 @@
--- When active ranges are those of the definitions.
+-- When active ranges are as defined.
 use Rattle.std.specs.Prelude.{◌≡◌, ◌↔◌, List, [], ◌∷◌}
 use Rattle.ospf_types.specs.declared.config.AreaConfig.{AreaConfig}
 use Rattle.ospf_types.specs.declared.prefix.Prefix.{Prefix}

@@ -22,7 +22,7 @@ use Rattle.advertised_index.proofs.Groups.{Member}
 -- ---- the members of one group
 
 module _ (routes : AdvertisedByKey) (ms : List Member) (i : OfferIndexValue) (is : record { routes = routes } ≡ i) (are : AreMembersOf routes ms) where
-  -- a key of a group stands in it
+  -- a key of a group is in it
   pub listed_there : (group : IndexKey) (k : Key) → IsInGroup i group k → Contains ms (group, k)
   listed_there group k in_group = (are (group, k)).1 (in_group.0, ap (λ (j : OfferIndexValue). get j.routes k) is ∙ in_group.1, in_group.2)
 
@@ -82,7 +82,7 @@ module _ {X : Type 0} (R : Key → X → Type 0) where
         elim h [ inl was ↦ back (inl was) | inr p ↦ back (inr (complete x p)) ],
   )
 
--- in one group no key stands twice
+-- in one group no key occurs twice
 pub keys_apart : (group : IndexKey) (all : List Member) → ((m : Member) → Contains all m → m.0 ≡ group) → AllPairs (λ m n. m ≢ n) all → AllPairs (λ j k. j ≢ k) (map (λ (m : Member). m.1) all)
 keys_apart group all in_group apart a b d lt within =
     let long = length-map all (λ (m : Member). m.1) in

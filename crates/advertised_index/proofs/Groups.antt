@@ -1,4 +1,4 @@
--- The derived order of the members of groups, and what stands between two groups.
+-- The derived order of the members of groups, and what is between two groups.
 use Rattle.std.proofs.Common.{◌≡◌, ℕ, ◌≤◌, true, Ordering, refl, sym, ap, subst, ◌∙◌, arith}
 use Rattle.std.specs.declared.cmp.Ordering.TheVariants.{Less, Equal, Greater}
 use Rattle.std.specs.Ordering.{ordering_then, ordering_reverse, is_le}

@@ -34,7 +34,7 @@ module _ (k : Key) (o : Option AdvertisedValue) where
         let same : a ≡ of.0 = cc in
         each_group P k a to by forwarded g (subst (λ (b : AdvertisedValue). IsOfGroup g k b) (sym same) of.2)
 
-    -- its key stands in each group
+    -- its key is in each group
     pub listed_in_all : (ms : List Member) → Contains ms (To a.dest, k) → Contains ms (By k.router, k) → (0 < a.forwarding → Contains ms (Forwarded a.forwarding, k)) → (m : Member) → IsMemberBy o k m → Contains ms m
     listed_in_all ms to by forwarded m by_route =
         subst (λ (j : Key). Contains ms (m.0, j)) (sym by_route.0) (of_each (λ g. Contains ms (g, k)) to by forwarded m.0 by_route.1)

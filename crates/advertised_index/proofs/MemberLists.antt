@@ -85,7 +85,7 @@ module _ {K : Type 0} (cmp : K → K → Ordering) where
         ]
       ] c
 
-  -- no key stands twice in order, where each ties with itself and with no other
+  -- no key occurs twice in order, where each ties with itself and with no other
   pub apart_in_order : CmpEqualImpliesEq cmp → ((k : K) → cmp k k ≡ Equal) → (xs : List K) → IsStrictlySortedBy cmp xs → AllPairs (λ x y. x ≢ y) xs
   apart_in_order exact ties xs order =
       AllPairs-from_IsDistinct (λ (a b : K). (λ tied. tells_apart exact a b tied, λ same. subst (λ (z : K). eq_by_cmp cmp a z ≡ true) same (ap is_eq (ties a)))) xs (IsDistinct-from_sorted cmp xs order)

@@ -35,7 +35,7 @@ IsAlikeAt old new k = get new.routes k ≡ get old.routes k
 abbrev pub AreAlikeBut : Key → OfferIndexValue → OfferIndexValue → Type 0
 AreAlikeBut key old new = (k : Key) → k ≢ key → IsAlikeAt old new k
 
--- the index is that of the database
+-- the index belongs to the database
 abbrev pub IsIndexOf : ℕ → Scope → Database → OfferIndexValue → Type 0
 IsIndexOf root scope d i = (k : Key) → get i.routes k ≡ advertised_at root scope k (body_at d k)
 
@@ -43,7 +43,7 @@ IsIndexOf root scope d i = (k : Key) → get i.routes k ≡ advertised_at root s
 abbrev pub LsasDifferAmong : List (Scope × Key) → Scope → Database → Database → Type 0
 LsasDifferAmong keys scope before after = (k : Key) → (Contains keys (scope, k) → ⊥) → body_at after k ≡ body_at before k
 
--- the index is that of an earlier database, which differs from this one only in the LSAs that are named
+-- the index belongs to an earlier database, which differs from this one only in the LSAs that are named
 abbrev pub IsIndexBehind : ℕ → Scope → List (Scope × Key) → Database → OfferIndexValue → Type 0
 IsIndexBehind root scope keys d i = (before : Database) × IsIndexOf root scope before i × LsasDifferAmong keys scope before d
 

@@ -24,7 +24,7 @@ NotesNoMore old new = (g : IndexKey) → IsNoted new g → IsNoted old g
 abbrev pub NotesAtMost : IndexKey → KnownKeys → KnownKeys → Type 0
 NotesAtMost group old new = (g : IndexKey) → IsNoted new g → IsNoted old g ⊎ (g ≡ group)
 
--- some key stands in the group
+-- some key is in the group
 abbrev pub HasKey : List (IndexKey × Key) → IndexKey → Type 0
 HasKey members g = (k : Key) × Contains members (g, k)
 

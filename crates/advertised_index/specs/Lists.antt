@@ -2,11 +2,11 @@
 use Rattle.std.specs.Prelude.{ℕ, ◌≡◌, ◌≢◌, ◌⊎◌, ◌↔◌, ◌≤◌, ◌++◌, List, Contains}
 use Rattle.std.specs.List.{AllPairs}
 
--- the list has what it had and, beside it, just these
+-- the list has what it had and, next to it, just these
 abbrev pub HasMore : {A : Type 0} → (A → Type 0) → List A → List A → Type 0
 HasMore {A} more before after = (x : A) → Contains after x ↔ (Contains before x ⊎ more x)
 
--- behind what it had, it has a list in which nothing stands twice
+-- after what it had, it has a list in which nothing occurs twice
 abbrev pub HasMoreOnce : {A : Type 0} → List A → List A → Type 0
 HasMoreOnce {A} before after = (added : List A) × (after ≡ before ++ added) × AllPairs (λ j k. j ≢ k) added
 

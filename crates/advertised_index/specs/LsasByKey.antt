@@ -62,6 +62,6 @@ AreAllBetween first last members found = (m : IndexKey × Key) → Contains foun
 abbrev pub AreRoutesAlikeBut : Key → Results Key AdvertisedValue → Results Key AdvertisedValue → Type 0
 AreRoutesAlikeBut key old new = (k : Key) → k ≢ key → result_at key_cmp new k ≡ result_at key_cmp old k
 
--- each key stands in the groups that its route is of, and nothing else stands there
+-- each key is in the groups that its route is of, and nothing else is there
 abbrev pub AreMembersOf : AdvertisedByKey → List (IndexKey × Key) → Type 0
 AreMembersOf routes members = (m : IndexKey × Key) → Contains members m ↔ IsOf (get routes m.1) m.1 m.0

@@ -1,4 +1,4 @@
--- The graph of an area follows its database: what is not named keeps what stands for it, and what is named is handed in.
+-- The graph of an area follows its database: what is not named keeps what represents it, and what is named is given.
 use Rattle.std.proofs.Common.{◌≡◌, ◌≢◌, ℕ, ◌<◌, ◌≤◌, true, List, [], ◌∷◌, length, map, get_or, Option, Some, None, refl, sym, ap, subst, ◌∙◌, inl, inr, ⊎_elim, is_some, arith}
 use Rattle.std.specs.Prelude.{◌↔◌, Contains, IsSome, option_map, option_and_then}
 use Rattle.std.specs.FinMap.{get, empty, get-empty, keys, len, entries, len-entries, contains_key-keys}
@@ -56,7 +56,7 @@ graph_same d v w ends networks is = record {
   leads = λ u. let l = is.leads u in (l.0, l.1, subst (LeadsBy u l.0) (ap (λ es. get es u) (sym ends)) l.2);
 }
 
--- ---- what is handed in for each vertex
+-- ---- what is given for each vertex
 
 pub standing_of : (d : Database) (vs : List Vertex) (hs : List Handed) → AreStanding d vs hs → (v : Vertex) → Contains vs v → (body : Option Body) × Contains hs (v, body) × IsStanding d v body
 standing_of d [] hs all v c = absurd (no_element v c)
@@ -86,7 +86,7 @@ names_are d [] (h ∷ hs) all = absurd all
 names_are d (v ∷ vs) [] all = absurd all
 names_are d (v ∷ vs) (h ∷ hs) all = λ i. all.0 i ∷ names_are d vs hs all.2 i
 
--- no vertex is handed in twice
+-- no vertex is given twice
 pub apart_handed : (d : Database) (vs : List Vertex) (hs : List Handed) → IsStrictlySortedBy vertex_cmp vs → AreStanding d vs hs → AreApartHanded hs
 apart_handed d vs hs sorted all = λ i j first less within same.
     let first_of : Handed → Vertex = λ h. h.0 in
@@ -143,7 +143,7 @@ module _ (before after : Database) (changed : List Key) (differ : DifferAmong be
       leads_handed w None c = replaced.away w c
       leads_handed w (Some body) c = let there = replaced.there w body c in subst (LeadsBy w (Some body)) (sym there.1) there.2
 
-      -- the graph is that of the database after
+      -- the graph belongs to the database after
       pub graph_after : (networks : List (ℕ × ℕ)) → AreNetworksOf after networks → IsGraphOf after (record { graph = new; networks = networks })
       graph_after networks are = record {
         networks = are;

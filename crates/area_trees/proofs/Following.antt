@@ -22,7 +22,7 @@ network_or_other key id router = elim (cases_eq key.kind 2) [
 network_key_is : (key : Key) (id router : ℕ) → (key.kind ≡ 2) × (key.id ≡ id) × (key.router ≡ router) → key ≡ network_key id router
 network_key_is key id router h = λ i. record { kind = h.0 i; id = h.1 i; router = h.2 i }
 
--- the network-LSAs are those of the database, but for these keys
+-- the network-LSAs belong to the database, but for these keys
 abbrev pub AreRightBut : Database → List Key → List (ℕ × ℕ) → Type 0
 AreRightBut d left networks = (id router : ℕ) → (Contains left (network_key id router) → ⊥) → Contains networks (id, router) ↔ IsUsed d (network_key id router)
 

@@ -22,13 +22,13 @@ module _ (d : Database) (networks : List (ℕ × ℕ)) (are : AreNetworksOf d ne
   pub greatest_stands : (router : ℕ) (body : Option Body) → IsGreatest networks id router → body ≡ body_at d (network_key id router) → IsStanding d (Network id) body
   greatest_stands router body greatest is = inl (router, greatest_of router greatest, is)
 
--- one more vertex with what stands for it
+-- one more vertex with what represents it
 pub standing_push : (d : Database) (vs : List Vertex) (hs : List Handed) (v : Vertex) (body : Option Body) → AreStanding d vs hs → IsStanding d v body → AreStanding d (vs ++ v ∷ []) (hs ++ (v, body) ∷ [])
 standing_push d [] [] v body all one = (refl, one, cc)
 standing_push d [] (h ∷ hs) v body all one = absurd all
 standing_push d (w ∷ vs) [] v body all one = absurd all
 standing_push d (w ∷ vs) (h ∷ hs) v body all one = (all.0, all.1, standing_push d vs hs v body all.2 one)
 
--- what is handed in with one more
+-- what is given with one more
 pub handed_push : (hs : List (Vertex × Option (Bor Checked))) (v : Vertex) (lsa : Option (Bor Checked)) → handed_of (hs ++ (v, lsa) ∷ []) ≡ handed_of hs ++ (v, option_map (λ (l : Bor Checked). l.now.body) lsa) ∷ []
 handed_push hs v lsa = map-append (λ (p : Vertex × Option (Bor Checked)). let h : Handed = (p.0, option_map (λ (l : Bor Checked). l.now.body) p.1) in h) hs ((v, lsa) ∷ [])

@@ -1,4 +1,4 @@
--- The LSAs of a database: each stands under a key, and what is used of it is its body where it is usable.
+-- The LSAs of a database: each is under a key, and what is used of it is its body where it is usable.
 use Rattle.std.proofs.Common.{◌≡◌, ℕ, ◌<◌, Bool, true, false, cond, T, List, [], ◌∷◌, Option, Some, None, Ordering, refl, sym, ap, ◌∙◌, ⊎_elim, arith}
 use Rattle.std.specs.Prelude.{◌&&◌, nat_lt, option_and_then}
 use Rattle.std.specs.declared.cmp.Ordering.TheVariants.{Less, Equal, Greater}
@@ -55,7 +55,7 @@ module _ {K X : Type 0} {R : K → K → Ordering} (o : IsTotalOrder R) where
 
 -- ---- LSAs
 
--- an LSA of a database stands under some key
+-- an LSA of a database is under some key
 pub under_key : (d : Database) (l : Lsa) → Contains (values d) l → (k : Key) × (get d k ≡ Some l)
 under_key d l h =
     let w = Contains-from_values_of (entries d) l h in
@@ -84,7 +84,7 @@ used_from (Some l) b e =
       | false ↦ λ t is. absurd cc
     ] refl e
 
--- a body that is used is that of a usable LSA under the key
+-- a body that is used belongs to a usable LSA under the key
 pub held_by : (d : Database) (key : Key) (b : Body) → body_at d key ≡ Some b → (l : Lsa) × (get d key ≡ Some l) × IsUsable l × (l.body ≡ b)
 held_by d key b e = used_from (get d key) b e
 

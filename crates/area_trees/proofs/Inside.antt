@@ -1,4 +1,4 @@
--- The graph and tree of an area are those of the definitions: its vertices, links, distances and next hops (RFC 2328, 16.1).
+-- The graph and tree of an area are as defined: its vertices, links, distances and next hops (RFC 2328, 16.1).
 use Rattle.std.proofs.Common.{◌≡◌, ℕ, List, Option, Some, None, refl, sym, ap, subst, ◌∙◌, inl, inr}
 use Rattle.std.specs.Prelude.{◌↔◌}
 use Rattle.std.specs.FinMap.{get}
@@ -33,7 +33,7 @@ use Rattle.area_trees.proofs.Held.{under_key, among_values, held_by, used_of}
 use Rattle.area_trees.proofs.Leading.{leads_some, some_leads, named_there, link_there, link_named, end_at, end_there, details_there, addresses_there, router_there, router_named, IsTo}
 use Rattle.area_trees.proofs.Standing.{there, is_there, one_standing, used_network, some_router, some_network}
 
--- a router-LSA stands under its router's own key
+-- a router-LSA is under its router's own key
 router_key_is : (l : Lsa) (router flags : ℕ) (links : List RouterLink) → IsLegal l → l.header.router ≡ router → l.body ≡ RouterLinks flags links → key_of l ≡ router_key router
 router_key_is l router flags links legal by is =
     let kind : l.header.kind ≡ 1 = legal.kind ∙ ap kind_of is in
@@ -51,7 +51,7 @@ network_key_is l id advertiser mask routers legal at by is =
 
 -- a vertex has its ends in order, and a network leads only to routers
 module _ {d : Database} {v : AreaGraphValue} (is : IsGraphOf d v) where
-  -- where a vertex leads by what stands for it
+  -- where a vertex leads by what represents it
   led : (w : Vertex) (b : Body) → IsStanding d w (Some b) → (ends : List LinkEnd) × (get v.graph.ends w ≡ Some ends) × AreEnds w b ends
   led w b stands =
       let at = is.leads w in
@@ -75,7 +75,7 @@ module _ {d : Database} {v : AreaGraphValue} (is : IsGraphOf d v) where
 -- ---- an area
 
 module _ {s : Inputs} {a : Area} {d : Database} {ups : List Up} (area : IsAreaOf s a d ups) where
-  -- an LSA of the area stands under its own key
+  -- an LSA of the area is under its own key
   held_in : (l : Lsa) → Contains a.lsas l → get d (key_of l) ≡ Some l
   held_in l h =
       let w = under_key d l (subst (λ (ls : List Lsa). Contains ls l) area.lsas h) in
@@ -296,7 +296,7 @@ module _ {s : Inputs} {a : Area} {d : Database} {ups : List Up} (area : IsAreaOf
     link_in (Network from) (Network to) ends back cost label here at taken = absurd taken
 
   module _ {t : AreaTreeValue} (is : IsAreaTree s.router d ups t) where
-    -- root and interfaces of the graph are those of the area
+    -- root and interfaces of the graph belong to the area
     given : (x y : Vertex) (ends back : List LinkEnd) (cost : ℕ) (label : Label) → IsPairLink t.area.graph.root t.area.graph.interfaces x ends y back cost label → IsPairLink s.router ups x ends y back cost label
     given x y ends back cost label taken =
         subst (λ (r : ℕ). IsPairLink r ups x ends y back cost label) is.root_is (subst (λ (us : List Up). IsPairLink t.area.graph.root us x ends y back cost label) is.interfaces taken)
@@ -305,7 +305,7 @@ module _ {s : Inputs} {a : Area} {d : Database} {ups : List Up} (area : IsAreaOf
     kept x y ends back cost label taken =
         subst (λ (us : List Up). IsPairLink t.area.graph.root us x ends y back cost label) (sym is.interfaces) (subst (λ (r : ℕ). IsPairLink r ups x ends y back cost label) (sym is.root_is) taken)
 
-    -- the links of the graph are those of the area
+    -- the links of the graph belong to the area
     pub links_in : SameLinks (LinksOf t.area.graph) (IsLink s a)
     links_in from to cost label = (
       λ taken.
@@ -328,13 +328,13 @@ module _ {s : Inputs} {a : Area} {d : Database} {ups : List Up} (area : IsAreaOf
           (0, _, (at.0, ap (λ (r : ℕ). get t.area.graph.ends (Router r)) is.root_is ∙ at.1, refl, refl)),
     )
 
-    -- so the tree is that of the area
+    -- so the tree belongs to the area
     pub tree_in : IsTree (IsLink s a) s.router (IsVertex a (Router s.router)) (get t.tree.distances) (hops_of t.tree.hops)
     tree_in =
         tree_same s.router links_in root_in (get t.tree.distances) (hops_of t.tree.hops)
         (subst (λ (r : ℕ). IsTree (LinksOf t.area.graph) r (HasRoot t.area.graph) (get t.tree.distances) (hops_of t.tree.hops)) is.root_is is.tree.tree)
 
-    -- its distances and next hops are those of the area
+    -- its distances and next hops belong to the area
     pub distance_in : (v : Vertex) (n : ℕ) → IsDistanceIn s a v n ↔ (get t.tree.distances v ≡ Some n)
     distance_in v n = (λ at. value_at tree_in.distances v n at, λ at. tree_in.distances.right v n at)
 

@@ -53,14 +53,14 @@ module _ {d : Database} (sound : IsSound d) where
   pub used_network : (n advertiser : ℕ) (b : Body) → body_at d (network_key n advertiser) ≡ Some b → (mask : ℕ) × (routers : List ℕ) × (b ≡ NetworkLinks mask routers)
   used_network n advertiser b e = network_body b (kind_at (network_key n advertiser) b e)
 
-  -- what stands for a router is the body of a router-LSA, if anything
+  -- what represents a router is the body of a router-LSA, if anything
   pub standing_router : (r : ℕ) (body : Option Body) → IsStanding d (Router r) body → (body ≡ None) ⊎ ((flags : ℕ) × (links : List RouterLink) × (body ≡ Some (RouterLinks flags links)))
   standing_router r None stands = inl refl
   standing_router r (Some b) stands =
       let w = used_router r b (sym stands) in
       inr (w.0, w.1, ap Some w.2)
 
-  -- what stands for a network is the body of a network-LSA, if anything
+  -- what represents a network is the body of a network-LSA, if anything
   pub standing_network : (n : ℕ) (body : Option Body) → IsStanding d (Network n) body → (body ≡ None) ⊎ ((mask : ℕ) × (routers : List ℕ) × (body ≡ Some (NetworkLinks mask routers)))
   standing_network n None stands = inl refl
   standing_network n (Some b) (inr none) = inl none.1

@@ -1,4 +1,4 @@
--- The work of a change of graph and tree is that of the links before and after, as the definitions give them.
+-- The work of a change of graph and tree belongs to the links before and after, as the definitions give them.
 use Rattle.std.proofs.Common.{◌≡◌, ℕ, ◌+◌, ◌*◌, ◌≢◌, ◌≤◌, List, length, sym, subst, ◌∙◌, inl, inr}
 use Rattle.std.specs.Prelude.{◌↔◌}
 use Rattle.std.specs.FinMap.{get}
@@ -94,7 +94,7 @@ module _ {A B C D : Links} (one : SameLinks A C) (other : SameLinks B D) where
         (λ g. let w = e.0 g in (y.0 w.0, λ c. w.1 (x.1 c)), λ w. e.1 (y.1 w.0, λ a. w.1 (x.0 a)));
   }
 
--- ---- a change of a graph and its tree, over links that are those of the graph before and after
+-- ---- a change of a graph and its tree, over links that belong to the graph before and after
 
 other_than_root : (r root : ℕ) → r ≡ root → (v : Vertex) → v ≢ Router root → v ≢ Router r
 other_than_root r root is v = subst (λ (n : ℕ). v ≢ Router n) (sym is)
@@ -161,7 +161,7 @@ module _ {was g : GraphValue} {before : Links} {gone come : List Link} (same_bef
       (root_is : g.root ≡ root) (same_after : SameLinks (LinksOf g) after) (same_root : HasRoot g ↔ has_root)
       (tree_before : IsTree before root had_root (get old.distances) (hops_of old.hops)) (tree_after : IsTree after root has_root (get new.distances) (hops_of new.hops))
       (bounded : IsBounded g gone come old taken hop_sets) (work : IsWorkDone g old new taken hop_sets) (had_hop : (v : Vertex) → IsReachedIn g old v → (h : NextHop) × hops_of old.hops v h) where
-    -- the work is that of the links before and after
+    -- the work belongs to the links before and after
     work_over : IsWorkOf root before after had_root has_root taken hop_sets
     work_over = record {
       gone = gone;
@@ -190,7 +190,7 @@ module _ {was g : GraphValue} {before : Links} {gone come : List Link} (same_bef
 
 module _ {s other : Inputs} {a b : Area} {d e : Database} {ups others : List Up} {old new : AreaTreeValue} {taken hop_sets : ℕ}
     (area : IsAreaOf s a d ups) (is : IsAreaTree s.router d ups old) (area_after : IsAreaOf other b e others) (is_after : IsAreaTree other.router e others new) (one_root : s.router ≡ other.router) where
-  -- the work of a change of an area's graph and tree is that of the area's links
+  -- the work of a change of an area's graph and tree belongs to the area's links
   pub work_in : IsWorkBounded old new taken hop_sets → IsWorkDone new.area.graph old.tree new.tree taken hop_sets
       → IsWorkOf s.router (IsLink s a) (IsLink other b) (IsVertex a (Router s.router)) (IsVertex b (Router other.router)) taken hop_sets
   work_in bounded work =

@@ -47,13 +47,13 @@ AddsVertexOf key old new = new ≡ old ++ option_to_list (vertex_of key)
 abbrev pub DifferAmong : Database → Database → List Key → Type 0
 DifferAmong before after keys = (key : Key) → (Contains keys key → ⊥) → body_at after key ≡ body_at before key
 
--- ---- what stands for a vertex
+-- ---- what represents a vertex
 
 -- the usable network-LSAs, each by its Link State ID and its Advertising Router
 abbrev pub AreNetworksOf : Database → List (ℕ × ℕ) → Type 0
 AreNetworksOf d networks = (id router : ℕ) → Contains networks (id, router) ↔ IsUsed d (network_key id router)
 
--- the networks are those of a database that differs from this one at most in the LSAs under these keys
+-- the networks belong to a database that differs from this one at most in the LSAs under these keys
 abbrev pub AreNetworksBut : Database → List Key → List (ℕ × ℕ) → Type 0
 AreNetworksBut d keys networks = (before : Database) × AreNetworksOf before networks × DifferAmong before d keys
 
@@ -74,7 +74,7 @@ IsGreatest networks id router = Contains networks (id, router) × ((other : ℕ)
 abbrev pub IsGreatestOf : Database → ℕ → ℕ → Type 0
 IsGreatestOf d id router = IsUsed d (network_key id router) × ((other : ℕ) → IsUsed d (network_key id other) → other ≤ router)
 
--- The body of the LSA that stands for the vertex, none if the vertex is not there. For a transit network it is that of the greatest Advertising Router.
+-- The body of the LSA that stands for the vertex, or `None` if the vertex is not there. For a transit network it belongs to the greatest Advertising Router.
 abbrev pub IsStanding : Database → Vertex → Option Body → Type 0
 IsStanding d (Router router) body = body ≡ body_at d (router_key router)
 IsStanding d (Network id) body =
@@ -86,7 +86,7 @@ abbrev pub IsStandingKey : Database → Vertex → Key → Type 0
 IsStandingKey d (Router router) key = key ≡ router_key router
 IsStandingKey d (Network id) key = (router : ℕ) × IsGreatestOf d id router × (key ≡ network_key id router)
 
--- each of these vertices with what stands for it
+-- each of these vertices with what represents it
 abbrev pub AreStanding : Database → List Vertex → List Handed → Type 0
 AreStanding d [] [] = Unit {0}
 AreStanding d [] (h ∷ hs) = ⊥
@@ -109,12 +109,12 @@ pub record AreaGraphValue : Type 0 where
   pub graph : GraphValue
   pub networks : List (ℕ × ℕ)
 
--- the graph is that of the database
+-- the graph belongs to the database
 pub record IsGraphOf (d : Database) (v : AreaGraphValue) : Type 0 where
   pub networks : AreNetworksOf d v.networks
   pub leads : (w : Vertex) → (body : Option Body) × IsStanding d w body × LeadsBy w body (get v.graph.ends w)
 
--- the graph is that of a database that differs from this one at most in the LSAs under these keys
+-- the graph belongs to a database that differs from this one at most in the LSAs under these keys
 abbrev pub IsGraphBut : Database → List Key → AreaGraphValue → Type 0
 IsGraphBut d keys v = (before : Database) × IsGraphOf before v × DifferAmong before d keys
 
@@ -123,7 +123,7 @@ pub record AreaTreeValue : Type 0 where
   pub tree : TreeValue
   pub spent : Bool
 
--- graph and tree are those of the database and of these interfaces, for this root
+-- graph and tree belong to the database and to these interfaces, for this root
 pub record IsAreaTree (root : ℕ) (d : Database) (ups : List Up) (v : AreaTreeValue) : Type 0 where
   pub graph : IsGraphOf d v.area
   pub root_is : v.area.graph.root ≡ root
@@ -131,23 +131,23 @@ pub record IsAreaTree (root : ℕ) (d : Database) (ups : List Up) (v : AreaTreeV
   pub tree : IsTreeOf v.area.graph v.tree
   pub fresh : v.spent ≡ false
 
--- graph and tree are those of some database and interfaces, for some root
+-- graph and tree belong to some database and interfaces, for some root
 abbrev pub IsTreeOfSome : AreaTreeValue → Type 0
 IsTreeOfSome v = (root : ℕ) × (d : Database) × (ups : List Up) × IsAreaTree root d ups v
 
--- graph and tree are those of the database, for some root and interfaces
+-- graph and tree belong to the database, for some root and interfaces
 abbrev pub IsTreeIn : Database → AreaTreeValue → Type 0
 IsTreeIn d v = (root : ℕ) × (ups : List Up) × IsAreaTree root d ups v
 
--- graph and tree are those of a database that differs from this one at most in the LSAs under these keys
+-- graph and tree belong to a database that differs from this one at most in the LSAs under these keys
 abbrev pub IsTreeBut : Database → List Key → AreaTreeValue → Type 0
 IsTreeBut d keys v = (root : ℕ) × (before : Database) × (ups : List Up) × IsAreaTree root before ups v × DifferAmong before d keys
 
--- graph and tree are those of this database now, for the root and the interfaces that they were for
+-- graph and tree belong to this database now, for the root and the interfaces that they were for
 abbrev pub FollowsLsas : Database → AreaTreeValue → AreaTreeValue → Type 0
 FollowsLsas d old new = (root : ℕ) (before : Database) (ups : List Up) → IsAreaTree root before ups old → IsAreaTree root d ups new
 
--- graph and tree are those of these interfaces now, for the root and the database that they were for
+-- graph and tree belong to these interfaces now, for the root and the database that they were for
 abbrev pub FollowsInterfaces : List Up → AreaTreeValue → AreaTreeValue → Type 0
 FollowsInterfaces now old new = (root : ℕ) (d : Database) (ups : List Up) → IsAreaTree root d ups old → IsAreaTree root d now new
 
@@ -155,11 +155,11 @@ FollowsInterfaces now old new = (root : ℕ) (d : Database) (ups : List Up) → 
 abbrev pub NamesChanged : AreaTreeValue → AreaTreeValue → Type 0
 NamesChanged old new = AreChanged old.tree new.tree new.tree.changed
 
--- the tree that was built is that of the database and of these interfaces, for this root
+-- the tree that was built belongs to the database and to these interfaces, for this root
 abbrev pub IsBuiltFor : ℕ → Database → List Up → AreaTreeValue × Touched → Type 0
 IsBuiltFor root d ups built = IsAreaTree root d ups built.0
 
--- the work of building is that of the whole tree
+-- the work of building belongs to the whole tree
 abbrev pub IsBuiltByWork : AreaTreeValue × Touched → Type 0
 IsBuiltByWork built = IsWorkForAll built.0.area.graph built.0.tree built.1.taken built.1.hop_sets
 

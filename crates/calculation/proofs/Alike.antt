@@ -128,7 +128,7 @@ module _ (s t : State) (looks : LooksAlike s t) where
   abbrev over : List AreaTreeValue → List AreaConfig → InputsValue
   over trees areas = record { root = t.config.router; areas = areas_with t areas trees; interfaces = entries t.interfaces }
 
-  -- the routes of the one are those of the other
+  -- the routes of the one belong to the other
   intra_alike : (trees : List AreaTreeValue) (w : IntraValue) → IsIntraOf (inputs_with s trees) w → IsIntraOf (inputs_with t trees) w
   intra_alike trees w is =
       subst (λ (areas : List AreaConfig). IsIntraOf (over trees areas) w) (sym areas_same) (record {

@@ -1,6 +1,6 @@
 -- States that look alike have the same routes in the layers above intra-area routes, too.
 --   bodies_alike: the LSAs of each scope are used alike
---   inter_alike: inter-area routes of the one are those of the other
+--   inter_alike: inter-area routes of the one belong to the other
 --   external_alike: and so are external routes
 use Rattle.std.proofs.Common.{◌≡◌, ℕ, List, map, Option, Some, None, refl, sym, ap, subst, ◌∙◌, inl, inr}
 use Rattle.std.specs.Prelude.{◌↔◌, Bool, option_map}

@@ -43,7 +43,7 @@ use Rattle.route_layers.proofs.OtherRanges.{any_ranges}
 use Rattle.route_layers.proofs.Above.{kept_ids, inter_differ, external_differ}
 use Rattle.calculation.proofs.Staying.{networks_stay, routers_stay, ranges_stay, inter_stays, external_stays, preferred_stays}
 
--- an item is that of the same entry, and of what is active alike
+-- an item belongs to the same entry, and of what is active alike
 item_same : (entry other : Option Entry) (active also : Type 0) → other ≡ entry → (active → also) → (also → active) → (item : Option Item) → IsItem entry active item → IsItem other also item
 item_same entry other active also same there back None is = (same ∙ is.0, λ a. is.1 (back a))
 item_same entry other active also same there back (Some (Route e)) is = same ∙ is

@@ -1,4 +1,4 @@
--- The members that a named range has, or had, are those of the range that was said.
+-- The members that a named range has, or had, belong to the range that was said.
 use Rattle.std.proofs.Common.{◌≡◌, ℕ, List, Option, Some, sym, subst, ◌∙◌}
 use Rattle.std.specs.Prelude.{◌↔◌, Contains}
 use Rattle.ospf_types.specs.declared.prefix.Prefix.{Prefix}

@@ -1,6 +1,6 @@
 -- What is due by what is kept of a state.
 --   due_right: it is what the definitions say
---   due_alike: it is that of a state that looks alike
+--   due_alike: it belongs to a state that looks alike
 --   due_before: what it rests on differs in no more than is named
 use Rattle.std.proofs.Common.{◌≡◌, ℕ, List, [], ◌∷◌, map, Some, refl, sym, ap, subst, ◌∙◌}
 use Rattle.std.specs.Prelude.{◌↔◌, IsTrue}

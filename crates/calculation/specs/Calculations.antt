@@ -32,7 +32,7 @@ pub record CalculationValue : Type 0 where
 
 -- ---- the layers above intra-area routes
 
--- what is kept is that of the state, whose databases are fit, and its routes are those of the definitions
+-- what is kept belongs to the state, whose databases are fit, and its routes are as defined
 pub record IsCalculationOf (s : State) (c : CalculationValue) : Type 0 where
   pub fit : AreFit s.config.areas s.databases
   pub trees : AreTreesOf s s.config.areas c.trees

@@ -44,7 +44,7 @@ sound_now s r built kept =
 step_runs : (s : State) (e : Event) → s ≡ run_of s.base s.limits s.journal → step s e ≡ run_of s.base s.limits (s.journal ++ e ∷ [])
 step_runs s e run = ap (λ (t : State). step t e) run ∙ sym (run_append _ s.journal (e ∷ []))
 
--- no event was taken, and the routes are those of the opening state
+-- no event was taken, and the routes belong to the opening state
 pub kept_open : (base : Base) (limits : Limits) (s : State) (r : RoutesValue) → s ≡ opening base limits → base_fault_of limits base ≡ None → limits.area_lsas ≤ max_routers → AreRoutesOf s r → IsCoherent s r 0
 kept_open base limits s r is sound few are =
     let first : State = opening base limits in
@@ -82,7 +82,7 @@ rolls s u r built b kept is since_is again =
       due_changes = refl;
     }
 
--- an event more, and table and due summaries are as they were, whatever else is kept
+-- an event more, and table and due summaries are unchanged, whatever else is kept
 pub kept_behind : (s : State) (r new : RoutesValue) (built : ℕ) (e : Event) → IsCoherent s r built → refusal_of s e ≡ None → new.table ≡ r.table → lists_of new.summaries ≡ lists_of r.summaries → IsCoherent (step s e) new built
 kept_behind s r new built e kept accepted table summaries =
     let setting = further_step s e in
@@ -154,7 +154,7 @@ takes s u r built e reply new kept is accepted changed journal base limits stand
       stands = stands_same s u r built reply.state new stands;
     }
 
--- routes that follow an event or are built anew after it, or were refused memory
+-- routes that follow an event or are built again after it, or were refused memory
 pub record IsSettled (s u : State) (r : RoutesValue) (built : ℕ) (result : Result (Unit {0}) Memory) (new : RoutesValue) : Type 0 where
   pub right : OnOk result (AreRoutesOf u new)
   pub fit : OnOk result (AreFit u.config.areas u.databases)

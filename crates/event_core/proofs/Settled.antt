@@ -74,7 +74,7 @@ module _ (t : State) (keys : List (Scope × Key)) (ids : List ℕ) (ranged chang
         still = λ _. (refl, refl, refl);
       })
 
--- with the serial of the state, the routes are those of the state
+-- with the serial of the state, the routes belong to the state
 pub with_serial : (t : State) (new : RoutesValue) (table : TableValue) → IsCalculationOf t new.calculation → IsTableOf new.calculation new.table.items → AreSummariesFor t new.calculation new.summaries → table ≡ record new.table { serial = serial_of t }
     → AreRoutesOf t (record new { table = table })
 with_serial t new table calculation items summaries is =

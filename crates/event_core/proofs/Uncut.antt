@@ -95,7 +95,7 @@ build_uncut s w sound work =
     let small = builds_small s is.fit s.config.areas c.trees done.0 is.trees done.1 in
     (c, is, (done.0, done.1, uncut done.0 w (omega (arith, small.1, sound_few s.config sound)) small.0 done.2))
 
--- and so is that of an event
+-- and so belongs to an event
 pub event_uncut : (s t : State) (c d : CalculationValue) (w : Touched) → config_fault_of s.config ≡ None → IsCalculationOf s c → IsCalculationOf t d → IsEventWork s t w → IsFollowingWork s t w
 event_uncut s t c d w sound one two work =
     let small = changes_small s t one.fit two.fit s.config.areas t.config.areas c.trees d.trees work.0 one.trees two.trees work.1 in

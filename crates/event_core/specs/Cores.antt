@@ -35,7 +35,7 @@ pub record CoreValue : Type 0 where
   pub base : Base  -- what the journal begins with
   pub limits : Limits
   pub journal : List Event  -- the events that were taken since
-  pub built : ℕ  -- table and due summaries are those of so many of them
+  pub built : ℕ  -- table and due summaries belong to this many of them
   pub table : TableValue
   pub summaries : List (ℕ × List DueSummary)  -- each area with what is due in it, in the order of the configuration
   pub work : Touched  -- that of the last event
@@ -58,7 +58,7 @@ pub record IsCore (c : CoreValue) : Type 0 where
   pub right : IsRight (built_state c) c.table
   pub due : AreDue (built_state c) c.summaries
 
--- table and due summaries are those of the whole journal, or those of before, where events were taken since
+-- table and due summaries belong to the whole journal, or to what came before, where events were taken since
 abbrev pub MatchesStatus : CoreValue → Status → CoreValue → Type 0
 MatchesStatus old Current new = (new.built ≡ length new.journal) × IsRight (state_of new) new.table × AreDue (state_of new) new.summaries
 MatchesStatus old Behind new = (new.built ≡ old.built) × (new.table ≡ old.table) × (new.summaries ≡ old.summaries) × (new.built < length new.journal)
@@ -73,7 +73,7 @@ pub record IsTaken (old : CoreValue) (e : Event) (r : Reply) (new : CoreValue) :
   pub changed : (r.changed ≡ false) ↔ LooksAlike (state_of old) (state_of new)
   pub stands : MatchesStatus old r.state new
 
--- a refusal leaves everything as it was
+-- a refusal leaves everything unchanged
 pub record IsRefused (old : CoreValue) (e : Event) (r : Refusal) (new : CoreValue) : Type 0 where
   pub first : IsRefusalOf (state_of old) e r
   pub unchanged : new ≡ old
@@ -82,7 +82,7 @@ abbrev pub Applies : CoreValue → Event → Result Reply Refusal → CoreValue 
 Applies old e (Ok reply) new = IsTaken old e reply new
 Applies old e (Err refusal) new = IsRefused old e refusal new
 
--- the table is that of the whole journal
+-- the table belongs to the whole journal
 abbrev pub IsCurrent : CoreValue → Type 0
 IsCurrent c = c.built ≡ length c.journal
 
@@ -138,7 +138,7 @@ IsFaultOf config f = (config_fault_of config ≡ Some f) ⊎ ((f ≡ Memory) × 
 abbrev pub IsBaseFaultOf : Limits → Base → BaseFault → Type 0
 IsBaseFaultOf limits base f = (base_fault_of limits base ≡ Some f) ⊎ ((f ≡ base_fault.Config Memory) × (config_fault_of base.config ≡ None))
 
--- no events were taken, and the table is that of the base
+-- no events were taken, and the table belongs to the base
 pub record IsOpening (given : Base) (most : Limits) (c : CoreValue) : Type 0 where
   pub sound : base_fault_of most given ≡ None
   pub base : c.base ≡ given
@@ -149,7 +149,7 @@ pub record IsOpening (given : Base) (most : Limits) (c : CoreValue) : Type 0 whe
   pub changes : c.changes ≡ []
   pub due_changes : c.due_changes ≡ []
 
--- the state as it is becomes the base, with no event since; all else is as it was
+-- the state as it is becomes the base, with no event since; all else is unchanged
 pub record Rolls (old new : CoreValue) : Type 0 where
   pub base : IsBaseOf (state_of old) new.base
   pub state : state_of new ≡ since new.base (state_of old)

@@ -23,14 +23,14 @@ pub record RoutesValue : Type 0 where
   pub changes : List Prefix
   pub due_changes : List (ℕ × Metrics)
 
--- what is kept is that of the state, the table has its serial, and what is due is due by what is kept
+-- what is kept belongs to the state, the table has its serial, and what is due is due by what is kept
 pub record AreRoutesOf (s : State) (r : RoutesValue) : Type 0 where
   pub calculation : IsCalculationOf s r.calculation
   pub table : IsTableOf r.calculation r.table.items
   pub serial : r.table.serial ≡ serial_of s
   pub summaries : AreSummariesFor s r.calculation r.summaries
 
--- the networks whose item differs, ascending, each once
+-- the networks whose item differs, ascending without duplicates
 pub record AreChanges (old new : map.FinMap network_cmp Item) (networks : List Prefix) : Type 0 where
   pub in_order : IsStrictlySortedBy network_cmp networks
   pub exact : (p : Prefix) → Contains networks p ↔ (map.get new p ≢ map.get old p)

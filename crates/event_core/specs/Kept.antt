@@ -11,7 +11,7 @@ use Rattle.event_core.specs.Following.{RoutesValue, AreRoutesOf}
 abbrev pub core_of : State → RoutesValue → ℕ → CoreValue
 core_of s r built = record { base = s.base; limits = s.limits; journal = s.journal; built = built; table = r.table; summaries = lists_of r.summaries; work = r.work; changes = r.changes; due_changes = r.due_changes }
 
--- databases and interfaces are those of the run of the journal; and where table and due summaries are those of all of it, so is what is kept
+-- databases and interfaces belong to the run of the journal; and where table and due summaries belong to all of it, so does what is kept
 pub record IsCoherent (s : State) (r : RoutesValue) (built : ℕ) : Type 0 where
   pub run : s ≡ run_of s.base s.limits s.journal
   pub core : IsCore (core_of s r built)

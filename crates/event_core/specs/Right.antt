@@ -8,7 +8,7 @@ use Rattle.event_state.specs.States.{State, inputs_of, serial_of}
 use Rattle.route_table.specs.Tables.{TableValue}
 use Rattle.route_table.specs.Right.{IsRoutingTable}
 
--- the table is that of the state's databases and interfaces, and has its serial
+-- the table belongs to the state's databases and interfaces, and has its serial
 abbrev pub IsRight : State → TableValue → Type 0
 IsRight s t = IsRoutingTable (inputs_of s) (serial_of s) t
 
@@ -28,7 +28,7 @@ AreListsDue s (a ∷ areas) [] = ⊥
 abbrev pub AreDue : State → List (ℕ × List DueSummary) → Type 0
 AreDue s lists = AreListsDue (inputs_of s) (inputs_of s).areas lists
 
--- what is due in one of these areas, that with the Area ID; none where none of them has it
+-- what is due in one of these areas, that with the Area ID, or `None` if none of them has it
 abbrev pub IsDueAmong : Inputs → List Area → ℕ → Option (List DueSummary) → Type 0
 IsDueAmong s areas id None = (a : Area) → Contains areas a → a.id ≢ id
 IsDueAmong s areas id (Some list) = (a : Area) × Contains areas a × (a.id ≡ id) × IsListDue s a list

@@ -1,5 +1,5 @@
 -- A state that is listed as a base is made again from it.
---   held_again: the database of a scope is that of the LSAs listed
+--   held_again: the database of a scope belongs to the LSAs listed
 --   databases_again, interfaces_again: and so are all of them, and the interfaces
 --   opens_again: and so is the whole state
 use Rattle.std.proofs.Common.{ℕ, zero, suc, ◌≡◌, ◌<◌, ◌+◌, Bool, true, false, cond, List, [], ◌∷◌, ◌++◌, length, map, get_or, Option, Some, None, refl, sym, ap, subst, ◌∙◌, ◌⊎◌, inl, inr, ⊎_elim, arith}
@@ -100,7 +100,7 @@ none_under at t (l ∷ ls) is = rw is (none_under at t ls is)
 -- ---- what a sound database has under its keys
 
 module _ (d : Database) (sound : IsSound d) where
-  -- every entry stands under its own key
+  -- every entry is under its own key
   own_keys : (es : List (Key × Lsa)) → ((k : Key) (l : Lsa) → Contains es (k, l) → k ≡ key_of l) → map (λ (e : Key × Lsa). (key_of e.1, e.1)) es ≡ es
   own_keys [] own = refl
   own_keys (e ∷ es) own = λ i. (sym (own e.0 e.1 (first_element e es)) i, e.1) ∷ own_keys es (λ k l c. own k l (later_element e (k, l) es c)) i
@@ -180,7 +180,7 @@ module _ (s : State) (q : Key) where
       (blocks_part scope.As ids (find key_cmp q (under_keys (lsas_of (database_of s scope.As)))) (λ id same. absurd cc))
       (ap (find key_cmp q) (all_under scope.As scope.As (lsas_of (database_of s scope.As)) refl))
 
--- the database of a scope is that of the LSAs listed
+-- the database of a scope belongs to the LSAs listed
 pub held_again : (s : State) (ids : List ℕ) (at : Scope) (d : Database) → IsSound d → database_of s at ≡ Some d → ((a : ℕ) → at ≡ scope.Area a → Contains ids a) → held_in (lsas_in s ids) at ≡ d
 held_again s ids (scope.Area a) d sound is there =
     same_map key_total key_exact (held_in (lsas_in s ids) (scope.Area a)) d (λ q.
@@ -210,7 +210,7 @@ pub front_long : {X : Type 0} (f : AreaConfig → X) (areas : List AreaConfig) (
 front_long f [] y = refl
 front_long f (b ∷ areas) y = omega (arith, front_long f areas y)
 
--- all databases are those of the LSAs listed
+-- all databases belong to the LSAs listed
 pub databases_again : (s : State) (ids : List ℕ) → AreFit s.config.areas s.databases → AreAreaIds s.config.areas ids → databases_in (lsas_in s ids) s.config.areas ≡ s.databases
 databases_again s ids fit are =
     let areas = s.config.areas in

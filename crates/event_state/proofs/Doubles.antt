@@ -101,7 +101,7 @@ scope_is scope.As scope.As = refl
 scoped_is : (x y : Scope × Lsa) → is_same_place x y ≡ eq_by_cmp scoped_cmp (scoped_key x) (scoped_key y)
 scoped_is x y = ap (λ (b : Bool). b && eq_by_cmp key_cmp (key_of x.1) (key_of y.1)) (scope_is x.0 y.0) ∙ both_tie (scope_cmp x.0 y.0) (key_cmp (key_of x.1) (key_of y.1))
 
--- the derived order is that of the definitions
+-- the derived order are as defined
 pub scoped_cmp_is : scoped_order.ghosts.cmp ≡ scoped_cmp
 scoped_cmp_is = λ i a b. ordering_then (scope_cmp_is i a.scope b.scope) (key_cmp a.key b.key)
 
@@ -118,7 +118,7 @@ less Less e = refl
 less Equal e = absurd cc
 less Greater e = absurd cc
 
--- the first stands before all others
+-- the first comes before all others
 first_before : (x : Scope × Lsa) (xs : List (Scope × Lsa)) → is_ascending (x ∷ xs) ≡ true → (y : Scope × Lsa) → Contains xs y → scoped_cmp (scoped_key x) (scoped_key y) ≡ Less
 first_before x [] ascending y c = absurd (no_element y c)
 first_before x (z ∷ xs) ascending y c =

@@ -44,7 +44,7 @@ use Rattle.event_state.proofs.Sizes.{insert_small}
 use Rattle.event_state.proofs.Sorted.{value_at}
 use Rattle.event_state.proofs.Twice.{none_passes, unlike_before, parts_at}
 
--- ---- the empty databases are those of no LSAs
+-- ---- the empty databases belong to no LSAs
 
 none_held : from_entries {R = key_cmp} (let none : List (Key × Lsa) = [] in none) ≡ empty
 none_held = same_map key_total key_exact (from_entries []) empty (λ q. get-from_entries key_total [] q ∙ sym (get-empty key_cmp q))
@@ -70,7 +70,7 @@ at_place xs areas scope.As k place =
 length_in : (xs : List (Scope × Lsa)) (areas : List AreaConfig) → length (databases_in xs areas) ≡ length areas + 1
 length_in xs areas = front_long (λ (a : AreaConfig). held_in xs (scope.Area a.id)) areas (held_in xs scope.As)
 
--- where no two areas have one Area ID, each place is that of a scope
+-- where no two areas have one Area ID, each place belongs to a scope
 scope_there : (areas : List AreaConfig) (j : ℕ) → AreApart areas → j < length areas + 1 → (at : Scope) × (place_of areas at ≡ Some j)
 scope_there areas j apart lt = elim (cases_lt j (length areas)) [
   | inl inside ↦ (scope.Area (get_or areas j no_area).id, place_at areas j no_area apart inside)
@@ -203,7 +203,7 @@ there_is : {X : Type 0} (o : Option X) → is_none o ≡ false → IsSome o
 there_is None e = absurd cc
 there_is (Some x) e = refl
 
--- the interfaces of a base without faults are those of a state
+-- the interfaces of a base without faults belong to a state
 pub interfaces_of_base : (limits : Limits) (b : Base) → IsFaultless limits b → AreInterfaces b.config.areas (interfaces_in b.interfaces)
 interfaces_of_base limits b h =
     let listed : (id : ℕ) (x : Interface) → get (interfaces_in b.interfaces) id ≡ Some x → Contains b.interfaces (id, x) = λ id x e. found_listed b.interfaces id x (sym (get-from_entries nat_cmp_total b.interfaces id) ∙ e) in

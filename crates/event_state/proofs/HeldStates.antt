@@ -39,7 +39,7 @@ entries-interfaces m h = entries-from_entries nat_cmp_total m.entries h
 
 -- ---- what may be in a scope's database
 
--- an LSA that may stand under the key
+-- an LSA that may are under the key
 pub record IsWelcome (at : Scope) (k : Key) (l : Lsa) : Type 0 where
   pub own : k ≡ key_of l
   pub legal : IsLegal l

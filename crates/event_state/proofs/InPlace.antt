@@ -12,7 +12,7 @@ pub items_of_slice : {X : Type 0} (v : Vec X) (xs : List X) → length xs ≡ le
 items_of_slice v xs e = with_items_is v xs (e ∙ sym v.ok.0)
 
 module _ {X : Type 0} (xs first : List X) (i : ℕ) (x : X) (lt : i < length xs) (same : length xs ≡ length first) (here : x ≡ get_or xs i x) (left : drop i xs ≡ drop i first) where
-  -- what is not reached yet is as it was
+  -- what is not reached yet is unchanged
   pub not_reached : get_or first i x ≡ x
   not_reached =
       ap (λ (k : ℕ). get_or first k x) (sym (add-zero i)) ∙ sym (get_or-drop i first 0 x) ∙ ap (λ (ys : List X). get_or ys 0 x) (sym left)

@@ -15,7 +15,7 @@ none_without [] ys false x h = h
 none_without ((true, y) ∷ xs) ys test x h = absurd cc
 none_without ((false, y) ∷ xs) ys test x h = none_without xs ys test x h
 
--- a refusal is that of the table without the test, or that of the test, and then nothing before it refuses
+-- a refusal belongs to the table without the test, or that of the test, and then nothing before it refuses
 pub some_without : {X : Type 0} (xs ys : List (Bool × X)) (test : Bool) (x r : X) → first_of (xs ++ (test, x) ∷ ys) ≡ Some r → (first_of (xs ++ ys) ≡ Some r) ⊎ ((r ≡ x) × (first_of xs ≡ None))
 some_without [] ys true x r h = inr (cc, refl)
 some_without [] ys false x r h = inl h
@@ -26,11 +26,11 @@ some_without ((false, y) ∷ xs) ys test x r h = some_without xs ys test x r h
 pub taken_lasts : (s : State) (e : Event) → refusal_of s e ≡ None → lasting_refusal_of s e ≡ None
 taken_lasts s e none = none_without (early_tests_of s e) (late_tests_of s e) (is_journal_full s) refusal.JournalFull none
 
--- a refusal lasts, or it is that of a full journal, and no early test refuses
+-- a refusal lasts, or it belongs to a full journal, and no early test refuses
 pub refused_lasts : (s : State) (e : Event) (r : Refusal) → refusal_of s e ≡ Some r → (lasting_refusal_of s e ≡ Some r) ⊎ ((r ≡ refusal.JournalFull) × (first_of (early_tests_of s e) ≡ None))
 refused_lasts s e r some = some_without (early_tests_of s e) (late_tests_of s e) (is_journal_full s) refusal.JournalFull r some
 
--- a refusal is a lasting one, or it is that of a full journal
+-- a refusal is a lasting one, or it belongs to a full journal
 pub refusal_lasts : (s : State) (e : Event) (r : Refusal) → IsRefusalOf s e r → IsLastingRefusalOf s e r
 refusal_lasts s e r (inl some) = elim (refused_lasts s e r some) [ inl lasting ↦ inl lasting | inr journal ↦ inr (inr journal) ]
 refusal_lasts s e r (inr memory) = inr (inl (memory.0, taken_lasts s e memory.1))

@@ -1,4 +1,4 @@
--- When the usable LSAs, the interfaces and the configuration of a state are those of the state before.
+-- When the usable LSAs, the interfaces and the configuration of a state belong to the state before.
 use Rattle.std.proofs.Common.{◌≡◌, ℕ, ◌<◌, Bool, true, false, cond, List, length, map, get_or, set, Option, Some, None, All, refl, sym, ap, subst, ◌∙◌, arith, inl, inr}
 use Rattle.std.specs.Prelude.{Result, Ok, Err, IfOk, nat_lt, option_and_then, option_map, ◌↔◌}
 use Rattle.std.specs.Ordering.{nat_cmp, is_eq}

@@ -19,7 +19,7 @@ lsas_at ds k = mapped_at (λ (d : DatabaseValue). d.lsas) ds k no_database
 pub limit_at : (ds : List DatabaseValue) (k : ℕ) → get_or (limits_in ds) k 0 ≡ (get_or ds k no_database).limit
 limit_at ds k = mapped_at (λ (d : DatabaseValue). d.limit) ds k no_database
 
--- a database in the place of another one with its limit
+-- a database in place of another one with its limit
 pub change_at : (ds : List DatabaseValue) (k : ℕ) (old new : DatabaseValue) (change : Database → Database) → get_or ds k no_database ≡ old → new.lsas ≡ change old.lsas → new.limit ≡ old.limit → IsChange ds (set ds k new) k change
 change_at ds k old new change here lsas limit = record {
   lsas = map-set (λ (d : DatabaseValue). d.lsas) ds k new ∙ ap (λ (d : Database). set (lsas_in ds) k d) (lsas ∙ ap (λ (d : DatabaseValue). change d.lsas) (sym here));

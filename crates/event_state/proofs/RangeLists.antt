@@ -47,7 +47,7 @@ not_found n m le e =
 pub before_greater : (r : Range) (ranges : List Range) (k : ℕ) → position (is_behind r) ranges ≡ Some k → insert ranges k r ≡ in_order r ranges
 before_greater r ranges k e = ap (λ (n : ℕ). insert ranges n r) (sym (found (position_or_len (is_behind r) ranges) (length ranges) k e)) ∙ inserted r ranges
 
--- behind all
+-- after all
 pub behind_all : (r : Range) (ranges : List Range) → position (is_behind r) ranges ≡ None → insert ranges (length ranges) r ≡ in_order r ranges
 behind_all r ranges e =
     let last = not_found (position_or_len (is_behind r) ranges) (length ranges) (prefix_len-le-length (λ (o : Range). not (is_behind r o)) ranges) e in

@@ -138,7 +138,7 @@ module _ (s : State) (ids : List ℕ) (fit : AreFit s.config.areas s.databases) 
     | inr there ↦ let found = in_areas ns x there in (found.0, later_element n found.0 ns found.1, found.2)
   ]
 
-  -- each scope that is listed is configured, and what is listed there stands in its database
+  -- each scope that is listed is configured, and what is listed there is in its database
   placed_at : (x : Scope × Lsa) → Contains (lsas_in s ids) x → IsSome (place_of s.config.areas x.0) × Contains (lsas_of (database_of s x.0)) x.1
   placed_at x c = elim (Contains-append_cases (lsas_of_areas s ids) (lsas_at s scope.As) x c) [
     | inl inside ↦

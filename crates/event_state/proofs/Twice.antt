@@ -17,7 +17,7 @@ pub all_fail : {X : Type 0} (p : X → Bool) (xs : List X) → ((x : X) → Cont
 all_fail p [] fails = refl
 all_fail p (x ∷ xs) fails = or_from (p x) (list_any p xs) (fails x (first_element x xs)) (all_fail p xs (λ y c. fails y (later_element x y xs c)))
 
--- a list is what stands before a place, what stands there, and the rest
+-- a list is what comes before a place, what is there, and the rest
 pub parts_at : {X : Type 0} (xs : List X) (i : ℕ) (x : X) → i < length xs → x ≡ get_or xs i x → xs ≡ take i xs ++ x ∷ drop (i + 1) xs
 parts_at {X} xs i x lt is = sym (take-append-drop i xs) ∙ ap (λ (ys : List X). take i xs ++ ys) (drop_more xs i x lt ∙ ap (λ (y : X). y ∷ drop (i + 1) xs) (sym is))
 
@@ -61,7 +61,7 @@ module _ {X : Type 0} (alike : X → X → Bool) where
       or_true true = refl
       or_true false = refl
 
-  -- two lists one behind the other
+  -- two lists one after the other
   pub twice_append : (xs ys : List X) → has_twice alike xs ≡ false → has_twice alike ys ≡ false → ((x : X) → Contains xs x → list_any (alike x) ys ≡ false) → has_twice alike (xs ++ ys) ≡ false
   twice_append [] ys one two apart = two
   twice_append (x ∷ xs) ys one two apart =

@@ -16,22 +16,22 @@ scoped_key x = record { scope = x.0; key = key_of x.1 }
 abbrev pub scoped_cmp : ScopedKey → ScopedKey → Ordering
 scoped_cmp a b = ordering_then (scope_cmp a.scope b.scope) (key_cmp a.key b.key)
 
--- the LSA stands before the first of the others, where there is one
+-- the LSA comes before the first of the others, where there is one
 abbrev pub is_before_first : Scope × Lsa → List (Scope × Lsa) → Bool
 is_before_first x [] = true
 is_before_first x (y ∷ lsas) = is_lt (scoped_cmp (scoped_key x) (scoped_key y))
 
--- each LSA stands before the next one
+-- each LSA comes before the next one
 abbrev pub is_ascending : List (Scope × Lsa) → Bool
 is_ascending [] = true
 is_ascending (x ∷ lsas) = is_before_first x lsas && is_ascending lsas
 
--- the interface stands before the first of the others, where there is one
+-- the interface comes before the first of the others, where there is one
 abbrev pub is_before_first_id : ℕ × Interface → List (ℕ × Interface) → Bool
 is_before_first_id x [] = true
 is_before_first_id x (y ∷ interfaces) = nat_lt x.0 y.0
 
--- each interface stands before the next one
+-- each interface comes before the next one
 abbrev pub ids_ascend : List (ℕ × Interface) → Bool
 ids_ascend [] = true
 ids_ascend (x ∷ interfaces) = is_before_first_id x interfaces && ids_ascend interfaces

@@ -50,11 +50,11 @@ has_lsa_outside areas lsas = list_any (λ x. is_none (place_of areas x.0)) lsas
 abbrev pub lacks_an_area : Base → Bool
 lacks_an_area b = has_interface_outside b.config.areas b.interfaces || has_lsa_outside b.config.areas b.lsas
 
--- an AS-external-LSA stands under an area, or another one under the AS
+-- an AS-external-LSA is under an area, or another one under the AS
 abbrev pub has_misplaced : Base → Bool
 has_misplaced b = list_any (λ x. is_out_of_scope x.0 x.1.header.kind) b.lsas
 
--- an area has more LSAs than so many
+-- an area has more LSAs than this many
 abbrev pub has_overfull_area : List AreaConfig → List (Scope × Lsa) → (most : ℕ) → Bool
 has_overfull_area areas lsas most = list_any (λ (a : AreaConfig). nat_lt most (length (lsas_under lsas (scope.Area a.id)))) areas
 
@@ -92,6 +92,6 @@ after_config None others = others
 abbrev pub after_doubled : Bool → Option BaseFault → Option BaseFault
 after_doubled doubled others = if doubled then Some base_fault.Doubled else others
 
--- the first fault that the base has; none if a state can be made from it
+-- the first fault that the base has, or `None` if a state can be made from it
 abbrev pub base_fault_of : Limits → Base → Option BaseFault
 base_fault_of limits b = after_config (config_fault_of b.config) (after_doubled (is_doubled b) (unfit_fault (unfit_of limits b)))

@@ -34,11 +34,11 @@ lsas_under lsas at = filter (λ x. is_scope at x.0) lsas
 abbrev pub keyed : List (Scope × Lsa) → List (Key × Lsa)
 keyed lsas = map (λ x. (key_of x.1, x.1)) lsas
 
--- the database of a scope, of these LSAs; of two with one key the first stands in it
+-- the database of a scope, of these LSAs; of two with one key the first is in it
 abbrev pub held_in : List (Scope × Lsa) → Scope → Database
 held_in lsas at = from_entries (keyed (lsas_under lsas at))
 
--- the databases of the areas, and that of the AS behind them
+-- the databases of the areas, and that of the AS after them
 abbrev pub databases_in : List (Scope × Lsa) → List AreaConfig → List Database
 databases_in lsas areas = map (λ a. held_in lsas (scope.Area a.id)) areas ++ held_in lsas scope.As ∷ []
 

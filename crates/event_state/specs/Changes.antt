@@ -8,7 +8,7 @@ use Rattle.event_state.specs.declared.limits.Limits.{Limits}
 use Rattle.lsdb.specs.Contents.{TellsUseAt, TellsUseOf}
 use Rattle.lsdb.specs.Databases.{Database, DatabaseValue, IsInstallable, IsPurgeable, all_aged, with_lsa}
 
--- what stands where there is no database
+-- what is where there is no database
 abbrev pub no_database : DatabaseValue
 no_database = record { lsas = empty; order = []; limit = 0 }
 
@@ -24,12 +24,12 @@ lsas_in databases = map (λ (d : DatabaseValue). d.lsas) databases
 abbrev pub limits_in : List DatabaseValue → List ℕ
 limits_in databases = map (λ (d : DatabaseValue). d.limit) databases
 
--- the database at the place is changed so, and all others are as they were
+-- the database at the place is changed so, and all others are unchanged
 pub record IsChange (old new : List DatabaseValue) (place : ℕ) (change : Database → Database) : Type 0 where
   pub lsas : lsas_in new ≡ slice_set (lsas_in old) place (change (database_at old place).lsas)
   pub limits : limits_in new ≡ limits_in old
 
--- the LSA stands under its key in the database at the place, and all others are as they were
+-- the LSA is under its key in the database at the place, and all others are unchanged
 abbrev pub PutsLsa : (old new : List DatabaseValue) → (place : ℕ) → Lsa → Type 0
 PutsLsa old new place lsa = IsChange old new place (λ d. with_lsa d lsa)
 
@@ -41,11 +41,11 @@ FitsAt databases place lsa = IsInstallable (database_at databases place) lsa
 abbrev pub CanBePurgedAt : List DatabaseValue → (place : ℕ) → Key → Type 0
 CanBePurgedAt databases place key = IsPurgeable (database_at databases place).lsas key
 
--- the answer is false exactly if what is used of the LSA is what was used of the instance in the database at the place
+-- the result is false exactly if what is used of the LSA is what was used of the instance in the database at the place
 abbrev pub TellsPutAt : List DatabaseValue → (place : ℕ) → Lsa → (changed : Bool) → Type 0
 TellsPutAt databases place lsa changed = TellsUseOf (database_at databases place).lsas lsa changed
 
--- the answer is false exactly if no LSA under the key was used in the database at the place
+-- the result is false exactly if no LSA under the key was used in the database at the place
 abbrev pub TellsAgedAt : List DatabaseValue → (place : ℕ) → Key → (changed : Bool) → Type 0
 TellsAgedAt databases place key changed = TellsUseAt (database_at databases place).lsas key changed
 

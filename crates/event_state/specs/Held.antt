@@ -34,7 +34,7 @@ pub record AreFit (areas : List AreaConfig) (databases : List Database) : Type 0
   pub places : length databases ≡ length areas + 1
   pub fit : (at : Scope) (k : ℕ) → place_of areas at ≡ Some k → IsFit at (slice_index_or databases k empty)
 
--- if no two areas have one Area ID, each database is that of its scope
+-- if no two areas have one Area ID, each database belongs to its scope
 abbrev pub HasFitDatabases : State → Type 0
 HasFitDatabases s = AreApart s.config.areas → AreFit s.config.areas s.databases
 
@@ -57,7 +57,7 @@ pub record IsHeld (config : Config) (limits : Limits) (databases : List Database
   pub limited : AreLimited config.areas limits (limits_in databases)
   pub within : AreWithin (lsas_in databases) (limits_in databases)
 
--- the databases are those of these LSAs
+-- the databases belong to these LSAs
 pub record AreFilled (config : Config) (limits : Limits) (all : List (Scope × Lsa)) (databases : List DatabaseValue) : Type 0 where
   pub held : IsHeld config limits databases
   pub lsas : lsas_in databases ≡ databases_in all config.areas

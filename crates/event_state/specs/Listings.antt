@@ -26,6 +26,6 @@ lsas_of_areas s ids = flat_map (λ id. lsas_at s (scope.Area id)) ids
 abbrev pub lsas_in : State → List ℕ → List (Scope × Lsa)
 lsas_in s ids = lsas_of_areas s ids ++ lsas_at s scope.As
 
--- all LSAs of the state, each once, in their order
+-- all LSAs of the state, without duplicates, in their order
 abbrev pub AreLsas : State → List (Scope × Lsa) → Type 0
 AreLsas s found = (ids : List ℕ) × AreAreaIds s.config.areas ids × (found ≡ lsas_in s ids)

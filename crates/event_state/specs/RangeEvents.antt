@@ -12,11 +12,11 @@ use Rattle.event_state.specs.declared.refusal.Refusal.TheVariants as refusal
 use Rattle.event_state.specs.declared.ranges.RangeChange.{RangeChange}
 use Rattle.event_state.specs.declared.ranges.RangeChange.TheVariants as change
 
--- an area has at most so many ranges
+-- an area has at most this many ranges
 abbrev pub most_ranges : ℕ
 most_ranges = 32
 
--- the ranges of the area with this Area ID; none where it is not configured
+-- the ranges of the area with this Area ID, or `None` if it is not configured
 abbrev pub ranges_of : List AreaConfig → ℕ → List Range
 ranges_of [] id = []
 ranges_of (a ∷ areas) id = if a.id == id then a.ranges else ranges_of areas id

@@ -14,7 +14,7 @@ abbrev pub IsRefusalOf : State → Event → Refusal → Type 0
 IsRefusalOf s e r = (refusal_of s e ≡ Some r) ⊎ ((r ≡ refusal.Memory) × (refusal_of s e ≡ None))
 
 -- The first of the table that holds, without the test of the journal, which knows only how many events were taken since the base; or Memory if none does. It
--- is that of a full journal only if none of the tests before refuses.
+-- belongs to a full journal only if none of the tests before refuses.
 abbrev pub IsLastingRefusalOf : State → Event → Refusal → Type 0
 IsLastingRefusalOf s e r =
     (lasting_refusal_of s e ≡ Some r)

@@ -33,11 +33,11 @@ serial_of s = s.base.serial + length s.journal
 abbrev pub interfaces_of : BTreeMap ℕ Interface → FinMap nat_cmp Interface
 interfaces_of m = from_entries m.entries
 
--- the interface stands under the id, and all others are as they were
+-- the interface is under the id, and all others are unchanged
 abbrev pub PutsInterface : (old new : BTreeMap ℕ Interface) → ℕ → Interface → Type 0
 PutsInterface old new id i = interfaces_of new ≡ insert (interfaces_of old) id i
 
--- the answer is false exactly if the id has this interface
+-- the result is false exactly if the id has this interface
 abbrev pub TellsInterface : BTreeMap ℕ Interface → ℕ → Interface → (changed : Bool) → Type 0
 TellsInterface m id i changed = (changed ≡ false) ↔ (get (interfaces_of m) id ≡ Some i)
 
@@ -45,7 +45,7 @@ TellsInterface m id i changed = (changed ≡ false) ↔ (get (interfaces_of m) i
 abbrev pub AreApart : List AreaConfig → Type 0
 AreApart areas = (i j : ℕ) (d : AreaConfig) → i < j → j < length areas → (slice_index_or areas i d).id ≢ (slice_index_or areas j d).id
 
--- where the database of the scope stands: that of the AS behind those of the areas
+-- where the database of the scope stands: that of the AS after those of the areas
 abbrev pub place_of : List AreaConfig → Scope → Option ℕ
 place_of areas (scope.Area id) = position (λ a. a.id == id) areas
 place_of areas scope.As = Some (length areas)
@@ -88,6 +88,6 @@ pub record LooksAlike (s t : State) : Type 0 where
   pub usable : (at : Scope) (key : Key) → usable_at s at key ≡ usable_at t at key
   pub interfaces : s.interfaces ≡ t.interfaces
 
--- the answer is false exactly if the two look alike
+-- the result is false exactly if the two look alike
 abbrev pub TellsChange : (s t : State) → (changed : Bool) → Type 0
 TellsChange s t changed = (changed ≡ false) ↔ LooksAlike s t

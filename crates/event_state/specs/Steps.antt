@@ -36,7 +36,7 @@ lacks_area s (event.RangeSet area prefix advertise) = is_none (place_of s.config
 lacks_area s (event.RangeDrop area prefix) = is_none (place_of s.config.areas (scope.Area area))
 lacks_area s event.Second = false
 
--- AS-external-LSAs are those of the AS, and all others are those of an area
+-- AS-external-LSAs belong to the AS, and all others belong to an area
 abbrev pub is_out_of_scope : Scope → ℕ → Bool
 is_out_of_scope (scope.Area id) kind = kind == 5
 is_out_of_scope scope.As kind = not (kind == 5)
@@ -207,7 +207,7 @@ early_tests_of s e =
     ∷ (is_full s e, refusal.Full)
     ∷ []
 
--- and those behind it
+-- and those after it
 abbrev pub late_tests_of : State → Event → List (Bool × Refusal)
 late_tests_of s e =
     (is_address_taken s e, refusal.AddressTaken)
@@ -220,7 +220,7 @@ late_tests_of s e =
 abbrev pub tests_of : State → Event → List (Bool × Refusal)
 tests_of s e = early_tests_of s e ++ (is_journal_full s, refusal.JournalFull) ∷ late_tests_of s e
 
--- the first refusal of the table that holds; none if the event is taken
+-- the first refusal of the table that holds, or `None` if the event is taken
 abbrev pub refusal_of : State → Event → Option Refusal
 refusal_of s e = first_of (tests_of s e)
 
@@ -244,7 +244,7 @@ pub record IsAccepted (s : State) (e : Event) : Type 0 where
 
 -- ---- what an event does
 
--- the interface stands under the id
+-- the interface is under the id
 abbrev pub with_interface : State → ℕ → Interface → State
 with_interface s id i = record s { interfaces = insert s.interfaces id i }
 
@@ -266,15 +266,15 @@ changed_by s (event.RangeSet area prefix advertise) = with_range_change s area (
 changed_by s (event.RangeDrop area prefix) = with_range_change s area (drop_range prefix)
 changed_by s event.Second = record s { databases = map all_aged s.databases }
 
--- the answer is false exactly if the state looks alike after the event
+-- the result is false exactly if the state looks alike after the event
 abbrev pub TellsChangeBy : State → Event → (changed : Bool) → Type 0
 TellsChangeBy s e changed = TellsChange s (changed_by s e) changed
 
--- the answer is false exactly if the state looks alike with the interface
+-- the result is false exactly if the state looks alike with the interface
 abbrev pub TellsInterfaceChange : State → (id : ℕ) → Interface → (changed : Bool) → Type 0
 TellsInterfaceChange s id i changed = TellsChange s (with_interface s id i) changed
 
--- the answer is false exactly if the state looks alike after the change of ranges
+-- the result is false exactly if the state looks alike after the change of ranges
 abbrev pub TellsRangeChange : State → (area : ℕ) → RangeChange → (changed : Bool) → Type 0
 TellsRangeChange s area change changed = TellsChange s (with_ranges_by s area change) changed
 

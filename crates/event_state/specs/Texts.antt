@@ -1,4 +1,4 @@
--- What is printed of a refusal, and of a fault of a base: its number and its name.
+-- The printed text of a refusal, and of a fault of a base: its number and its name.
 use Rattle.std.specs.Prelude.{ℕ, List, codes}
 use Rattle.ospf_types.specs.Texts.{config_fault_text}
 use Rattle.event_state.specs.declared.base_fault.BaseFault.{BaseFault}

@@ -1,4 +1,4 @@
--- External routes are those of the definitions (RFC 2328, 16.4).
+-- External routes are as defined (RFC 2328, 16.4).
 --   external_offered: what AS-external-LSAs offer is what the definitions say
 --   external_right: the routes of the inputs are right for what the inputs speak of
 use Rattle.std.proofs.Common.{◌≡◌, ◌≢◌, ℕ, ◌<◌, Bool, true, false, true≢false, ◌||◌, ◌==◌, cond, List, Option, Some, None, refl, sym, ap, subst, ◌∙◌, inl, inr}

@@ -1,4 +1,4 @@
--- The preferred entries of AS boundary routers are those of the definitions (RFC 2328, 16.4 and 16.4.1).
+-- The preferred entries of AS boundary routers are as defined (RFC 2328, 16.4 and 16.4.1).
 --   router_offered: what is offered to a router is what the definitions say
 use Rattle.std.proofs.Common.{◌≡◌, ◌≢◌, ℕ, ◌≤◌, Bool, List, Option, Some, None, refl, sym, ap, subst, ◌∙◌, inl, inr, arith}
 use Rattle.std.specs.Prelude.{◌↔◌}

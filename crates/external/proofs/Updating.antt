@@ -1,4 +1,4 @@
--- External routes of which all that was due is chosen anew are those of the inputs.
+-- External routes of which all that was due is recomputed belong to the inputs.
 use Rattle.std.proofs.Common.{◌≡◌, ◌≢◌, ℕ, ◌<◌, List, ◌++◌, map, Option, Some, refl, sym, subst, ◌∙◌, inl, inr}
 use Rattle.std.specs.Prelude.{◌↔◌}
 use Rattle.std.specs.Coded.{Coded, coded_option}

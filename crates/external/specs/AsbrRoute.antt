@@ -45,7 +45,7 @@ RouterOffers v router preference h =
     ((area : ℕ) × Contains v.areas area × ReachedOffers v router area preference h)
     ⊎ EntryOffers v.compat (get v.inter.entries (Router router)) preference h
 
--- the preferred entry, its next hops in order; none where nothing is offered
+-- the preferred entry, its next hops in order, or `None` if nothing is offered
 abbrev pub IsPreferredFor : (Preference → NextHop → Type 0) → Option PreferredValue → Type 0
 IsPreferredFor offers None = NoOffer offers
 IsPreferredFor offers (Some w) = IsBest preference_cmp offers w.preference w.hops × IsStrictlySortedBy hop_cmp w.hops

@@ -39,7 +39,7 @@ HasEntry w p = IsSome (get w.entries p)
 abbrev pub HasPreferred : ExternalValue → ℕ → Type 0
 HasPreferred w router = IsSome (get w.preferred router)
 
--- the entry is the best of the offers, its paths in order; none where nothing is offered
+-- the entry is the best of the offers, its paths in order, or `None` if nothing is offered
 abbrev pub IsEntryFor : (ExternalPreference → Path → Type 0) → Option Entry → Type 0
 IsEntryFor offers None = NoOffer offers
 IsEntryFor offers (Some e) = (preference : ExternalPreference) × IsBest external_cmp offers preference e.paths × IsStrictlySortedBy path_cmp e.paths
@@ -50,7 +50,7 @@ abbrev pub IsForwardIn : ExternalInputsValue → OfferIndexValue → ℕ → Opt
 IsForwardIn v i address None = IsForwardedTo i address → ⊥
 IsForwardIn v i address (Some f) = IsForwardedTo i address × IsForwardOf v address f
 
--- the routes are those of the inputs
+-- the routes belong to the inputs
 pub record IsExternalOf (v : ExternalInputsValue) (w : ExternalValue) : Type 0 where
   pub fresh : w.spent ≡ false
   pub index : IsIndexOf v.root As v.lsas w.index

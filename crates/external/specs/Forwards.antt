@@ -71,7 +71,7 @@ pub record IsLongest (v : ExternalInputsValue) (address : ℕ) (p : Prefix) : Ty
   pub matches : Matches v p
   pub longest : (q : Prefix) → q.length ≤ 32 → HasAddress q address → Matches v q → q.length ≤ p.length
 
--- the longest match, or none where nothing contains the address
+-- the longest match, or `None` if nothing contains the address
 abbrev pub IsMatchOf : ExternalInputsValue → ℕ → Option Prefix → Type 0
 IsMatchOf v address None = (q : Prefix) → q.length ≤ 32 → HasAddress q address → Matches v q → ⊥
 IsMatchOf v address (Some p) = IsLongest v address p

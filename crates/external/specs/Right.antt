@@ -1,4 +1,4 @@
--- When external routes are those of the definitions.
+-- When external routes are as defined.
 use Rattle.std.specs.Prelude.{ℕ, ◌≡◌, ◌≢◌, map}
 use Rattle.std.specs.FinMap.{get, values}
 use Rattle.std.specs.List.{AllPairs}

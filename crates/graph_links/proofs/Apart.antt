@@ -1,4 +1,4 @@
--- Lists in which nothing stands twice.
+-- Lists in which nothing occurs twice.
 use Rattle.std.proofs.Common.{◌≡◌, ◌≢◌, ◌⊎◌, inl, inr, ⊎_elim, ℕ, suc, ◌<◌, List, [], ◌∷◌, ◌++◌, length, get_or, take, map, append_assoc, append-nil, Ordering, refl, sym, subst, ◌∙◌, arith}
 use Rattle.std.specs.Prelude.{Contains}
 use Rattle.std.specs.declared.cmp.Ordering.TheVariants.{Less, Equal}
@@ -57,7 +57,7 @@ module _ {X : Type 0} where
       (⊎_elim (λ (early : Contains xs z). Contains-append_left xs (x ∷ ys) z early) (λ (late : Contains ys z). Contains-append_right xs (x ∷ ys) z (later_element x z ys late)) (Contains-append_cases xs ys z c)) refl)
       (apart_without xs ys x (apart_rest z (xs ++ x ∷ ys) apart))
 
-  -- where an order says which of two comes first, nothing stands twice
+  -- where an order says which of two comes first, nothing occurs twice
   pub apart_strict : {cmp : X → X → Ordering} → IsTotalOrder cmp → (xs : List X) → IsStrictlySortedBy cmp xs → Apart xs
   apart_strict {cmp} total xs sorted i j d lt within same =
       let less : cmp (get_or xs i d) (get_or xs j d) ≡ Less = Less-from_sorted cmp xs i j d sorted lt within in

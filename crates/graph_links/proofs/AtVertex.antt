@@ -15,7 +15,7 @@ use Rattle.graph_links.specs.declared.link_end.LinkEnd.{LinkEnd}
 use Rattle.graph_links.specs.EndOrder.{end_cmp, listed_end}
 use Rattle.graph_links.proofs.EndOrders.{vertex_total, vertex_exact, end_total}
 
--- an end that stands before another is not at a greater vertex
+-- an end that comes before another is not at a greater vertex
 pub before : (a b : LinkEnd) → end_cmp a b ≡ Less → (vertex_cmp a.to b.to ≡ Less) ⊎ (a.to ≡ b.to)
 before a b less =
     elim (vertex_cmp a.to b.to) as (λ o. vertex_cmp a.to b.to ≡ o → ordering_then o (ordering_then (nat_cmp a.detail b.detail) (nat_cmp a.metric b.metric)) ≡ Less → (vertex_cmp a.to b.to ≡ Less) ⊎ (a.to ≡ b.to)) [
@@ -44,7 +44,7 @@ greater_of Less h = absurd cc
 greater_of Equal h = absurd cc
 greater_of Greater h = refl
 
--- a test that passes on to what stands before cuts the list in two
+-- a test that passes on to what comes before cuts the list in two
 parted : (p : LinkEnd → Bool) → ((a b : LinkEnd) → end_cmp a b ≡ Less → p b ≡ true → p a ≡ true) → (xs : List LinkEnd) → IsStrictlySortedBy end_cmp xs → IsPartitionedBy p xs
 parted p earlier xs sorted i j d le below passes =
     ⊎_elim
@@ -113,7 +113,7 @@ module _ (v : Vertex) where
     neither Equal l g = refl
     neither Greater l g = absurd (g refl)
 
-    -- what stands between the two places
+    -- what is between the two places
     between : List LinkEnd
     between = slice_range xs first past
 
@@ -177,7 +177,7 @@ module _ (v : Vertex) where
   greater_than Equal l e = absurd (e refl)
   greater_than Greater l e = refl
 
-  -- what stands behind an end at a greater vertex is at one too
+  -- what comes after an end at a greater vertex is at one too
   above : (a b : LinkEnd) → end_cmp a b ≡ Less → vertex_cmp a.to v ≡ Greater → vertex_cmp b.to v ≡ Greater
   above a b less greater =
       ⊎_elim

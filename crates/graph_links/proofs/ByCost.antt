@@ -9,7 +9,7 @@ use Rattle.std.proofs.lemmas.List.{get_or-take, get_or-drop, get_or_default, len
 use Rattle.graph_links.specs.declared.link.Link.{Link}
 use Rattle.graph_links.specs.Differing.{IsByCost}
 
--- where a link is dearer that stands behind those passed over, what is cheaper is not there
+-- where a link is dearer that comes after those passed over, what is cheaper is not there
 pub none_behind : (xs : List Link) (i : ℕ) (x l : Link) → IsByCost xs → i < length xs → x ≡ get_or xs i x → l.cost < x.cost → (Contains (take i xs) l → ⊥) → Contains xs l → ⊥
 none_behind xs i x l sorted lt is dearer passed c =
     ⊎_elim
@@ -24,7 +24,7 @@ none_behind xs i x l sorted lt is dearer passed c =
     omega (arith, le, here, there, dearer))
     (cases_lt c.0 i)
 
--- what is not cheaper stands behind what is
+-- what is not cheaper comes after what is
 pub behind_cheaper : (xs : List Link) (first : ℕ) (l : Link) → first ≤ length xs → IsPartitionPoint (λ (k : Link). k.cost < l.cost) (λ (k : Link). l.cost ≤ k.cost) xs first → Contains (drop first xs) l ↔ Contains xs l
 behind_cheaper xs first l within split = (
   λ c.

@@ -1,4 +1,4 @@
--- The Link Data of the ends at a vertex, ascending and each once.
+-- The Link Data of the ends at a vertex, ascending without duplicates.
 use Rattle.std.proofs.Common.{◌≡◌, ℕ, ◌+◌, ◌<◌, Bool, true, false, cond, eqb, List, [], ◌∷◌, ◌++◌, length, get_or, drop, map, Option, Some, None, Ordering, refl, sym, ap, subst, ◌∙◌, append_assoc, arith}
 use Rattle.std.specs.Prelude.{◌↔◌, ◌==◌}
 use Rattle.std.specs.declared.cmp.Ordering.TheVariants.{Less, Equal, Greater}
@@ -21,7 +21,7 @@ use Rattle.graph_links.specs.EndOrder.{end_cmp}
 use Rattle.graph_links.specs.Pairs.{AreDetailsTo, is_last}
 use Rattle.graph_links.proofs.EndOrders.{vertex_total}
 
--- what is left of the numbers, each once, where this one came last
+-- what is left of the numbers, without duplicates, where this one came last
 abbrev pub rest_of : Option ℕ → List ℕ → List ℕ
 rest_of None xs = dedup eqb xs
 rest_of (Some m) [] = []

@@ -1,6 +1,6 @@
 -- What went and came of the links of a graph, by the rows before and after.
 --   own_links: what the rows have are links out of their vertices
---   taken_missing, brought_missing: the links that went and came are those that are only in one graph
+--   taken_missing, brought_missing: the links that were removed and added are those that are only in one graph
 --   fresh_once: no vertex has two fresh rows
 use Rattle.std.proofs.Common.{◌≡◌, ◌≢◌, ℕ, List, [], map, Option, Some, None, refl, sym, ap, subst}
 use Rattle.std.specs.Prelude.{Contains, option_map}
@@ -21,7 +21,7 @@ use Rattle.graph_links.specs.Sides.{AreFresh, AreMissing, AreOfFresh, AreOut, Ar
 use Rattle.graph_links.proofs.Apart.{apart_nil}
 use Rattle.graph_links.proofs.PairAlike.{pair_names}
 
--- just the links out of a vertex, each once
+-- just the links out of a vertex, without duplicates
 abbrev AreAllOut : Links → Vertex → List Link → Type 0
 AreAllOut Link_of v links = AreOut Link_of v links × AreApart links
 

@@ -1,5 +1,5 @@
--- The links that went and came, from the lists before and after.
---   behind_same: behind a front that two lists share, the links of one that are not in the other
+-- The links that were removed and added, from the lists before and after.
+--   behind_same: after a front that two lists share, the links of one that are not in the other
 --   before_same: and before a back that they share
 --   of_none, of_more, of_all: a list that grows with each fresh row
 --   kept_apart: and has no link twice
@@ -46,7 +46,7 @@ module _ {X : Type 0} where
   either : (n : ℕ) (xs : List X) (x : X) → Contains xs x → Contains (take n xs) x ⊎ Contains (drop n xs) x
   either n xs x c = Contains-append_cases (take n xs) (drop n xs) x (subst (λ (ys : List X). Contains ys x) (sym (parts n xs)) c)
 
-  -- behind a front that two lists share
+  -- after a front that two lists share
   pub behind_same : (n : ℕ) (xs ys : List X) → take n xs ≡ take n ys → Apart xs → (x : X) → (Contains (drop n xs) x × (Contains (drop n ys) x → ⊥)) ↔ (Contains xs x × (Contains ys x → ⊥))
   behind_same n xs ys same apart x = (
     λ h. (
@@ -82,7 +82,7 @@ module _ {X : Type 0} where
     ),
   )
 
-  -- the front of a list in which nothing stands twice
+  -- the front of a list in which nothing occurs twice
   apart_left : (xs ys : List X) → Apart (xs ++ ys) → Apart xs
   apart_left [] ys apart = apart_nil
   apart_left (x ∷ xs) ys apart = apart_cons x xs (λ c. apart_first x x (xs ++ ys) apart (Contains-append_left xs ys x c) refl) (apart_left xs ys (apart_rest x (xs ++ ys) apart))
@@ -216,11 +216,11 @@ pub same_back_more : (xs ys : List Link) (i : ℕ) (d e : Link) → i < length x
 same_back_more xs ys i d e lt within same is =
     one_more xs i d lt ∙ ap (λ (ls : List Link). get_or xs (length xs - 1 - i) d ∷ ls) same ∙ ap (λ (l : Link). l ∷ drop (length ys - i) ys) is ∙ sym (one_more ys i e within)
 
--- ---- what stands behind a front
+-- ---- what comes after a front
 
 pub rest_is : (n : ℕ) (links : List Link) → take (length links - n) (drop n links) ≡ drop n links
 rest_is n links = take_all (length links - n) (drop n links) (let long = length-drop n links in omega (arith, long))
 
--- and nothing stands twice there
+-- and nothing occurs twice there
 pub apart_rests : (n : ℕ) (links : List Link) → AreApart links → AreApart (take (length links - n) (drop n links))
 apart_rests n links apart = subst AreApart (sym (rest_is n links)) (apart_drop n [] links apart)

@@ -20,7 +20,7 @@ AddsUnless link others old new = Adds old new (λ (l : Link). (l ≡ link) × (C
 abbrev pub HaveSameLinks : List Link → List Link → Type 0
 HaveSameLinks old new = (l : Link) → Contains new l ↔ Contains old l
 
--- the two lists end in the same links, so many
+-- the two lists end in the same links, this many
 abbrev pub HaveSameBack : ℕ → List Link → List Link → Type 0
 HaveSameBack n one other = drop (length one - n) one ≡ drop (length other - n) other
 
@@ -28,7 +28,7 @@ HaveSameBack n one other = drop (length one - n) one ≡ drop (length other - n)
 abbrev pub AddsAtMost : Link → List Link → List Link → Type 0
 AddsAtMost link old new = (new ≡ old) ⊎ (new ≡ old ++ link ∷ [])
 
--- no link stands twice in the list afterwards, if none does in the list before and the added ones together
+-- no link occurs twice in the list afterwards, if none does in the list before and the added ones together
 abbrev pub KeepsApartWith : List Link → List Link → List Link → Type 0
 KeepsApartWith added old new = AreApart (old ++ added) → AreApart new
 
@@ -36,6 +36,6 @@ KeepsApartWith added old new = AreApart (old ++ added) → AreApart new
 abbrev pub IsByCost : List Link → Type 0
 IsByCost links = IsNonDecreasingBy (λ (l : Link). l.cost) links
 
--- so many links are cheaper than the cost, and they come before all others
+-- this many links are cheaper than the cost, and they come before all others
 abbrev pub IsCountCheaper : ℕ → List Link → ℕ → Type 0
 IsCountCheaper cost links n = IsPartitionPoint (λ (l : Link). l.cost < cost) (λ (l : Link). cost ≤ l.cost) links n

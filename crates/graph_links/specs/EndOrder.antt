@@ -21,10 +21,10 @@ listed_end router = record { to = Router router; detail = 0; metric = 0 }
 abbrev pub AreEndsAt : Vertex → List LinkEnd → List LinkEnd → Type 0
 AreEndsAt v all ends = (e : LinkEnd) → Contains ends e ↔ (Contains all e × (e.to ≡ v))
 
--- so many ends are below the vertex, and they come before all others
+-- this many ends are below the vertex, and they come before all others
 abbrev pub IsCountBelow : Vertex → List LinkEnd → ℕ → Type 0
 IsCountBelow v ends n = IsPartitionPoint (λ (e : LinkEnd). vertex_cmp e.to v ≡ Less) (λ (e : LinkEnd). vertex_cmp e.to v ≢ Less) ends n
 
--- so many ends are below the vertex or at it, and they come before all others
+-- this many ends are below the vertex or at it, and they come before all others
 abbrev pub IsCountUpTo : Vertex → List LinkEnd → ℕ → Type 0
 IsCountUpTo v ends n = IsPartitionPoint (λ (e : LinkEnd). vertex_cmp e.to v ≢ Greater) (λ (e : LinkEnd). vertex_cmp e.to v ≡ Greater) ends n

@@ -34,7 +34,7 @@ IsOutLabel root ups from detail (Over id) = (from ≡ root) × Contains ups (rec
 IsOutLabel root ups from detail Plain = from ≢ root
 IsOutLabel root ups from detail (At addresses) = ⊥
 
--- the addresses of a router on a network, by what the router leads to, ascending and each once
+-- the addresses of a router on a network, by what the router leads to, ascending without duplicates
 pub record AreDetailsTo (v : Vertex) (ends : List LinkEnd) (addresses : List ℕ) : Type 0 where
   pub ascending : IsStrictlyIncreasing addresses
   pub same : (address : ℕ) → Contains addresses address ↔ ((e : LinkEnd) × Contains ends e × (e.to ≡ v) × (e.detail ≡ address))
@@ -60,11 +60,11 @@ IsWayOver root ups router ends way = (e : LinkEnd) × Contains ends e × IsWay r
 abbrev pub AreWays : RootInterfaces → ℕ → List LinkEnd → List ParallelLink → Type 0
 AreWays local router ends ways = (w : ParallelLink) → Contains ways w ↔ IsWayOver local.root local.interfaces.now router ends w
 
--- the links of a router by these ways are added, behind those that there were
+-- the links of a router by these ways are added, after those that there were
 abbrev pub AddsBy : VertexPair → List ParallelLink → List Link → List Link → Type 0
 AddsBy pair ways old new = new ≡ old ++ map (link_by pair.from.vertex pair.to.vertex) ways
 
--- a link by each way of the router over its ends is added, behind those that there were
+-- a link by each way of the router over its ends is added, after those that there were
 pub record AddsOver (pair : VertexPair) (router : ℕ) (old new : List Link) : Type 0 where
   pub ways : List ParallelLink
   pub exact : AreWays pair.local router pair.from.ends.now ways
@@ -101,11 +101,11 @@ AddsRootWays root ups e old new = Adds old new (IsWay root ups root e)
 abbrev pub AddsOnto : VertexPair → List Link → List Link → Type 0
 AddsOnto pair old new = (back : List LinkEnd) → AreAllAt pair.from.vertex back pair.to.ends.now → Adds old new (IsOnto pair.from.vertex pair.to.vertex back)
 
--- no link stands twice
+-- no link occurs twice
 abbrev pub AreApart : List Link → Type 0
 AreApart links = AllPairs (λ k l. k ≢ l) links
 
--- none stands twice in a list to which links from the one vertex to the other are added that it did not have
+-- none occurs twice in a list to which links from the one vertex to the other are added that it did not have
 abbrev pub KeepsApart : Vertex → Vertex → List Link → List Link → Type 0
 KeepsApart from to old new = AreApart old → ((l : Link) → Contains old l → l.from ≡ from → l.to ≡ to → ⊥) → AreApart new
 

@@ -27,7 +27,7 @@ RowList = List (Vertex × Row)
 abbrev pub StagedList : Type 0
 StagedList = List (Vertex × Option (Vec LinkEnd))
 
--- where the vertex of a row leads, none if there is no row
+-- where the vertex of a row leads, or `None` if there is no row
 abbrev pub ends_of_row : Option Row → Option (List LinkEnd)
 ends_of_row row = option_map (λ (r : Row). r.ends.items) row
 
@@ -96,7 +96,7 @@ AreOut Link_of v links = (l : Link) → Contains links l ↔ ((l.from ≡ v) × 
 abbrev pub AreInto : Links → Vertex → List Link → Type 0
 AreInto Link_of v links = (l : Link) → Contains links l ↔ ((l.to ≡ v) × Link_of l.from l.to l.cost l.label)
 
--- the row has the links of its vertex, each once
+-- the row has the links of its vertex, without duplicates
 pub record IsRow (Link_of : Links) (v : Vertex) (row : Row) : Type 0 where
   pub out : AreOut Link_of v row.out.items
   pub into : AreInto Link_of v row.into.items
@@ -141,7 +141,7 @@ IsChanged leading Link_of touched old new = (v : Vertex) →
     (Contains touched v × IsFreshRow leading Link_of v (find vertex_cmp v new))
     ⊎ ((Contains touched v → ⊥) × (find vertex_cmp v new ≡ find vertex_cmp v old))
 
--- the links out of a vertex by its row, none if it has no row
+-- the links out of a vertex by its row, or `None` if it has no row
 abbrev pub out_of : Option Row → List Link
 out_of None = []
 out_of (Some row) = row.out.items
@@ -150,7 +150,7 @@ out_of (Some row) = row.out.items
 abbrev pub AreRowsBy : ℕ → List Up → RowList → Type 0
 AreRowsBy root ups rows = (v : Vertex) (row : Row) → find vertex_cmp v rows ≡ Some row → IsRow (LinksBy root ups (row_ends rows)) v row
 
--- links out of the vertex, each once
+-- links out of the vertex, without duplicates
 abbrev pub AreLinksOut : Vertex → List Link → Type 0
 AreLinksOut v links = AreApart links × ((l : Link) → Contains links l → l.from ≡ v)
 

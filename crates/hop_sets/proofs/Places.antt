@@ -1,4 +1,4 @@
--- Where an element stands in a list in order, or where it goes.
+-- Where an element is in a list in order, or where it goes.
 use Rattle.std.proofs.Common.{◌≡◌, ℕ, ◌<◌, ◌≤◌, List, length, get_or, Ordering, Result, Ok, Err, refl, sym, subst, ⊎_elim, arith}
 use Rattle.std.specs.Prelude.{◌↔◌, IsOk, IfErr}
 use Rattle.std.specs.declared.cmp.Ordering.TheVariants.{Less, Equal, Greater}

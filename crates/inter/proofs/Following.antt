@@ -32,7 +32,7 @@ same_areas (Some x) (Some y) e = ap Some (eqb-true x y e)
 abbrev SinceIn : ℕ → List (Scope × Key) → ℕ → Database → OfferIndexValue → Type 0
 SinceIn root keys area d i = (before : Database) × IsIndexOf root (Area area) before i × LsasDifferAmong keys (Area area) before d
 
--- the index of the same area is that of its LSAs before
+-- the index of the same area belongs to its LSAs before
 pub since : (root : ℕ) (keys : List (Scope × Key)) (x : Option ExaminedValue) (area : Option ℕ) (i : OfferIndexValue) → IsIndexBefore root keys x area i → area ≡ area_of x → IsIndexSince root keys x i
 since root keys x area i is same = of x is.0 is.2 is.3 (sym is.1 ∙ same)
   where

@@ -1,9 +1,9 @@
--- The entry of a destination that nothing tells to choose anew, and routes that followed all that may differ.
+-- The entry of a destination that nothing tells to choose again, and routes that followed all that may differ.
 --   entry_same: an entry for the offers is one for the same offers
 --   entry_listed, entry_advertised: what is offered by the index is what the LSAs offer
 --   entry_stays: where nothing differs of what is offered to a destination, its entry stays
 --   all_stand: destinations that are not named have the entry that they have to have
---   updated: routes of which each entry is chosen are those of the inputs
+--   updated: routes of which each entry is chosen belong to the inputs
 --   blank_is, blank_differs: routes where no area is examined
 use Rattle.std.proofs.Common.{◌≡◌, ℕ, false, List, Option, Some, None, refl, sym, subst, ◌∙◌, ◌⊎◌, inl, inr}
 use Rattle.std.specs.Prelude.{◌↔◌, IsSome}
@@ -147,7 +147,7 @@ pub all_stand : (keys : List (Scope × Key)) (named : List Dest) (v w : InterInp
 all_stand keys named v w old j dests was differ followed d absent =
     entry_stands keys named v w differ old.index j dests (subst (λ (area : Option ℕ). IsFollowed named w area old.index j dests) was.examined followed) was.index d absent (get old.entries d) (was.entries d)
 
--- the routes are those of the inputs
+-- the routes belong to the inputs
 pub updated : (w : InterInputsValue) (new : InterValue) → new.spent ≡ false → new.examined ≡ examined_area w → IsIndexFor w.root w.examined new.index → ((d : Dest) → IsChosenFor w new.index d (get new.entries d)) → IsInterOf w new
 updated w new fresh examined index chosen = record {
   fresh = fresh;

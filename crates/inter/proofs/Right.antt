@@ -1,4 +1,4 @@
--- Inter-area routes are those of the definitions (RFC 2328, 16.2).
+-- Inter-area routes are as defined (RFC 2328, 16.2).
 --   reached_right: what is kept of a router of an area says what the definitions say of its flags
 --   network_offered, router_offered: what summaries offer is what the definitions say
 --   inter_right: the routes of the inputs are right for what the inputs speak of

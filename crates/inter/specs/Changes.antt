@@ -21,7 +21,7 @@ pub record InputsDifferAmong (keys : List (Scope × Key)) (dests : List Dest) (o
   pub ranges : (p : Prefix) → (Contains dests (Net p) → ⊥) → IsActiveIn new.active p ↔ IsActiveIn old.active p
   pub routers : (r : ℕ) → (Contains dests (Router r) → ⊥) → (area : ℕ) → reached_at new.intra.areas area r ≡ reached_at old.intra.areas area r
 
--- the routes are those of earlier inputs, which differ from these in no more than is named
+-- the routes belong to earlier inputs, which differ from these in no more than is named
 abbrev pub AreRoutesBehind : List (Scope × Key) → List Dest → InterInputsValue → InterValue → Type 0
 AreRoutesBehind keys dests v w = (before : InterInputsValue) × IsInterOf before w × InputsDifferAmong keys dests before v
 

@@ -30,7 +30,7 @@ IsListed i k a = get i.routes k ≡ Some a
 abbrev pub IsChosenIn : InterInputsValue → ℕ → OfferIndexValue → Dest → Option Entry → Type 0
 IsChosenIn v area i d e = IsEntryFor area (OffersBy v area (IsListed i) d) e
 
--- the entry by the index of the examined area; none where no area is examined
+-- the entry by the index of the examined area, or `None` if no area is examined
 abbrev pub IsChosenWhere : InterInputsValue → Option ℕ → OfferIndexValue → Dest → Option Entry → Type 0
 IsChosenWhere v None i d e = e ≡ None
 IsChosenWhere v (Some area) i d e = IsChosenIn v area i d e

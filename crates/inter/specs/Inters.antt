@@ -37,22 +37,22 @@ no_routes = record { examined = None; index = record { routes = empty }; entries
 abbrev pub HasEntry : InterValue → Dest → Type 0
 HasEntry w d = IsSome (get w.entries d)
 
--- the entry is the best of the offers through the area, its paths in order; none where nothing is offered
+-- the entry is the best of the offers through the area, its paths in order, or `None` if nothing is offered
 abbrev pub IsEntryFor : ℕ → (ℕ → Path → Type 0) → Option Entry → Type 0
 IsEntryFor area offers None = NoOffer offers
 IsEntryFor area offers (Some e) = (cost : ℕ) × IsBest nat_cmp offers cost e.paths × IsStrictlySortedBy path_cmp e.paths × (e ≡ entry_of Inter (Some area) cost 0 e.paths)
 
--- the index is that of the examined area, or empty where none is examined
+-- the index belongs to the examined area, or empty where none is examined
 abbrev pub IsIndexFor : ℕ → Option ExaminedValue → OfferIndexValue → Type 0
 IsIndexFor root None i = i ≡ record { routes = empty }
 IsIndexFor root (Some x) i = IsIndexOf root (Area x.area) x.lsas i
 
--- the destination's entry, none where no area is examined
+-- the destination's entry, or `None` if no area is examined
 abbrev pub IsEntryIn : InterInputsValue → Option ExaminedValue → Dest → Option Entry → Type 0
 IsEntryIn v None d e = e ≡ None
 IsEntryIn v (Some x) d e = IsEntryFor x.area (OffersOf v x d) e
 
--- the routes are those of the inputs
+-- the routes belong to the inputs
 pub record IsInterOf (v : InterInputsValue) (w : InterValue) : Type 0 where
   pub fresh : w.spent ≡ false
   pub examined : w.examined ≡ examined_area v

@@ -1,4 +1,4 @@
--- When inter-area routes are those of the definitions.
+-- When inter-area routes are as defined.
 use Rattle.std.specs.Prelude.{ℕ, ◌≡◌, ◌≢◌, ◌⊎◌, Option, Some, None}
 use Rattle.std.specs.FinMap.{get, values}
 use Rattle.std.specs.List.{AllPairs}
@@ -35,7 +35,7 @@ pub record AreInputsOf (s : Inputs) (v : InterInputsValue) : Type 0 where
   pub intra : IsIntraRight s v.intra
   pub ranges : AreRangesRight s v.active
 
--- the entry is the best of the offers, through the examined area; none where nothing is offered
+-- the entry is the best of the offers, through the examined area, or `None` if nothing is offered
 abbrev pub IsEntryOf : Inputs → (ℕ → Path → Type 0) → Option Entry → Type 0
 IsEntryOf s offers e = ((a : Area) × IsExamined s a × IsEntryFor a.id offers e) ⊎ (((a : Area) → IsExamined s a → ⊥) × (e ≡ None))
 

@@ -79,7 +79,7 @@ pub one_named : (area : ℕ) (named : Scope × Key) (v w : Vertex) → NamesVert
 one_named area named v w first second = let same : Some w ≡ Some v = sym second.1 ∙ first.1 in cc
 
 module _ (before after : Database) (v : Vertex) (same : (key : Key) → vertex_of key ≡ Some v → body_at after key ≡ body_at before key) where
-  -- what stands for a vertex stays where no LSA that can stand for it is used otherwise
+  -- what represents a vertex stays where no LSA that can stand for it is used otherwise
   pub standing_kept : (body : Option Body) → IsStanding before v body → IsStanding after v body
   standing_kept body stands = at v same body stands
     where
@@ -97,7 +97,7 @@ module _ (before after : Database) (v : Vertex) (same : (key : Key) → vertex_o
             | inr none ↦ inr (λ router u. none.0 router (subst (λ (T : Type 0). T) (sym (used router)) u), none.1)
           ]
 
--- an index that took what all named LSAs offer now is that of the database
+-- an index that took what all named LSAs offer now belongs to the database
 pub index_followed : (keys : List (Scope × Key)) (area : ℕ) (was is : Database) (old new : AreaIntraValue) (before after : List Prefix) → IsIndexOf was old.index → LsasDifferAmong keys area was is
     → IsTaken is (IsOfSome keys (NamesVertex area)) old new before after → IsIndexOf is new.index
 index_followed keys area was is old new before after right differ taken = record {

@@ -3,8 +3,8 @@
 --   indexes_of: the indexes of areas that are kept are those of their databases
 --   indexed_is: what is offered by the indexes of the areas is what is offered
 --   offers_same: an area offers the same over two relations that agree on the prefix
---   offers_kept: a network that nothing tells to choose anew is offered the same before and after
---   best_same, entry_same: the best of the offers, and the entry, are those of the same offers given another way
+--   offers_kept: a network that nothing tells to choose again is offered the same before and after
+--   best_same, entry_same: the best of the offers, and the entry, belong to the same offers given another way
 --   entry_indexed: the entry of what the indexes of the areas offer is that of what is offered
 --   entry_kept: the entry of such a network stays
 --   router_kept: what is kept of a router that is not named stays
@@ -227,7 +227,7 @@ indexed_is v is are = indexed_in v is v.areas are
 -- ---- the entry of the same offers
 
 module _ {K X : Type 0} (one other : K → X → Type 0) (same : (key : K) (x : X) → one key x ↔ other key x) where
-  -- the best of the offers is that of the same offers
+  -- the best of the offers belongs to the same offers
   pub best_same : (cmp : K → K → Ordering) (key : K) (items : List X) → IsBest cmp one key items → IsBest cmp other key items
   best_same cmp key items best = record {
     stands = (best.stands.0, (same key best.stands.0).0 best.stands.1);
@@ -240,7 +240,7 @@ pub entry_same : (one other : AreaCost → Path → Type 0) → ((key : AreaCost
 entry_same one other same None none = λ key path offered. none key path ((same key path).1 offered)
 entry_same one other same (Some e) is = (is.0, best_same one other same area_cost_cmp is.0 e.paths is.1, is.2, is.3)
 
--- ---- a network that nothing tells to choose anew
+-- ---- a network that nothing tells to choose again
 
 -- what holds in this area: it is offered by the same vertices, none of these is named, and the root is none of them where an interface is named
 pub record IsClean (vertices : List (ℕ × Vertex)) (ids : List ℕ) (root : ℕ) (p : Prefix) (area : ℕ) (before after : IndexValue) : Type 0 where

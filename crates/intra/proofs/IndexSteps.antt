@@ -290,7 +290,7 @@ module _ (v : Vertex) (offers same : List Offer) (is : offers ≡ same) where
   pub gone_kept : (old mid new : IndexValue) → mid.sources ≡ old.sources → AreGone (IsPrefixOf v offers) mid new → AreGone (IsPrefixOf v same) old new
   gone_kept old mid new kept gone = subst (λ (s : SourcesByPrefix). AreGoneFrom (IsPrefixOf v same) s new.sources) kept (subst (λ (os : List Offer). AreGone (IsPrefixOf v os) mid new) is gone)
 
--- ---- what stands for a vertex
+-- ---- what represents a vertex
 
 body_is : (o : Option (Bor Lsa)) → option_map (λ (l : Bor Lsa). l.now.body) o ≡ body_of (option_copied o)
 body_is None = refl

@@ -61,7 +61,7 @@ one_more had s apart absent = (
   all_pairs_push (λ a b. a ≢ b) had s apart (λ k d lt same. absent (subst (λ (x : Source). Contains had x) same (Contains-get_or had k d lt))),
 )
 
--- where none stands twice, the one at a place is not before it
+-- where none occurs twice, the one at a place is not before it
 pub not_before : {X : Type 0} (xs : List X) → AllPairs (λ a b. a ≢ b) xs → (i : ℕ) (x : X) → i < length xs → x ≡ get_or xs i x → Contains (take i xs) x → ⊥
 not_before xs apart i x lt at c =
     let long : length (take i xs) ≡ i = length-take-le i xs (omega (arith, lt)) in

@@ -42,6 +42,6 @@ tie_decided a b = (λ tied. tells_apart offer_exact a b tied, λ same. subst (λ
 pub offers_order : offers_equal ≡ eq_by_cmp offer_cmp
 offers_order i a b = same_from_decides (offers_equal a b) (eq_by_cmp offer_cmp a b) (offers_decided a b) (tie_decided a b) i
 
--- in order none stands twice
+-- in order none occurs twice
 pub once_in_order : (offers : List Offer) → IsStrictlySortedBy offer_cmp offers → AllPairs (λ a b. a ≢ b) offers
 once_in_order offers sorted = AllPairs-from_IsDistinct tie_decided offers (IsDistinct-from_sorted offer_cmp offers sorted)

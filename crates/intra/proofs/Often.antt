@@ -1,4 +1,4 @@
--- How often an element stands in a list.
+-- How often an element is in a list.
 use Rattle.std.proofs.Common.{◌≡◌, ◌≢◌, ◌==◌, inl, inr, ℕ, suc, ◌+◌, ◌<◌, Bool, true, false, cond, List, [], ◌∷◌, ◌++◌, length, take, get_or, Option, Some, None, refl, sym, ap, subst, ◌∙◌, arith}
 use Rattle.std.specs.Prelude.{◌↔◌, IsSome, is_some, count_by, if◌then◌else◌}
 use Rattle.std.specs.List.{AllPairs, Contains}
@@ -30,7 +30,7 @@ module _ {X : Type 0} (test : X → Bool) where
   count_more xs i x lt at =
       ap (count_by test) (take_more xs i x lt ∙ ap (λ (z : X). take i xs ++ z ∷ []) (sym at)) ∙ count_append (take i xs) (x ∷ []) ∙ ap (λ n. count_by test (take i xs) + n) (sym (times_is (x ∷ [])))
 
--- ---- where none stands twice
+-- ---- where none occurs twice
 
 module _ {X : Type 0} (R : X → X → Type 0) (x : X) (xs : List X) (apart : AllPairs R (x ∷ xs)) where
   apart_here : (y : X) → Contains xs y → R x y
@@ -62,7 +62,7 @@ module _ (r : ℕ) where
         ]
       ] refl
 
-  -- of keys, each once, that are there where the option is
+  -- of keys, without duplicates, that are there where the option is
   pub count_once : {Y : Type 0} (ks : List ℕ) (o : Option Y) → AllPairs (λ j k. j ≢ k) ks → (Contains ks r ↔ IsSome o) → count_by is ks ≡ (if is_some o then 1 else 0)
   count_once ks None apart there = sym (times_is is ks) ∙ times_none ks (λ c. absurd (let wrong = there.0 c in cc))
   count_once ks (Some y) apart there = sym (times_is is ks) ∙ times_one ks apart (there.1 refl)

@@ -1,4 +1,4 @@
--- Intra-area routes are those of the definitions (RFC 2328, 16.1).
+-- Intra-area routes are as defined (RFC 2328, 16.1).
 --   stub_in: a router has a stub link of the definitions just where it offers the prefix
 --   leads_in: a transit network leads to the prefix just where it offers it and is reached
 --   area_in: what an area offers is what the definitions say
@@ -232,7 +232,7 @@ with_bit : (flags flag : ℕ) → (flag ≡ B) ⊎ (flag ≡ E) → 0 < bit_and 
 with_bit flags flag (inl e) lt = first_holds _ _ (positive (bit_and flags B) (subst (λ (n : ℕ). 0 < bit_and flags n) e lt))
 with_bit flags flag (inr e) lt = second_holds _ _ (positive (bit_and flags E) (subst (λ (n : ℕ). 0 < bit_and flags n) e lt))
 
--- of whom something is handed out, that is another router with the bit, and reached
+-- of whom something is returned, that is another router with the bit, and reached
 hands_from : (root router flag : ℕ) (flags far : Option ℕ) (hops : List NextHop) (distance : ℕ) (h : NextHop) → HandsOut flag (reached_by root router flags far hops) distance h
     → (f : ℕ) × (flags ≡ Some f) × (0 < bit_and f flag) × (router ≢ root) × (far ≡ Some distance) × Contains hops h
 hands_from root router flag (Some f) (Some d) hops distance h hands =

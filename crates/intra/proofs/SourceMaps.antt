@@ -11,7 +11,7 @@ use Rattle.intra.specs.Indexes.{SourcesByPrefix, sources_of}
 use Rattle.ospf_types.proofs.KeyOrders.{prefixes_equal, prefixes_order}
 use Rattle.route_choice.proofs.KeyedMaps.{view_of, looked_up_viewed, inserted_viewed, removed_viewed}
 
--- the list in a vector, none where there is no vector
+-- the list in a vector, or `None` if there is no vector
 abbrev pub items_of : SmallVec Source → List Source
 items_of v = v.items
 
@@ -21,7 +21,7 @@ listed o = sources_of (option_map items_of o)
 abbrev pub sources_map : List (Network × SmallVec Source) → SourcesByPrefix
 sources_map es = view_of items_of network_total network_exact prefixes_order es
 
--- what a look-up by `==` lists
+-- what a lookup by `==` lists
 pub sources_found : (es : List (Network × SmallVec Source)) (p : Network) → listed (lookup (prefixes_equal p) es) ≡ sources_of (get (sources_map es) p)
 sources_found es p = ap sources_of (looked_up_viewed items_of network_total network_exact prefixes_order es p)
 

@@ -1,4 +1,4 @@
--- The offers that are taken from the LSA of a vertex are those of the definition.
+-- The offers that are taken from the LSA of a vertex belong to the definition.
 use Rattle.std.proofs.Common.{◌≡◌, ◌≢◌, ℕ, Bool, true, false, cond, nat_eq, length, List, [], ◌∷◌, map, Option, Some, None, refl, sym, ap, subst, ◌∙◌, ⊎_elim, arith}
 use Rattle.std.specs.Prelude.{◌↔◌, ◌==◌, unwrap_or}
 use Rattle.std.specs.List.{AllPairs, Contains, filter_map, cons_option}

@@ -1,4 +1,4 @@
--- Routes that were those of earlier inputs are those of the present ones once all that may differ followed.
+-- Routes that were those of earlier inputs belong to the present ones once all that may differ followed.
 use Rattle.std.proofs.Common.{◌≡◌, ◌≢◌, ℕ, zero, suc, ◌<◌, nat_eq, true, false, List, [], ◌∷◌, ◌++◌, map, length, get_or, Option, Some, None, refl, sym, ap, subst, ◌∙◌, ◌⊎◌, inl, inr, arith}
 use Rattle.std.specs.Prelude.{◌↔◌, option_map, option_and_then, if◌then◌else◌}
 use Rattle.std.specs.FinMap.{get}
@@ -32,7 +32,7 @@ use Rattle.intra.proofs.Frame.{IsClean, AreClean, indexes_in, indexes_of, indexe
 
 -- ---- area by area
 
--- each area that is kept is that of an area from which the present one differs in no more than is named
+-- each area that is kept belongs to an area from which the present one differs in no more than is named
 pub are_before : (root : ℕ) (keys : List (Scope × Key)) (vertices : List (ℕ × Vertex)) (bs areas : List AreaValue) (is : List AreaIntraValue) → AreAreaIntras root bs is → AreasDifferAmong keys vertices bs areas
     → AreKeptBefore root keys vertices areas is
 are_before root keys vertices [] [] [] are differ = record { as_many = refl; each = λ k a i lt. absurd (omega (arith, lt)) }
@@ -92,7 +92,7 @@ router_right root a i router value is e =
 
 module _ (root : ℕ) (keys : List (Scope × Key)) (vertices : List (ℕ × Vertex)) (ids : List ℕ) (prefixes : List Prefix) (a : AreaValue) (i m j : AreaIntraValue)
     (before : IsKeptBefore root keys vertices a i) (followed : IsFollowed root vertices ids prefixes a i m) (settled : IsSettled root keys vertices a m j) where
-  -- an area that followed is that of the present one
+  -- an area that followed belongs to the present one
   pub one_area : IsAreaIntra root a j
   one_area =
       let b = before.0 in
@@ -177,7 +177,7 @@ module _ (keys : List (Scope × Key)) (vertices : List (ℕ × Vertex)) (ids : L
             (entry_kept keys vertices ids b v differ (indexes_in old.areas) (indexes_in news) (indexes_of b.root b.areas old.areas was.areas) indexes p clean (get old.entries p) (was.entries p))
       ]
 
-  -- the routes are those of the inputs
+  -- the routes belong to the inputs
   pub updated : IsIntraOf v new
   updated = record {
     fresh = anew.spent ∙ was.fresh;
@@ -215,7 +215,7 @@ module _ (keys : List (Scope × Key)) (vertices : List (ℕ × Vertex)) (ids : L
       λ differs. (router_among anew.entries.differing routers r).1 ((others r).1 differs),
     )
 
--- entries that are chosen anew after other steps
+-- entries that are recomputed after other steps
 pub anew_from : (v : InputsValue) (old mid new : IntraValue) (ps qs : List Prefix) (dests : List Dest) → ps ≡ qs → mid.entries ≡ old.entries → mid.spent ≡ old.spent → AreEntriesChosenAnew v mid new ps dests
     → AreEntriesChosenAnew v (record { areas = mid.areas; entries = old.entries; spent = old.spent }) new qs dests
 anew_from v old mid new ps qs dests same entries spent anew =

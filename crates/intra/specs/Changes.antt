@@ -32,7 +32,7 @@ pub record InputsDifferAmong (keys : List (Scope × Key)) (vertices : List (ℕ 
   pub areas : AreasDifferAmong keys vertices old.areas new.areas
   pub interfaces : (id : ℕ) (i : Interface) → (Contains ids id → ⊥) → Contains new.interfaces (id, i) ↔ Contains old.interfaces (id, i)
 
--- the routes are those of inputs from which these differ in no more than is named
+-- the routes belong to inputs from which these differ in no more than is named
 abbrev pub IsIntraBefore : Dirty → InputsValue → IntraValue → Type 0
 IsIntraBefore dirty v w =
     (before : InputsValue) × IsIntraOf before w × InputsDifferAmong dirty.keys.items dirty.vertices.items dirty.interfaces.items before v

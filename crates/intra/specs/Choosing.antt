@@ -74,7 +74,7 @@ InterfaceOffers p at e key path = IsOver at.1 p e.1 × OnlyOffer at (inside_area
 abbrev pub InterfacesOffer : List (ℕ × Interface) → Prefix → AreaCost → AreaCost → Path → Type 0
 InterfacesOffer interfaces p at = OfferedBySome interfaces (InterfaceOffers p at)
 
--- the transit network that stands for the prefix with its distance, or none where none is reached
+-- the transit network that stands for the prefix with its distance, or `None` if none is reached
 abbrev pub FindsNearest : Offering → AreaValue → Prefix → Option (ℕ × ℕ) → Type 0
 FindsNearest offered a p None = (id distance : ℕ) → IsReachedFor offered a p id distance → ⊥
 FindsNearest offered a p (Some found) = IsNearest offered a p found.0 found.1

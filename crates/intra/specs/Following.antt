@@ -23,7 +23,7 @@ use Rattle.intra.specs.ReachedRouter.{ReachedValue, reached_by}
 abbrev pub LsasDifferAmong : List (Scope × Key) → ℕ → Database → Database → Type 0
 LsasDifferAmong keys area before after = (key : Key) → (Contains keys (Area area, key) → ⊥) → body_at after key ≡ body_at before key
 
--- the index is that of a database from which this one differs in no more than is named
+-- the index belongs to a database from which this one differs in no more than is named
 abbrev pub IsIndexBefore : List (Scope × Key) → Database → AreaIntraValue → Type 0
 IsIndexBefore keys after i = (before : Database) × IsIndexOf before i.index × LsasDifferAmong keys i.id before after
 
@@ -93,7 +93,7 @@ IsAmongVertices vertices area router = IsOfSome vertices (NamesIn area) (Router 
 abbrev pub IsRouterNamed : List (Scope × Key) → List (ℕ × Vertex) → ℕ → ℕ → Type 0
 IsRouterNamed keys vertices area router = IsAmongKeys keys area router ⊎ IsAmongVertices vertices area router
 
--- the bits of the vertex's LSA, none where it has no LSA
+-- the bits of the vertex's LSA, or `None` if it has no LSA
 abbrev pub flags_in : IndexValue → Vertex → Option ℕ
 flags_in index v = option_map (λ (o : OfferedValue). o.flags) (get index.offered v)
 

@@ -68,7 +68,7 @@ IsOfferedFor v (Some body) (Some o) = IsOfferedBy v body o
 IsOfferedFor v (Some body) None = ⊥
 IsOfferedFor v None o = o ≡ None
 
--- what stands for a vertex in an index is what the LSA that stands for it offers
+-- what represents a vertex in an index is what the LSA that stands for it offers
 abbrev pub IsOfferedNow : Vertex → Option Lsa → Option OfferedValue → Type 0
 IsOfferedNow v standing offered = IsOfferedFor v (body_of standing) offered
 
@@ -84,7 +84,7 @@ OffersNothing i v = (p : Prefix) (metric : ℕ) → IsSource i v p metric → �
 abbrev pub IsIndex : IndexValue → Type 0
 IsIndex i = (v : Vertex) (p : Prefix) (metric : ℕ) → IsSource i v p metric ↔ Contains (offers_of (get i.offered v)) (record { prefix = p; metric = metric })
 
--- the index is that of the database
+-- the index belongs to the database
 pub record IsIndexOf (d : Database) (i : IndexValue) : Type 0 where
   pub index : IsIndex i
   pub offered : (v : Vertex) → (body : Option Body) × IsStanding d v body × IsOfferedFor v body (get i.offered v)

@@ -19,7 +19,7 @@ pub record InputsValue : Type 0 where
   pub areas : List AreaValue
   pub interfaces : List (ℕ × Interface)
 
--- the distance of a vertex of the area, none where it is not reached
+-- the distance of a vertex of the area, or `None` if it is not reached
 abbrev pub distance_at : AreaValue → Vertex → Option ℕ
 distance_at a v = get a.tree.tree.distances v
 
@@ -27,10 +27,10 @@ distance_at a v = get a.tree.tree.distances v
 abbrev pub hops_at : AreaValue → Vertex → List NextHop
 hops_at a v = listed_hops (get a.tree.tree.hops v)
 
--- the area's tree is that of its database, for some root and some interfaces
+-- the area's tree belongs to its database, for some root and some interfaces
 abbrev pub HasTree : AreaValue → Type 0
 HasTree a = (root : ℕ) × (ups : List Up) × IsAreaTree root a.lsas ups a.tree
 
--- each area's tree is that of its database, and of some interfaces
+-- each area's tree belongs to its database, and to some interfaces
 abbrev pub AreReady : InputsValue → Type 0
 AreReady v = (a : AreaValue) → Contains v.areas a → (ups : List Up) × IsAreaTree v.root a.lsas ups a.tree

@@ -63,7 +63,7 @@ reached_at (a ∷ areas) area router = if a.id == area then get a.reached router
 abbrev pub entry_at : AreaCost → List Path → Entry
 entry_at key paths = entry_of Intra (Some key.1) key.0 0 paths
 
--- the entry is the best of the offers, its paths in order; none where nothing is offered
+-- the entry is the best of the offers, its paths in order, or `None` if nothing is offered
 abbrev pub IsEntryFor : (AreaCost → Path → Type 0) → Option Entry → Type 0
 IsEntryFor offers None = NoOffer offers
 IsEntryFor offers (Some e) = (key : AreaCost) × IsBest area_cost_cmp offers key e.paths × IsStrictlySortedBy path_cmp e.paths × (e ≡ entry_of Intra (Some key.1) key.0 0 e.paths)
@@ -81,7 +81,7 @@ abbrev pub AreAsOften : List AreaIntraValue → List ℕ → Type 0
 AreAsOften areas routers =
     (router : ℕ) → count_by (λ (r : ℕ). r == router) routers ≡ count_by (λ (a : AreaIntraValue). is_some (get a.reached router)) areas
 
--- what is kept of an area is that of its database and its tree
+-- what is kept of an area belongs to its database and its tree
 pub record IsAreaIntra (root : ℕ) (a : AreaValue) (i : AreaIntraValue) : Type 0 where
   pub id : i.id ≡ a.id
   pub index : IsIndexOf a.lsas i.index
@@ -93,7 +93,7 @@ AreAreaIntras root (a ∷ rest) (i ∷ is) = IsAreaIntra root a i × AreAreaIntr
 AreAreaIntras root [] (i ∷ is) = ⊥
 AreAreaIntras root (a ∷ rest) [] = ⊥
 
--- the routes are those of the inputs
+-- the routes belong to the inputs
 pub record IsIntraOf (v : InputsValue) (w : IntraValue) : Type 0 where
   pub fresh : w.spent ≡ false
   pub areas : AreAreaIntras v.root v.areas w.areas

@@ -1,4 +1,4 @@
--- When intra-area routes are those of the definitions.
+-- When intra-area routes are as defined.
 use Rattle.std.specs.Prelude.{ℕ, ◌≡◌, ◌⊎◌, ◌↔◌, List, [], ◌∷◌}
 use Rattle.std.specs.FinMap.{get}
 use Rattle.ospf_types.specs.declared.hop.NextHop.{NextHop}
@@ -11,7 +11,7 @@ use Rattle.intra.specs.Inputs.{AreaValue, InputsValue}
 use Rattle.intra.specs.Intras.{AreaIntraValue, IntraValue, IsEntryFor}
 use Rattle.intra.specs.ReachedRouter.{HandsOut}
 
--- the area has this database, and the tree is that of it and of the area's interfaces that are up
+-- the area has this database, and the tree belongs to it and to the area's interfaces that are up
 pub record IsInputOf (s : Inputs) (b : Area) (root : ℕ) (a : AreaValue) : Type 0 where
   pub id : b.id ≡ a.id
   pub ups : List Up
@@ -44,6 +44,6 @@ pub record IsRightFor (s : Inputs) (w : IntraValue) : Type 0 where
   pub entries : (p : Prefix) → IsEntryFor (IntraOffers s p) (get w.entries p)
   pub routers : AreRoutersRight s s.areas w.areas
 
--- the routes are right wherever the inputs are those of the definitions
+-- the routes are right wherever the inputs are as defined
 abbrev pub IsRightWherever : InputsValue → IntraValue → Type 0
 IsRightWherever v w = (s : Inputs) → AreInputsOf s v → IsRightFor s w

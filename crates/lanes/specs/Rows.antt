@@ -23,6 +23,6 @@ places_by {X} eq value column = places (λ x. eq x value) column
 abbrev pub rows_by : {X : Type 0} → (X → X → Bool) → X → ℕ → List X → List ℕ
 rows_by {X} eq value k column = rows_from (λ x. eq x value) k column
 
--- these rows stand behind those that were there
+-- these rows come after those that were there
 abbrev pub AddsRows : (old new : Vec ℕ) → (found : List ℕ) → Type 0
 AddsRows old new found = new.items ≡ old.items ++ found

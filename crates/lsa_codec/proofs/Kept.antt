@@ -39,7 +39,7 @@ unfolding spelling
 kept_kind bytes l e kept =
     ap (λ (b : List ℕ). slice_index b 3) (kept_spelled bytes l e kept) ∙ (kept_legal bytes l e kept).kind
 
--- ---- what stands where, by the body
+-- ---- what is where, by the body
 
 -- a router-LSA
 flags_in : (h : Header) (b : Body) (bytes : List ℕ) → bytes ≡ header_bytes h ++ body_bytes b → kind_of b ≡ 1 → Some (slice_index bytes 20) ≡ flags_of b
@@ -120,7 +120,7 @@ is_about_network kind = eqb kind 2 || eqb kind 3 || eqb kind 5
 pub network_with : (i m id mask : ℕ) → i ≡ id → m ≡ mask → Some (network_of i m) ≡ Some (network_of id mask)
 network_with i m id mask ei em = rw (ei, em) refl
 
--- the Link State ID stands in the header, and the mask in front of the body
+-- the Link State ID is in the header, and the mask in front of the body
 network_in : (h : Header) (mask : ℕ) (behind bytes : List ℕ) → bytes ≡ header_bytes h ++ (big_bytes 4 mask ++ behind) → IsMask mask → h.id < 2 ^ 32 → Some (network_of (big_number 4 (drop 4 bytes)) (big_number 4 (drop 20 bytes))) ≡ Some (network_of h.id mask)
 network_in h mask behind bytes e legal lt =
     network_with (big_number 4 (drop 4 bytes)) (big_number 4 (drop 20 bytes)) h.id mask

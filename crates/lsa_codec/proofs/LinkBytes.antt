@@ -142,7 +142,7 @@ none_unknown (l ∷ links) =
 
 -- ---- read, then written
 
--- the entries that are read are so many, and their bytes are those in front
+-- the entries that are read are this many, and their bytes are those in front
 pub record EntriesTaken (n : ℕ) (bytes : List ℕ) : Type 0 where
   pub text : flat_map link_tos_bytes (map tos_of (raw_entries n bytes)) ++ drop (4 * n) bytes ≡ bytes
   pub legal : AllByRecursion IsLegalLinkTos (map tos_of (raw_entries n bytes))
@@ -172,7 +172,7 @@ entries_take (suc n) bytes fits room none =
       count = omega (arith, more.count);
     }
 
--- what stands for a link is a link
+-- what represents a link is a link
 pub record LinkTaken (bytes : List ℕ) : Type 0 where
   pub text : link_bytes (link_of (raw_link bytes)) ++ drop (link_size bytes) bytes ≡ bytes
   pub legal : IsLegalLink (link_of (raw_link bytes))

@@ -10,7 +10,7 @@ pub record RecordTaken {A : Type 0} (encode : A → List ℕ) (decode : List ℕ
   pub text : encode (decode bytes) ++ drop size bytes ≡ bytes
   pub legal : IsLegal (decode bytes)
 
--- so many records, and nothing else
+-- this many records, and nothing else
 pub record RecordsTaken {A : Type 0} (encode : A → List ℕ) (decode : List ℕ → A) (IsLegal : A → Type 0) (size n : ℕ) (bytes : List ℕ) : Type 0 where
   pub text : flat_map encode (records decode size n bytes) ≡ bytes
   pub legal : AllByRecursion IsLegal (records decode size n bytes)

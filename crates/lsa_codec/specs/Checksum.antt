@@ -23,11 +23,11 @@ pub record IsSound (bytes : List ℕ) : Type 0 where
 abbrev pub is_sound : List ℕ → Bool
 is_sound bytes = (sum (covered bytes) % 255 == 0) && (weighted_sum (covered bytes) % 255 == 0) && not (sum_field bytes == 0)
 
--- the bytes with x and y in the place of the checksum
+-- the bytes with x and y in place of the checksum
 abbrev pub with_sum : List ℕ → ℕ → ℕ → List ℕ
 with_sum bytes x y = take 16 bytes ++ x ∷ y ∷ drop 18 bytes
 
--- No other two bytes that are not zero make the bytes sound in the place of the checksum.
+-- No other two bytes that are not zero make the bytes sound in place of the checksum.
 abbrev pub IsOnlySum : List ℕ → ℕ → Type 0
 IsOnlySum bytes sum = (x y : ℕ) → 0 < x → x < 256 → 0 < y → y < 256 → IsSound (with_sum bytes x y) → 256 * x + y ≡ sum
 
@@ -35,7 +35,7 @@ IsOnlySum bytes sum = (x y : ℕ) → 0 < x → x < 256 → 0 < y → y < 256 �
 abbrev pub residue : ℕ → ℕ
 residue n = (n + 254) % 255 + 1
 
--- Two bytes make the bytes sound in the place of the checksum exactly if they are its own, a zero taken for 255, and one of them is not zero.
+-- Two bytes make the bytes sound in place of the checksum exactly if they are its own, a zero taken for 255, and one of them is not zero.
 abbrev pub IsSumUpToZeros : List ℕ → ℕ → Type 0
 IsSumUpToZeros bytes sum = (x y : ℕ) → x < 256 → y < 256 → IsSound (with_sum bytes x y) ↔ ((256 * residue x + residue y ≡ sum) × (256 * x + y ≢ 0))
 

@@ -112,7 +112,7 @@ is_incomplete count w = not (length w.met == count) || not (length w.left == 0)
 -- nothing of the body is met. What is found of a body: a byte that is to be zero and is not, a mask that
 -- is none, a link of no known type, and a shape other than a fixed part and whole records.
 
--- the fixed part of so many bytes is not whole
+-- the fixed part of this many bytes is not whole
 abbrev pub is_cut : ℕ → List ℕ → Bool
 is_cut size body = nat_lt (length body) size
 

@@ -5,11 +5,11 @@ use Rattle.lsa_codec.specs.Faults.{walk}
 use Rattle.lsa_codec.specs.Decoding.{link_of, router_id_at, records_met}
 use Rattle.lsa_codec.specs.Readers.{without_tos}
 
--- so many links lie whole in the bytes
+-- this many links lie whole in the bytes
 abbrev pub AreThere : ℕ → List ℕ → Type 0
 AreThere count bytes = length (walk count bytes).met ≡ count
 
--- so many links, each without its TOS entries
+-- this many links, each without its TOS entries
 abbrev pub links_left : ℕ → List ℕ → List Link
 links_left count bytes = map without_tos (map link_of (walk count bytes).met)
 

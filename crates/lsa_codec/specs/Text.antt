@@ -1,4 +1,4 @@
--- What is printed of faults.
+-- The printed text of faults.
 use Rattle.std.specs.Prelude.{ℕ, List, codes}
 use Rattle.lsa_codec.specs.declared.fault.WireFault.{WireFault}
 use Rattle.lsa_codec.specs.declared.fault.WireFault.TheVariants.{Length, Checksum, Age, Sequence, Kind, Reserved, Mask, RouterId, LinkType, Shape, Memory}

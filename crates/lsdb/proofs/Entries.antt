@@ -61,7 +61,7 @@ module _ {K X : Type 0} {R : K → K → Ordering} (o : IsTotalOrder R) (exact :
   removed es fs k finds = same_map o exact (from_entries {R = R} fs) (remove (from_entries {R = R} es) k) (λ q.
       get_is fs q ∙ finds q ∙ ap (cond (eq_by_cmp R q k) None) (sym (get_is es q)) ∙ sym (get-remove o (from_entries es) k q))
 
-  -- as many keys as entries, where no key stands twice
+  -- as many keys as entries, where no key occurs twice
   pub len_is : (es : List (K × X)) → IsDistinct (eq_by_cmp R) (keys_of es) → len (from_entries {R = R} es) ≡ length es
   len_is [] unique = len-empty R X
   len_is (e ∷ es) unique =
@@ -69,7 +69,7 @@ module _ {K X : Type 0} {R : K → K → Ordering} (o : IsTotalOrder R) (exact :
       let rest = len_is es (IsDistinct-tail (eq_by_cmp R) e.0 (keys_of es) unique) in
       len-insert o (from_entries es) e.0 e.1 ∙ ap (λ b. cond b (len (from_entries {R = R} es)) (len (from_entries {R = R} es) + 1)) absent ∙ ap (λ n. n + 1) rest ∙ omega arith
 
-  -- what stands at the first place of a key is found under it
+  -- what is at the first place of a key is found under it
   pub find_at : (es : List (K × X)) (k : K) (i : ℕ) (e : K × X) → position (eq_by_cmp R k) (keys_of es) ≡ Some i → slice_get es i ≡ Some e → find R k es ≡ Some e.1
   find_at es k i e at here = find-lookup R k es ∙ (Found-position (eq_by_cmp R k) es i at).value ∙ value_at es i e here
     where
@@ -82,7 +82,7 @@ module _ {K X : Type 0} {R : K → K → Ordering} (o : IsTotalOrder R) (exact :
   pub find_missing : (es : List (K × X)) (k : K) → position (eq_by_cmp R k) (keys_of es) ≡ None → find R k es ≡ None
   find_missing es k none = find-lookup R k es ∙ (Missing-position (eq_by_cmp R k) es none).value
 
-  -- the last entry in the place of one: keys stay apart, and that one's key has gone
+  -- the last entry in place of one: keys stay apart, and that one's key has gone
   pub swapped : (es : List (K × X)) (k : K) (i : ℕ) (e : K × X) → IsDistinct (eq_by_cmp R) (keys_of es) → position (eq_by_cmp R k) (keys_of es) ≡ Some i → slice_get es i ≡ Some e
       → IsDistinct (eq_by_cmp R) (keys_of (swap_remove es i e)) × (from_entries {R = R} (swap_remove es i e) ≡ remove (from_entries es) k)
   swapped es k i e unique at here =

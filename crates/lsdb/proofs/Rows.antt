@@ -81,7 +81,7 @@ get_or-present (f ∷ es) [] i d e age same lt = absurd (omega arith)
 get_or-present (f ∷ es) (b ∷ ages) zero d e age same lt = refl
 get_or-present (f ∷ es) (b ∷ ages) (suc i) d e age same lt = get_or-present es ages i d e age (omega arith) (omega arith)
 
--- the last row in the place of one
+-- the last row in place of one
 pub present-swap_remove : (es : List Entry) (ages : List ℕ) (i : ℕ) (d e : Entry) (age : ℕ) → length ages ≡ length es → i < length es → present (swap_remove es i e) (swap_remove ages i age) ≡ swap_remove (present es ages) i d
 present-swap_remove es ages i d e age same lt =
     let n = length es - 1 in

@@ -86,7 +86,7 @@ module _ {es : List Entry} {ages kinds routers : List ℕ} {limit : ℕ} (c : Ar
       ap (count_by lane.comes_to_max_age) (sym (ages_present es ages c.a_row_each)) ∙ count_ages (present es ages)
       ∙ sym (count_values key_total key_exact comes_to_max_age (present es ages) (unique_present c))
 
-  -- the age of each key is that of its row
+  -- the age of each key belongs to its row
   pub ages_are : ages ≡ map (λ key. age_of (get (map_of (present es ages)) key)) (keys_of es)
   ages_are =
       sym (ages_present es ages c.a_row_each) ∙ sym (found_values key_total key_exact age_of (present es ages) (unique_present c))

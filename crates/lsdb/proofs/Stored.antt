@@ -201,7 +201,7 @@ module _ {es : List Entry} {ages kinds routers : List ℕ} {limit : ℕ} (c : Ar
     pub keys_appended : keys_of (es ++ (key_of l, l) ∷ []) ≡ keys_of es ++ key_of l ∷ []
     keys_appended = map-append (λ (e : Entry). e.0) es ((key_of l, l) ∷ [])
 
-  -- the last row in the place of one
+  -- the last row in place of one
   module _ (i : ℕ) (q k : Key) (l : Lsa) (age : ℕ) (at : position (is_key q) (keys_of es) ≡ Some i) (row : slice_get es i ≡ Some (k, l)) (old : slice_get ages i ≡ Some age) where
     removal : IsDistinct is_key (keys_of (swap_remove (present es ages) i (k, with_age l age))) × (map_of (swap_remove (present es ages) i (k, with_age l age)) ≡ remove (map_of (present es ages)) q)
     removal = swapped key_total key_exact (present es ages) q i (k, with_age l age) unique_present (place_present q (Some i) at) (present_at es ages i k l age row old)

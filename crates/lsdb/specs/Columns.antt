@@ -21,7 +21,7 @@ present (e ∷ es) (age ∷ ages) = (e.0, with_age e.1 age) ∷ present es ages
 abbrev pub is_key : Key → Key → Bool
 is_key = eq_by_cmp key_cmp
 
--- the LSA stands under its own key and is in the grammar
+-- the LSA is under its own key and is in the grammar
 abbrev pub IsOwn : Key × Lsa → Type 0
 IsOwn e = (e.0 ≡ key_of e.1) × IsLegal e.1
 

@@ -25,19 +25,19 @@ body_at d key = option_map (λ (used : ℕ × Body). used.1) (used_at d key)
 abbrev pub IsUsedAlike : Database → Lsa → Type 0
 IsUsedAlike d l = used_at d (key_of l) ≡ contents_of l
 
--- the answer is false exactly if what is used of the LSA is what is used of the instance that the database has
+-- the result is false exactly if what is used of the LSA is what is used of the instance that the database has
 abbrev pub TellsUseOf : Database → Lsa → (changed : Bool) → Type 0
 TellsUseOf d l changed = (changed ≡ false) ↔ IsUsedAlike d l
 
--- the answer is false exactly if no LSA under the key is used
+-- the result is false exactly if no LSA under the key is used
 abbrev pub TellsUseAt : Database → Key → (used : Bool) → Type 0
 TellsUseAt d key used = (used ≡ false) ↔ (used_at d key ≡ None)
 
--- the LSA, if there is one, at the age in seconds that stands beside it
+-- the LSA, if there is one, at the age in seconds that is next to it
 abbrev pub at_age_beside : Option (Bor Lsa × ℕ) → Option Lsa
 at_age_beside held = option_map (λ found. with_age found.0.now found.1) held
 
--- the answer is false exactly if what is used of the LSA is what is used of the instance that is held at this age
+-- the result is false exactly if what is used of the LSA is what is used of the instance that is held at this age
 abbrev pub TellsUseBeside : (held : Option (Bor Lsa × ℕ)) → Lsa → (changed : Bool) → Type 0
 TellsUseBeside held l changed = (changed ≡ false) ↔ (option_and_then contents_of (at_age_beside held) ≡ contents_of l)
 
@@ -45,12 +45,12 @@ TellsUseBeside held l changed = (changed ≡ false) ↔ (option_and_then content
 abbrev pub NoneComes : Database → Type 0
 NoneComes d = count_by comes_to_max_age (values d) ≡ 0
 
--- each LSA stands under its own key and is in the grammar
+-- each LSA is under its own key and is in the grammar
 pub record IsSound (d : Database) : Type 0 where
   pub under_own_key : (k : Key) (l : Lsa) → get d k ≡ Some l → k ≡ key_of l
   pub legal : (k : Key) (l : Lsa) → get d k ≡ Some l → IsLegal l
 
--- each key of the map stands in the order, once, and no other key does
+-- each key of the map is in the order, once, and no other key does
 pub record IsOrder (d : DatabaseValue) : Type 0 where
   pub there : (k : Key) → Contains d.order k ↔ IsSome (get d.lsas k)
   pub once : AllPairs (λ j k. j ≢ k) d.order

@@ -89,7 +89,7 @@ install_refusal_of d limit lsa = first_of (
 abbrev pub IsInstallable : DatabaseValue → Lsa → Type 0
 IsInstallable d lsa = install_refusal_of d.lsas d.limit lsa ≡ None
 
--- the database with the LSA in the place of what it has under its key (RFC 2328, 13.2)
+-- the database with the LSA in place of what it has under its key (RFC 2328, 13.2)
 abbrev pub with_lsa : Database → Lsa → Database
 with_lsa d lsa = insert d (key_of lsa) lsa
 
@@ -121,7 +121,7 @@ order_with d key = if is_none (get d.lsas key) then d.order ++ key ∷ [] else d
 abbrev pub order_without : DatabaseValue → Key → List Key
 order_without d key = swap_remove_by (eq_by_cmp key_cmp key) d.order
 
--- these keys stand behind those that were there
+-- these keys come after those that were there
 abbrev pub AddsKeys : (old new : Vec Key) → (found : List Key) → Type 0
 AddsKeys old new found = new.items ≡ old.items ++ found
 

@@ -1,4 +1,4 @@
--- What is printed of a database's refusals: the number and the name that the refused event has.
+-- The printed text of a database's refusals: the number and the name that the refused event has.
 use Rattle.std.specs.Prelude.{ℕ, List, codes}
 use Rattle.lsdb.specs.declared.refusal.InstallRefusal.{InstallRefusal}
 use Rattle.lsdb.specs.declared.refusal.InstallRefusal.TheVariants as install_refusal

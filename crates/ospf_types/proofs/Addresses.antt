@@ -19,7 +19,7 @@ four_bytes a b c d ha hb hc hd (suc (suc (suc (suc i)))) = omega arith
 bytes_again : (a b c d : ℕ) → a < 256 → b < 256 → c < 256 → d < 256 → to_be_bytes w32 (from_be_bytes w32 (a ∷ b ∷ c ∷ d ∷ [])) ≡ a ∷ b ∷ c ∷ d ∷ []
 bytes_again a b c d ha hb hc hd = be_bytes_4 (a ∷ b ∷ c ∷ d ∷ []) _ refl (four_bytes a b c d ha hb hc hd) refl
 
--- a dotted text is that of the number with these bytes
+-- a dotted text belongs to the number with these bytes
 pub dotted_address : (text octets : List ℕ) → IsDotted text octets → text ≡ address_text (from_be_bytes w32 octets)
 dotted_address text octets h =
     let same : to_be_bytes w32 (from_be_bytes w32 octets) ≡ octets = rw h.value (bytes_again h.a h.b h.c h.d h.fit.0 h.fit.1 h.fit.2 h.fit.3) in
@@ -44,7 +44,7 @@ unfolding ipv4_bits
 parsed_spelled (Ok b) text a h e = let same : a ≡ b = cc in rw same (dotted_address text b.octets h)
 parsed_spelled (Err b) text a h e = cc
 
--- a text that is refused is that of no number
+-- a text that is refused belongs to no number
 pub parsed_refused : {E : Type 0} (r : Result Ipv4Addr E) (text : List ℕ) → Parses IsIpv4Text text r → false ≡ is_ok r
     → (n : ℕ) → n < 2 ^ 32 → text ≡ address_text n → ⊥
 parsed_refused (Ok b) text h e n fits same = cc

@@ -22,7 +22,7 @@ in_numbers p q e = grind (arith, nat_tests)
 before_past : (p q r : Prefix) → IsBefore p q → IsBefore q r → IsBefore p r
 before_past p q r h g = grind arith
 
--- a network covers none that stands before it
+-- a network covers none that comes before it
 covers_none_before : (p q : Prefix) → IsBefore p q → is_cover q p ≡ false
 covers_none_before p q h = false_from_ne_true _ (λ e.
     let tests = and_parts (nat_le q.length p.length) (masked p.address q.length == q.address) e in

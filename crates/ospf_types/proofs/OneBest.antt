@@ -20,7 +20,7 @@ module _ {X : Type 0} {R : X → X → Ordering} (o : IsTotalOrder R) (exact : C
   not_below : (x y : X) → R x y ≡ Less → R y x ≢ Less
   not_below x y e f = let t : R y x ≡ Greater = o.antisymm y x ∙ ap ordering_reverse e in cc
 
-  -- what stands later in a list in order is above the first
+  -- what is later in a list in order is above the first
   pub later_above : (x z : X) (xs : List X) → IsStrictlySortedBy R (x ∷ xs) → Contains xs z → R x z ≡ Less
   later_above x z xs sorted h = All-contains (λ y. R x y ≡ Less) xs z (All-from_recursion (λ y. R x y ≡ Less) xs (sorted_head R x xs sorted)) h
 

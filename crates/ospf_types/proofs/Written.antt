@@ -18,7 +18,7 @@ dot_ascii = IsAscii-cons 46 [] (omega arith) IsAscii-nil
 slash_ascii : IsAscii (codes "/")
 slash_ascii = IsAscii-cons 47 [] (omega arith) IsAscii-nil
 
--- a text, a dot and a number behind it
+-- a text, a dot and a number after it
 dot_number_ascii : (text : List ℕ) (n : ℕ) → IsAscii text → n < 2 ^ 64 → IsAscii (text ++ codes "." ++ decimal n)
 dot_number_ascii text n ascii fits = IsAscii-append (text ++ codes ".") (decimal n) (IsAscii-append text (codes ".") ascii dot_ascii) (IsAscii-decimal n fits)
 
@@ -46,13 +46,13 @@ prefix_utf8 address bits fits =
 pub short_length : (bits : ℕ) → bits ≤ 32 → length (decimal bits) ≤ 2
 short_length bits small = length-decimal-le 2 bits (omega arith) (omega (arith, small)) (omega (arith, small))
 
--- what stands from the start of a text that ends with the bytes
+-- what is from the start of a text that ends with the bytes
 pub whole_text : (start end : ℕ) (old new text : List ℕ) → length old ≤ end → length new ≤ end → drop start new ≡ text ++ drop end old
     → take (end - start) (drop start new) ≡ text
 whole_text start end old new text few all is =
     take_all (end - start) (drop start new) (omega (arith, length-drop start new)) ∙ is ∙ ap (λ rest. text ++ rest) (drop_all end old few) ∙ append-nil text
 
--- an address, and a slash and the length behind it
+-- an address, and a slash and the length after it
 pub prefix_written : (start at address bits : ℕ) (old digits new : List ℕ) → length old ≤ 18 → length new ≤ 18 → length digits ≡ 18
     → 0 < at → at ≤ 18 → drop at digits ≡ decimal bits ++ drop 18 old
     → drop start new ≡ address_text address ++ drop (at - 1) (set digits (at - 1) 47)

@@ -42,7 +42,7 @@ abbrev pub is_costly : Option Stub → Bool
 is_costly None = false
 is_costly (Some stub) = nat_le LSInfinity stub.cost
 
--- the table of faults, in its order; none if the areas have none
+-- the table of faults, in its order, or `None` if the areas have none
 abbrev pub areas_fault_of : List AreaConfig → Option ConfigFault
 areas_fault_of areas = first_of (
     (has_wrong_areas areas, fault.Areas)
@@ -52,6 +52,6 @@ areas_fault_of areas = first_of (
     ∷ (list_any (λ a. nat_lt 32 (length a.ranges)) areas, fault.RangeCount)
     ∷ [])
 
--- a configuration's faults are those of its areas
+-- a configuration's faults belong to its areas
 abbrev pub config_fault_of : Config → Option ConfigFault
 config_fault_of c = areas_fault_of c.areas

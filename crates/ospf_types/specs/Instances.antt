@@ -34,7 +34,7 @@ newer_by Equal = Same
 abbrev pub newer_of : Header → Header → Newer
 newer_of a b = newer_by (instance_cmp a b)
 
--- the answer that speaks of the same instance if the two are handed in the other way round
+-- the answer that speaks of the same instance if the two are given the other way round
 abbrev pub swapped : Newer → Newer
 swapped First = Second
 swapped Second = First

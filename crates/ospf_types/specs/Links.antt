@@ -63,7 +63,7 @@ IsLabel w from detail (At addresses) = ⊥
 abbrev pub HasAddressOn : ℕ → List RouterLink → ℕ → Type 0
 HasAddressOn network links address = (l : RouterLink) × Contains links l × (l.kind ≡ Transit) × (l.id ≡ network) × (l.detail ≡ address)
 
--- the router's addresses on the network, ascending and each once, so that there is one list of them
+-- the router's addresses on the network, ascending without duplicates, so that there is one list of them
 pub record AreAddressesOn (network : ℕ) (links : List RouterLink) (addresses : List ℕ) : Type 0 where
   pub ascending : IsStrictlyIncreasing addresses
   pub same : (address : ℕ) → Contains addresses address ↔ HasAddressOn network links address

@@ -15,12 +15,12 @@ IsMasked p = masked p.address p.length ≡ p.address
 abbrev pub is_before : Prefix → Prefix → Bool
 is_before p q = is_lt (network_cmp p q)
 
--- the range stands before the first of the others, if there is one
+-- the range comes before the first of the others, if there is one
 abbrev pub is_before_first : Range → List Range → Bool
 is_before_first a [] = true
 is_before_first a (b ∷ ranges) = is_before a.prefix b.prefix
 
--- each range stands before the next one
+-- each range comes before the next one
 abbrev pub is_ascending : List Range → Bool
 is_ascending [] = true
 is_ascending (a ∷ ranges) = is_before_first a ranges && is_ascending ranges

@@ -19,12 +19,12 @@ has_range p ranges = list_any (λ r. is_same_prefix p r.prefix) ranges
 abbrev pub in_place : Range → Range → Range
 in_place r other = if is_same_prefix r.prefix other.prefix then r else other
 
--- the range, and behind it the first that is greater, by address and then by length
+-- the range, and after it the first that is greater, by address and then by length
 abbrev pub in_order : Range → List Range → List Range
 in_order r [] = r ∷ []
 in_order r (other ∷ ranges) = if is_lt (network_cmp r.prefix other.prefix) then r ∷ other ∷ ranges else other ∷ in_order r ranges
 
--- A range takes the place of the one with its prefix; if there is none, it comes in order.
+-- A range replaces the one with its prefix; if there is none, it comes in order.
 abbrev pub set_range : Range → List Range → List Range
 set_range r ranges = if has_range r.prefix ranges then map (in_place r) ranges else in_order r ranges
 

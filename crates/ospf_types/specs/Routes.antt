@@ -26,7 +26,7 @@ IsBestEntry s p e =
     ⊎ ((cost : ℕ) × (a : Area) × IsInter s p cost e.paths × IsExamined s a × (e ≡ entry_of Inter (Some a.id) cost 0 e.paths))
     ⊎ ((preference : ExternalPreference) × IsExternal s p preference e.paths × (e ≡ entry_of (external_type preference.kind) None preference.cost preference.metric e.paths))
 
--- the network's entry, its paths in order and each once
+-- the network's entry, its paths in order without duplicates
 pub record IsEntry (s : Inputs) (p : Prefix) (e : Entry) : Type 0 where
   pub best : IsBestEntry s p e
   pub in_order : IsStrictlySortedBy path_cmp e.paths

@@ -1,4 +1,4 @@
--- What is printed of addresses, networks, next hops, paths and entries.
+-- The printed text of addresses, networks, next hops, paths and entries.
 use Rattle.std.specs.Prelude.{ℕ, ◌++◌, List, [], Option, Some, None, codes, decimal}
 use Rattle.std.specs.Int.{w32, to_be_bytes}
 use Rattle.std.specs.List.{join_by}

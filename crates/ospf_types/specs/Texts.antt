@@ -1,4 +1,4 @@
--- What is printed of a fault of a configuration: its number and its name.
+-- The printed text of a fault of a configuration: its number and its name.
 use Rattle.std.specs.Prelude.{ℕ, List, codes}
 use Rattle.ospf_types.specs.declared.fault.ConfigFault.{ConfigFault}
 use Rattle.ospf_types.specs.declared.fault.ConfigFault.TheVariants as fault

@@ -16,7 +16,7 @@ use Rattle.lsa_codec.proofs.Words.{number_again}
 use Rattle.output_lines.specs.Bytes.{IsRouterBody}
 use Rattle.output_lines.specs.Words.{summary_words, body_words}
 
--- the bytes behind a header
+-- the bytes after a header
 pub record IsBodyOf (l : Lsa) (kind : ℕ) (bytes : List ℕ) : Type 0 where
   pub legal : IsLegal l
   pub same : kind ≡ l.header.kind

@@ -1,4 +1,4 @@
--- The pieces of a line, as they are written one behind the other.
+-- The pieces of a line, as they are written one after the other.
 use Rattle.std.proofs.Common.{◌≡◌, ◌∙◌, ◌++◌, ◌-◌, List, [], ◌∷◌, ℕ, Bool, true, ◌&&◌, ltb, length, take, drop, codes, refl, sym, ap, subst, append_assoc}
 use Rattle.std.specs.Prelude.{decimal}
 use Rattle.std.specs.Str.{IsAscii, IsUtf8}

@@ -23,7 +23,7 @@ more_printed old here others new all so_far written =
 
 -- ---- records of one size
 
--- so many records are left, and what is printed of them is to come
+-- this many records are left, and what is printed of them is to come
 pub record RecordsLeft {A : Type 0} (decode : List ℕ → A) (size : ℕ) (words : A → List ℕ) (left : ℕ) (rest now all : List ℕ) : Type 0 where
   pub room : left * size ≤ length rest
   pub printed : now ++ flat_map words (records decode size left rest) ≡ all
@@ -85,7 +85,7 @@ entries_end words n i rest now all le left =
 abbrev pub links_in : ℕ → List ℕ → List RouterLink
 links_in count bytes = map link_of (walk count bytes).met
 
--- so many links are left, the first of which has the number
+-- this many links are left, the first of which has the number
 pub record LinksLeft (number left : ℕ) (rest now all : List ℕ) : Type 0 where
   pub there : AreThere left rest
   pub printed : now ++ links_words number (links_in left rest) ≡ all
@@ -116,7 +116,7 @@ pub links_end : (n i : ℕ) (rest now all : List ℕ) → n ≤ i → LinksLeft 
 links_end n i rest now all le left =
     sym (append-nil now) ∙ ap (λ (w : Walk). now ++ links_words (i + 1) (map link_of w.met)) (sym (walk_done n i rest le)) ∙ left.printed
 
--- behind the number of links
+-- after the number of links
 pub links_counted : (n : ℕ) (bytes old begun new : List ℕ) → AreThere n bytes → begun ≡ old ++ number_line (codes "Links") n → new ≡ begun ++ links_words 1 (links_in n bytes)
     → new ≡ old ++ counted_links (links_in n bytes)
 links_counted n bytes old begun new there first written =

@@ -1,4 +1,4 @@
--- What is printed of a field, and the lines that several fields share.
+-- The printed text of a field, and the lines that several fields share.
 use Rattle.std.specs.Prelude.{ℕ, ◌++◌, ◌==◌, cond, if◌then◌else◌, nat_lt, bit_and, List, [], ◌∷◌, codes, decimal}
 use Rattle.hex.specs.Hex.{encode_lower}
 use Rattle.ospf_types.specs.declared.lsa.LinkKind.{LinkKind}
@@ -6,30 +6,30 @@ use Rattle.ospf_types.specs.declared.lsa.LinkKind.TheVariants.{PointToPoint, Tra
 use Rattle.ospf_types.specs.Lsa.{MaxAge}
 use Rattle.ospf_types.specs.Text.{address_text}
 
--- an address, a mask or a Router ID, behind its name
+-- an address, a mask or a Router ID, after its name
 abbrev pub address_line : (name : List ℕ) (address : ℕ) → List ℕ
 address_line name address = name ++ codes ": " ++ address_text address ++ codes "\n"
 
--- a number in decimal, behind its name
+-- a number in decimal, after its name
 abbrev pub number_line : (name : List ℕ) (number : ℕ) → List ℕ
 number_line name number = name ++ codes ": " ++ decimal number ++ codes "\n"
 
--- bytes in hexadecimal, behind their name
+-- bytes in hexadecimal, after their name
 abbrev pub hexadecimal_line : (name bytes : List ℕ) → List ℕ
 hexadecimal_line name bytes = name ++ codes ": " ++ encode_lower bytes ++ codes "\n"
 
--- behind an age in seconds, whether it is MaxAge
+-- after an age in seconds, whether it is MaxAge
 abbrev pub age_note : ℕ → List ℕ
 age_note age = cond (age == MaxAge) (codes " (MaxAge)") (codes "")
 
--- behind a metric of 24 bits, whether it is LSInfinity, that of a destination which is not reached (B)
+-- after a metric of 24 bits, whether it is LSInfinity, that of a destination which is not reached (B)
 abbrev pub metric_note : ℕ → List ℕ
 metric_note metric = cond (metric == 0xff_ffff) (codes " (LSInfinity)") (codes "")
 
 abbrev pub metric_text : ℕ → List ℕ
 metric_text metric = decimal metric ++ metric_note metric
 
--- the name of a bit behind a comma, if the bit is set
+-- the name of a bit after a comma, if the bit is set
 abbrev pub bit_text : (byte bit : ℕ) (name : List ℕ) → List ℕ
 bit_text byte bit name = cond (nat_lt 0 (bit_and byte bit)) (codes ", " ++ name) (codes "")
 

@@ -13,7 +13,7 @@ use Rattle.ospf_types.specs.Text.{address_text, prefix_text}
 abbrev pub json_line : Data → List ℕ
 json_line value = compact_text value ++ 10 ∷ []
 
--- a name, and what stands under it
+-- a name, and what is under it
 abbrev pub Member : Type 0
 Member = List ℕ × Data
 

@@ -101,7 +101,7 @@ abbrev pub first_words : ExternalRecord → List ℕ
 first_words r =
     external_type_line r.is_type_2 ++ metric_line r.metric ++ address_line (codes "Forwarding address") r.forwarding ++ number_line (codes "External Route Tag") r.tag
 
--- what a record says behind its metric
+-- what a record says after its metric
 abbrev pub record_end : ExternalRecord → List ℕ
 record_end r =
     codes ", Forwarding address " ++ address_text r.forwarding ++ codes ", External Route Tag " ++ decimal r.tag ++ codes "\n"

@@ -21,7 +21,7 @@ are_bytes_drop zero bytes all i = all i
 are_bytes_drop (suc n) [] all i = omega arith
 are_bytes_drop (suc n) (byte ∷ bytes) all i = are_bytes_drop n bytes (λ k. all (suc k)) i
 
--- another word in the place of one
+-- another word in place of one
 pub are_bytes_with : (front back : List ℕ) (high low high' low' : ℕ) → AreBytes (front ++ high ∷ low ∷ back) → high' < 256 → low' < 256 → AreBytes (front ++ high' ∷ low' ∷ back)
 are_bytes_with [] back high low high' low' all h l zero = h
 are_bytes_with [] back high low high' low' all h l (suc zero) = l

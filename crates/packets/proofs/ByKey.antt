@@ -26,7 +26,7 @@ key_equal a b e =
 pub key_itself : (a : Key) → same_key a a ≡ true
 key_itself a = rw (eq-eqb a.source a.source refl, eq-eqb a.destination a.destination refl, eq-eqb a.identification a.identification refl, eq-eqb a.protocol a.protocol refl) refl
 
--- the datagram with the key stands at the place, and nowhere else
+-- the datagram with the key is at the place, and nowhere else
 pub record Stands (key : Key) (all : List Kept) (place : ℕ) : Type 0 where
   pub inside : place < length all
   pub here : slice_get all place ≡ Some (kept_of key all)

@@ -1,4 +1,4 @@
--- One part of a frame, and what is behind it.
+-- One part of a frame, and what is after it.
 use Rattle.std.proofs.Common.{◌≡◌, ℕ, ◌-◌, ◌≤◌, List, ◌++◌, length, take, drop, ap, sym, subst, ◌∙◌, Option, Some, None, option_map, Bor, arith}
 use Rattle.std.proofs.lemmas.List.{take-append-drop, take_all, drop_at, length-drop, length-take-le, length-append}
 use Rattle.packets.specs.Frames.{Finds, Then, IsPast}

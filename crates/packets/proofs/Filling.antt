@@ -6,7 +6,7 @@ use Rattle.packets.proofs.Words.{word_sum-cons, word_sum-append}
 use Rattle.packets.proofs.OnesSums.{sum_of_words}
 use Rattle.packets.proofs.AreBytes.{AreBytes, are_bytes_with}
 
--- what a word adds in the place of two zeros
+-- what a word adds in place of two zeros
 word_added : (front back : List ℕ) (high low : ℕ) → length front % 2 ≡ 0 → word_sum (front ++ high ∷ low ∷ back) ≡ word_sum (front ++ 0 ∷ 0 ∷ back) + (256 * high + low)
 word_added front back high low even =
     let n : ℕ = length front / 2 in

@@ -23,7 +23,7 @@ module _ {X : Type 0} (test : X → Bool) where
       let others : list_any test xs ≡ true = rw e at some in
       rw (e, e) (rest others)
 
-  -- another stands in place of those that pass
+  -- another is in place of those that pass
   pub find_put : (w : X) (xs : List X) → test w ≡ true → list_any test xs ≡ true → find test (map (λ y. if test y then w else y) xs) ≡ Some w
   find_put w [] passes some = absurd cc
   find_put w (x ∷ xs) passes some = put_step w (test x) x xs passes refl (find_put w xs passes) some

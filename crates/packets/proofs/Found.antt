@@ -80,7 +80,7 @@ module _ {X : Type 0} (test : X → Bool) where
       let other : test x ≡ false = not_first (test x) x i refl (only 0 (omega arith)) in
       rw other (ap (λ (r : List X). x ∷ r) (removed xs i d (omega arith) here (λ k below passes. let same : suc k ≡ suc i = only (suc k) (omega arith) passes in omega arith)))
 
-  -- another stands in its place
+  -- another is in its place
   pub replaced : (y : X) (xs : List X) (i : ℕ) (d : X) → i < length xs → test (get_or xs i d) ≡ true → ((k : ℕ) → k < length xs → test (get_or xs k d) ≡ true → k ≡ i)
       → set xs i y ≡ map (λ x. if test x then y else x) xs
   replaced y [] i d lt here only = absurd (omega arith)

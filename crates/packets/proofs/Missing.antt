@@ -9,7 +9,7 @@ use Rattle.packets.specs.Kept.{count_missing}
 abbrev one_if_not : Bool → ℕ
 one_if_not came = cond (not came) 1 0
 
--- so many places at the offset are filled
+-- this many places at the offset are filled
 pub count_marked : (offset count : ℕ) (came : List Bool) → count_missing (take offset came ++ replicate count true ++ drop (offset + count) came) + count_missing (take count (drop offset came)) ≡ count_missing came
 count_marked offset count came =
     let front : List Bool = take offset came in

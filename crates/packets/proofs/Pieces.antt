@@ -79,7 +79,7 @@ one_in_front n place lsa behind one =
 
 -- ---- they are the pieces
 
--- the end is the same where an LSA more stands in front, and where it is taken away
+-- the end is the same where an LSA more is at the start, and where it is taken away
 abbrev IsEnd : (found count place : ℕ) → List ℕ → List Piece → Type 0
 IsEnd found count place rest end = IsWhole found count end ⊎ IsCut found count place rest end
 

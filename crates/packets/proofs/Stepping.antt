@@ -1,4 +1,4 @@
--- What is kept after one more fragment, of a datagram that stands at a place or of one that begins.
+-- What is kept after one more fragment, of a datagram that is at a place or of one that begins.
 use Rattle.std.proofs.Common.{◌≡◌, ◌≢◌, ℕ, zero, suc, ◌+◌, ◌-◌, ◌<◌, ◌≤◌, Bool, true, false, ◌&&◌, ◌||◌, not, ltb, List, [], ◌∷◌, ◌++◌, length, get_or, set, drop, refl, sym, ap, subst, ◌∙◌, Option, Some, None, Result, Ok, Err, OnOk, OnErr, unwrap_or, cond, Vec, Global, arith}
 use Rattle.std.specs.Prelude.{if◌then◌else◌}
 use Rattle.std.specs.List.{list_any, find, remove}
@@ -22,7 +22,7 @@ use Rattle.packets.proofs.ByKey.{Stands, IsMissing, key_itself}
 abbrev pub AreKept : List Kept → Type 0
 AreKept all = (length all ≤ MOST) × AreApart all × AreShort all
 
--- ---- a datagram that stands at a place
+-- ---- a datagram that is at a place
 
 pub changed_is : (key : Key) (p : Part) (all : List Kept) (place : ℕ) → Stands key all place → changed p (kept_of key all) all place ≡ kept_after key p all
 changed_is key p all place stands =

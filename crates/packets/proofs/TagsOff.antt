@@ -1,4 +1,4 @@
--- Tags are taken off one by one, and what is behind them stays.
+-- Tags are taken off one by one, and what is after them stays.
 use Rattle.std.proofs.Common.{◌≡◌, ℕ, ◌<◌, List, [], ◌∷◌, ◌++◌, length, ap, sym, ◌∙◌, inl, inr, arith}
 use Rattle.packets.specs.Frames.{IsBehindTag, IsBehindTags, IsBehindType, IsTagType, AreTags}
 

@@ -40,7 +40,7 @@ last a b c d e f g h total more e-is =
     let like = long_word (256 * a + b) (256 * c + d) (256 * e + f) (256 * g + h) more in
     ap folded (omega arith) ∙ like ∙ ap folded (omega (arith, e-is))
 
--- the last bytes, with zeros behind them
+-- the last bytes, with zeros after them
 pub last_padded : (bytes : List ℕ) (more : ℕ) → length bytes < 8 → folded (big_number 8 (bytes ++ drop (length bytes) zeros) + more) ≡ folded (word_sum bytes + more)
 last_padded [] more short = last 0 0 0 0 0 0 0 0 _ more (omega arith)
 last_padded (a ∷ []) more short = last a 0 0 0 0 0 0 0 _ more (omega arith)

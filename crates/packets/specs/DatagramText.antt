@@ -1,4 +1,4 @@
--- What is printed of faults.
+-- The printed text of faults.
 use Rattle.std.specs.Prelude.{ℕ, List, codes}
 use Rattle.packets.specs.declared.datagram_fault.DatagramFault.{DatagramFault}
 use Rattle.packets.specs.declared.datagram_fault.DatagramFault.TheVariants.{Header, Length, Fragment}

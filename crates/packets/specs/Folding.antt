@@ -10,6 +10,6 @@ folded n = if n == 0 then 0 else (n - 1) % 65535 + 1
 abbrev pub word_sum : List ℕ → ℕ
 word_sum bytes = sum (words bytes)
 
--- eight zeros, of which some are put behind the last bytes
+-- eight zeros, of which some are put after the last bytes
 abbrev pub zeros : List ℕ
 zeros = 0 ∷ 0 ∷ 0 ∷ 0 ∷ 0 ∷ 0 ∷ 0 ∷ 0 ∷ []

@@ -1,4 +1,4 @@
--- What stands where in a frame that carries an IPv4 packet, by the link type of its capture.
+-- What is where in a frame that carries an IPv4 packet, by the link type of its capture.
 use Rattle.std.specs.Borrow.{Bor}
 use Rattle.std.specs.Prelude.{ℕ, ◌≡◌, ◌⊎◌, ◌↔◌, Option, Some, option_map, ◌/◌, List, [], ◌∷◌, ◌++◌, length, slice_index}
 
@@ -16,7 +16,7 @@ IsBehindType bytes packet = bytes ≡ 0x08 ∷ 0x00 ∷ packet
 abbrev pub IsTagType : ℕ → ℕ → Type 0
 IsTagType high low = (high ≡ 0x81 × low ≡ 0x00) ⊎ (high ≡ 0x88 × low ≡ 0xa8) ⊎ (high ≡ 0x91 × low ≡ 0x00)
 
--- tags of 4 bytes, one behind the other
+-- tags of 4 bytes, one after the other
 abbrev pub AreTags : List ℕ → Type 0
 AreTags [] = Unit
 AreTags (a ∷ []) = ⊥
@@ -24,7 +24,7 @@ AreTags (a ∷ b ∷ []) = ⊥
 AreTags (a ∷ b ∷ c ∷ []) = ⊥
 AreTags (a ∷ b ∷ c ∷ d ∷ tags) = IsTagType a b × AreTags tags
 
--- the bytes are one tag, and what is behind it
+-- the bytes are one tag, and what is after it
 pub record IsBehindTag (bytes rest : List ℕ) : Type 0 where
   pub high : ℕ
   pub low : ℕ
@@ -41,13 +41,13 @@ pub record IsBehindTags (bytes packet : List ℕ) : Type 0 where
 
 -- ---- frames
 
--- the bytes are so many of no interest here, and the rest
+-- the bytes are this many of no interest here, and the rest
 pub record IsPast (count : ℕ) (bytes rest : List ℕ) : Type 0 where
   pub front : List ℕ
   pub many : length front ≡ count
   pub whole : bytes ≡ front ++ rest
 
--- one part of a frame, and the next one behind it
+-- one part of a frame, and the next one after it
 abbrev pub Then : (List ℕ → List ℕ → Type 0) → (List ℕ → List ℕ → Type 0) → List ℕ → List ℕ → Type 0
 Then First Second frame packet = (rest : List ℕ) × First frame rest × Second rest packet
 

@@ -52,7 +52,7 @@ whole_with p kept =
 
 -- ---- by the steps of a call
 
--- a datagram that stands at the place
+-- a datagram that is at the place
 abbrev pub changed : Part → Kept → List Kept → ℕ → List Kept
 changed p before all place = if is_done p before then remove all place else slice_set all place (with_part p before)
 

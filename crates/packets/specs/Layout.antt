@@ -1,4 +1,4 @@
--- The header of an IPv4 datagram (RFC 791, 3.1): what stands where, and why bytes are none.
+-- The header of an IPv4 datagram (RFC 791, 3.1): what is where, and why bytes are none.
 use Rattle.std.specs.Prelude.{ℕ, ◌+◌, ◌*◌, ◌-◌, ◌/◌, ◌%◌, ◌==◌, ◌&&◌, ◌||◌, not, nat_lt, ◌≤◌, Bool, List, [], ◌∷◌, length, take, drop, slice_index, Option}
 use Rattle.byteorder.specs.Endian.{big_number}
 use Rattle.ospf_types.specs.FirstOf.{first_of}
@@ -44,7 +44,7 @@ destination_field bytes = big_number 4 (drop 16 bytes)
 abbrev pub payload_length : List ℕ → ℕ
 payload_length bytes = total_length bytes - header_length bytes
 
--- what is behind the header, up to the total length
+-- what is after the header, up to the total length
 abbrev pub payload_field : List ℕ → List ℕ
 payload_field bytes = take (payload_length bytes) (drop (header_length bytes) bytes)
 

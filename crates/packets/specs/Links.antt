@@ -9,7 +9,7 @@ abbrev pub link_of_number : ℕ → Option LinkType
 link_of_number number =
     if number == 0 then Some Null else (if number == 1 then Some Ethernet else (if number == 12 || number == 101 || number == 228 then Some Raw else (if number == 108 then Some Loop else (if number == 113 then Some CookedV1 else (if number == 276 then Some CookedV2 else None)))))
 
--- the frame carries the IPv4 packet; bytes that the link has put behind it count to it
+-- the frame carries the IPv4 packet; bytes that the link has put after it count to it
 abbrev pub Carries : LinkType → List ℕ → List ℕ → Type 0
 Carries Null frame packet = IsAnyFirst frame packet
 Carries Ethernet frame packet = IsEthernet frame packet

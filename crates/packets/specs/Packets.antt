@@ -36,11 +36,11 @@ authentication_field bytes = big_number 2 (drop 14 bytes)
 abbrev pub authentication_data : List ℕ → List ℕ
 authentication_data bytes = take 8 (drop 16 bytes)
 
--- what is behind the length is no part of the packet
+-- what is after the length is no part of the packet
 abbrev pub packet_in : List ℕ → List ℕ
 packet_in bytes = take (length_field bytes) bytes
 
--- what is behind the header
+-- what is after the header
 abbrev pub body_field : List ℕ → List ℕ
 body_field bytes = drop 24 (packet_in bytes)
 
@@ -78,7 +78,7 @@ has_wrong_sum packet = not (authentication_field packet == 2) && not (has_right_
 
 -- ---- the faults in their order
 
--- the packet's length, where so many bytes are there, is less than the header's or more than these
+-- the packet's length, where this many bytes are there, is less than the header's or more than these
 abbrev pub is_wrong_length : ℕ → ℕ → Bool
 is_wrong_length size present = nat_lt size 24 || nat_lt present size
 

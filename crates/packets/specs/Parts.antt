@@ -13,7 +13,7 @@ pub record Part : Type 0 where
 abbrev pub part_of : Datagram → Part
 part_of d = record { offset = d.offset; is_last = d.is_last; payload = d.payload.now }
 
--- the place behind its last byte
+-- the place after its last byte
 abbrev pub end_of : Part → ℕ
 end_of p = p.offset + length p.payload
 
@@ -26,7 +26,7 @@ abbrev pub byte_at : List Part → ℕ → Option ℕ
 byte_at [] place = None
 byte_at (p ∷ parts) place = if has_place place p then Some (slice_index p.payload (place - p.offset)) else byte_at parts place
 
--- the place behind the last byte of all
+-- the place after the last byte of all
 abbrev pub extent : List Part → ℕ
 extent [] = 0
 extent (p ∷ parts) = max (end_of p) (extent parts)

@@ -27,25 +27,25 @@ Piece = Result (List ℕ) UpdateFault
 
 -- ---- which pieces there are
 
--- an LSA stands in front
+-- an LSA is at the start
 pub record StartsWithLsa (bytes : List ℕ) : Type 0 where
   pub lsa : List ℕ
   pub behind : List ℕ
   pub whole : bytes ≡ lsa ++ behind
   pub is_lsa : IsOneLsa lsa
 
--- as many LSAs were found as there are to be, and nothing comes behind the last
+-- as many LSAs were found as there are to be, and nothing comes after the last
 pub record IsWhole (found count : ℕ) (end : List Piece) : Type 0 where
   pub all : found ≡ count
   pub nothing : end ≡ []
 
--- fewer were found, no LSA stands in front of the rest, and a fault that tells the place comes behind the last
+-- fewer were found, no LSA is at the start of the rest, and a fault that tells the place comes after the last
 pub record IsCut (found count place : ℕ) (rest : List ℕ) (end : List Piece) : Type 0 where
   pub fewer : found < count
   pub none : StartsWithLsa rest → ⊥
   pub fault : end ≡ Err (LsaLength place) ∷ []
 
--- So many LSAs are to stand in the bytes, and the place is how many bytes of the body are before. The bytes are LSAs
+-- This many LSAs are to be in the bytes, and the place is how many bytes of the body are before. The bytes are LSAs
 -- and a rest; the pieces are these LSAs and their end.
 pub record ArePieces (count place : ℕ) (bytes : List ℕ) (pieces : List Piece) : Type 0 where
   pub lsas : List (List ℕ)
@@ -65,7 +65,7 @@ ArePiecesOf body pieces = ArePieces (count_field body) 4 (drop 4 body) pieces
 abbrev pub has_lsa : List ℕ → Bool
 has_lsa bytes = nat_le 20 (length bytes) && (nat_le 20 (lsa_length bytes) && nat_le (lsa_length bytes) (length bytes))
 
--- of so many LSAs that are to stand in the bytes; the place is how many bytes of the body are before
+-- of this many LSAs that are to be in the bytes; the place is how many bytes of the body are before
 abbrev pub pieces_from : (count place : ℕ) → List ℕ → List Piece
 pieces_from zero place bytes = []
 pieces_from (suc n) place bytes =

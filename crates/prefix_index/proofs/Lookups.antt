@@ -18,7 +18,7 @@ module _ {V : Type 0} where
   pub named_at : (es : List (Network × V)) (i : ℕ) (p : Network) (d : Network × V) → HasNetwork es i p → (get_or es i d).0 ≡ p
   named_at es i p d has = ap (λ (e : Network × V). e.0) (get_or_from_slice_get es i (p, has.value) d has.stands)
 
-  -- each stands once
+  -- each occurs once
   pub pairs_apart : (es : List (Network × V)) → IsOnce es → AllPairs (λ e f. e.0 ≢ f.0) es
   pairs_apart es once i j d below within same =
       let one = once i j (get_or es j d).0 (has_at es i (get_or es j d).0 d (omega arith) same) (has_at es j (get_or es j d).0 d within refl) in
@@ -37,7 +37,7 @@ module _ {V : Type 0} where
   counted_more : (o : Option V) (n : ℕ) → o ≡ None → cond (is_some o) n (n + 1) ≡ n + 1
   counted_more o n none = ap (λ (p : Option V). cond (is_some p) n (n + 1)) none
 
-  -- so many networks have a value
+  -- this many networks have a value
   pub counted : (es : List (Network × V)) → IsOnce es → len (map_of es) ≡ length es
   counted [] once = len-empty network_cmp V
   counted (e ∷ es) once =

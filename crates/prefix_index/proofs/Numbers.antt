@@ -26,7 +26,7 @@ other_number hashing bits p q i j first second other same =
     let less : a * 2 ^ bits + i ≡ b * 2 ^ bits + j = omega (arith, same) in
     other (same_from_place a i b j (2 ^ bits) (omega arith) (omega arith) less).1
 
--- no number is that of an empty slot or of one whose entry is gone
+-- no number belongs to an empty slot or of one whose entry is gone
 pub some_number : (hashing : WordHash) (bits : ℕ) (p : Network) (i : ℕ) → 2 ≤ base_of hashing bits p + i
 unfolding base_of
 some_number hashing bits p i = omega arith

@@ -19,7 +19,7 @@ pub record HasNetwork {V : Type 0} (entries : List (Network × V)) (i : ℕ) (p 
   pub value : V
   pub stands : slice_get entries i ≡ Some (p, value)
 
--- a slot at or behind the home has the number, and none from the home to it is empty
+-- a slot at or after the home has the number, and none from the home to it is empty
 pub record IsPlaced (numbers : List ℕ) (home number : ℕ) : Type 0 where
   pub slot : ℕ
   pub after : home ≤ slot
@@ -45,7 +45,7 @@ LeadsNowhere {V} numbers home base entries p = (i : ℕ) → HasNetwork entries 
 abbrev pub IsMissing : {V : Type 0} → WordHash → Slots → List (Network × V) → Network → Type 0
 IsMissing {V} hashing s entries p = LeadsNowhere s.numbers.items (home_of hashing s.bits p) (base_of hashing s.bits p) entries p
 
--- the number is that of no entry of the network
+-- the number belongs to no entry of the network
 abbrev pub IsOtherNumber : {V : Type 0} → (number base : ℕ) → List (Network × V) → Network → Type 0
 IsOtherNumber {V} number base entries p = (i : ℕ) → HasNetwork entries i p → number ≢ base + i
 
@@ -72,11 +72,11 @@ pub record IsReady (s : Slots) (count : ℕ) : Type 0 where
   pub long : 2 ^ s.bits ≤ length s.numbers.items
   pub spare : s.used < 2 ^ s.bits
 
--- the fewest homes, or fewer than ten for each of so many entries
+-- the fewest homes, or fewer than ten for each of this many entries
 abbrev pub AreFew : ℕ → ℕ → Type 0
 AreFew bits count = (bits ≡ 3) ⊎ (2 ^ bits < 10 * count)
 
--- homes of so many bits have room for so many entries, and are few
+-- homes of this many bits have room for this many entries, and are few
 abbrev pub AreBitsFor : (count bits : ℕ) → Type 0
 AreBitsFor count bits = (bits ≤ 31) × (3 ≤ bits) × (count + 3 ≤ 2 ^ bits) × AreFew bits count
 
@@ -88,7 +88,7 @@ pub record IsMore (s t : Slots) : Type 0 where
   pub longer : length s.numbers.items ≤ length t.numbers.items
   pub bound : length t.numbers.items + s.used ≤ length s.numbers.items + t.used
 
--- the slots are those of the entries: each is found, and there are not many more than homes
+-- the slots belong to the entries: each is found, and there are not many more than homes
 pub record AreSlotted {V : Type 0} (hashing : WordHash) (entries : List (Network × V)) (s : Slots) : Type 0 where
   pub small : s.bits ≤ 31
   pub room : length entries + 2 ≤ 2 ^ s.bits
@@ -105,7 +105,7 @@ pub record IsWhole {V : Type 0} (hashing : WordHash) (entries : List (Network ×
   pub once : IsOnce entries
   pub slotted : AreSlotted hashing entries s
 
--- the slots are those of the entries without the one at the place, whose place the last one has
+-- the slots belong to the entries without the one at the place, whose place the last one has
 pub record IsTaken {V : Type 0} (hashing : WordHash) (entries : List (Network × V)) (i : ℕ) (s t : Slots) : Type 0 where
   pub bits : t.bits ≡ s.bits
   pub used : t.used ≡ s.used

@@ -43,7 +43,7 @@ module _ (v : Version) where
   said_legal (l ∷ ls) [] all = absurd all
   said_legal (l ∷ ls) (f ∷ fs) all = All-cons IsForm f fs all.0.legal (said_legal ls fs all.1)
 
--- ---- a header, and what stands behind it
+-- ---- a header, and what comes after it
 
 -- what the first lines say, and then this
 abbrev pub begun_with : Version → Base → List Form → List Form

@@ -218,7 +218,7 @@ pub ordered_none : IsOrdered []
 unfolding IsStrictlySortedBy
 ordered_none = record { ascending = tt; ranges = All-nil (λ a. AreRising a.ranges) }
 
--- ---- the lines of areas in order may stand one behind the other
+-- ---- the lines of areas in order may stand one after the other
 
 abbrev pub InOrder : List AreaConfig → List Form → Type 0
 InOrder areas [] = Unit {0}

@@ -1,4 +1,4 @@
--- From line to line of a base, behind its header.
+-- From line to line of a base, after its header.
 use Rattle.std.proofs.Common.{ℕ, ◌≡◌, ◌≢◌, ◌+◌, ◌<◌, ◌++◌, ◌&&◌, ◌||◌, Bool, true, false, List, [], ◌∷◌, length, map, Option, Some, None, All, refl, sym, ap, subst, ◌∙◌, inl, inr, append_assoc, append-nil}
 use Rattle.std.specs.Prelude.{is_some, is_none}
 use Rattle.std.specs.Cmp.{IsTotalOrder, nat_cmp_total}
@@ -161,7 +161,7 @@ ordered_has b (BodyLine body) ordered taken = ordered
 
 -- ---- an LSA that was read
 
--- the bytes are those of the LSA, and it has this key
+-- the bytes belong to the LSA, and it has this key
 pub record IsReadAs (bytes : List ℕ) (l : Lsa) (key : Key) : Type 0 where
   pub spelled : spelling l ≡ bytes
   pub whole : IsWhole l

@@ -40,7 +40,7 @@ module _ (text : List ℕ) (taken : ℕ) (none : taken ≡ 0) (left : List (List
   pub first_other : (line behind : List ℕ) → left ≡ line ∷ parts_of behind → IsNoVersion line → IsFaultOf text (record { line = taken + 1; fault = fault.Version })
   first_other line behind is none = inr (version_fault (first_at One line behind is (other_version line none)) none)
 
--- ---- the lines behind it, as long as one of the first lines is missing
+-- ---- the lines after it, as long as one of the first lines is missing
 
 pub one_few : (v : Version) → 1 < first_lines v
 one_few One = omega arith

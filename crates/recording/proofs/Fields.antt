@@ -38,7 +38,7 @@ no_router before middle after kind id first second none key rest h same = none k
 
 -- ---- networks
 
--- what stands behind the byte at a place
+-- what comes after the byte at a place
 abbrev pub behind : ℕ → List ℕ → List ℕ
 behind place word = take (length word - (place + 1)) (drop (place + 1) word)
 

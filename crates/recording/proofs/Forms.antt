@@ -218,7 +218,7 @@ some_word (BodyLine body) = some_body_word body
 pub line_split : (form : Form) → IsForm form → slice_split (λ b. b == 32) (line_text form) ≡ words_of form
 line_split form h = split_again (words_of form) (some_word form) (words_plain form h)
 
--- ---- a form from its words, where they are those of one
+-- ---- a form from its words, where they belong to one
 
 address_of : Option (List ℕ × List ℕ) → ℕ
 address_of None = 0

@@ -82,7 +82,7 @@ pub areas_stay : {Y : Type 0} (g : Y → Form) → ((areas : List AreaConfig) (y
 areas_stay g stays areas [] = refl
 areas_stay g stays areas (y ∷ ys) = stays areas y (map g ys) ∙ areas_stay g stays areas ys
 
--- all lines of a base behind the first ones
+-- all lines of a base after the first ones
 abbrev pub base_forms : Base → List Form
 base_forms b = flat_map area_forms b.config.areas ++ has_forms b
 

@@ -29,7 +29,7 @@ text_push : (fs : List Form) (form : Form) → text_of_forms (fs ++ form ∷ [])
 text_push fs form =
     flat_map-append ended fs (form ∷ []) ∙ ap (λ (t : List ℕ). text_of_forms fs ++ t) (append-nil (ended form))
 
--- ---- a line that is read behind the others is one more of the recording
+-- ---- a line that is read after the others is one more of the recording
 
 pub text_grows : {bytes line : List ℕ} {r : RecordingValue} {l : Line} → IsText bytes r → IsLineOf r.version line l → IsText (bytes ++ (line ++ 10 ∷ [])) (record r { lines = r.lines ++ l ∷ [] })
 text_grows {bytes} {line} {r} {l} h of = record {
@@ -52,11 +52,11 @@ no_feed [] all = All-nil (λ b. (b == 10) ≡ false)
 no_feed (c ∷ line) all =
     All-cons (λ b. (b == 10) ≡ false) c line (ne_eqb c 10 (All-head (λ b. b ≢ 10) c line all)) (no_feed line (All-tail (λ b. b ≢ 10) c line all))
 
--- the number of the line behind those that were taken
+-- the number of the line after those that were taken
 next_number : {text : List ℕ} {rest : List (List ℕ)} {r : RecordingValue} (run : Lined text rest r) (number : ℕ) → number ≡ length (forms_of r) + 1 → run.taken + 1 ≡ number
 next_number {text} {rest} {r} run number is = omega (arith, is, run.has.counted, said_length r.version run.has.before (forms_of r) run.has.said)
 
--- the text of the recording, and a line behind it
+-- the text of the recording, and a line after it
 run_with_line : {bytes line : List ℕ} {r : RecordingValue} → IsText bytes r → r.lines ≢ [] → All (λ b. b ≢ 10) line → Lined (bytes ++ (line ++ 10 ∷ [])) (line ∷ [] ∷ []) r
 run_with_line {bytes} {line} {r} h some plain =
     run_to (line ∷ [] ∷ []) h
@@ -64,7 +64,7 @@ run_with_line {bytes} {line} {r} h some plain =
     (omega arith)
     (λ none. absurd (some none))
 
--- the text of the recording, and a line without its line feed behind it
+-- the text of the recording, and a line without its line feed after it
 run_with_cut : {bytes left : List ℕ} {r : RecordingValue} → IsText bytes r → r.lines ≢ [] → All (λ b. b ≢ 10) left → Lined (bytes ++ left) (left ∷ []) r
 run_with_cut {bytes} {left} {r} h some plain =
     run_to (left ∷ []) h
@@ -72,14 +72,14 @@ run_with_cut {bytes} {left} {r} h some plain =
     (omega arith)
     (λ none. absurd (some none))
 
--- a fault of the line that is read behind the others is the first of the text
+-- a fault of the line that is read after the others is the first of the text
 pub fault_grows : {bytes : List ℕ} {r : RecordingValue} {f : Fault} (line : List ℕ) → IsText bytes r → r.lines ≢ [] → All (λ b. b ≢ 10) line → IsFaultBehind r.version line f → (number : ℕ) → number ≡ length (forms_of r) + 1 → IsFaultOf (bytes ++ (line ++ 10 ∷ [])) (record { line = number; fault = f })
 fault_grows {bytes} {r} {f} line h some plain has number is =
     let run = run_with_line h some plain in
     subst (λ (n : ℕ). IsFaultOf (bytes ++ (line ++ 10 ∷ [])) (record { line = n; fault = f })) (next_number run number is)
     (fault_behind run.has line ([] ∷ []) refl (omega arith) (λ none. absurd (some none)) f has)
 
--- what is left behind the last line feed is a line that is cut off
+-- what is left after the last line feed is a line that is cut off
 pub cut_grows : {bytes : List ℕ} {r : RecordingValue} (left : List ℕ) → IsText bytes r → r.lines ≢ [] → All (λ b. b ≢ 10) left → left ≢ [] → (number : ℕ) → number ≡ length (forms_of r) + 1 → IsFaultOf (bytes ++ left) (record { line = number; fault = fault.Truncated })
 cut_grows {bytes} {r} left h some plain full number is =
     let run = run_with_cut h some plain in

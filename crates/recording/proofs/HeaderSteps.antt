@@ -176,7 +176,7 @@ end_full v (line ∷ rest) e = omega arith
 
 -- ---- a form that is next
 
--- what there is to say of a form that may stand there
+-- what there is to say of a form that may are there
 pub record IsNextForm (v : Version) (before : List (List ℕ)) (form : Form) : Type 0 where
   pub placed : IsPlaced v before form
   pub whole : IsHarmless form
@@ -201,7 +201,7 @@ next_form v before b all (HasInterfaceLine id i) next = cc
 next_form v before b all (HasLsaLine at bytes) next = cc
 next_form v before b all (BodyLine body) next = cc
 
--- a line of the header that may stand behind these is next
+-- a line of the header that may come after these is next
 placed_next : (v : Version) (before : List (List ℕ)) (areas : List AreaConfig) → ((forms : List Form) → AreSaid v before forms → front_of forms ≡ headed areas) → (form : Form) → is_of_header form ≡ true → IsPlaced v before form → is_next_area areas form ≡ true
 placed_next v before areas same (AreaLine id stub) here h = subst (λ (f : Front). is_next f (AreaLine id stub) ≡ true) (same h.0 h.1) h.2
 placed_next v before areas same (RangeLine area range) here h = subst (λ (f : Front). is_next f (RangeLine area range) ≡ true) (same h.0 h.1) h.2

@@ -1,4 +1,4 @@
--- From line to line behind the header.
+-- From line to line after the header.
 use Rattle.std.proofs.Common.{ℕ, ◌≡◌, ◌≢◌, ◌+◌, ◌<◌, ◌≤◌, ◌⊎◌, ◌++◌, ◌||◌, Bool, true, false, not, List, [], ◌∷◌, length, map, None, All, refl, sym, ap, subst, ◌∙◌, inl, inr, arith, append_assoc}
 use Rattle.std.specs.List.{flat_map, join_with_byte, list_any}
 use Rattle.std.proofs.lemmas.List.Folds.{list_any-append}
@@ -26,7 +26,7 @@ use Rattle.recording.proofs.HeaderSteps.{not_both, right_past, of_end}
 use Rattle.recording.proofs.Parts.{IsLineAt, HasNoWireFault, fits, line_fault, line_there, but_config, form_fault, order_fault, wire_fault, end_fault, two_first, three_first, version_push}
 use Rattle.recording.proofs.AllSaid.{begun_with, said_push, said_legal, said_behind, forms_behind}
 
--- ---- what stands behind the header
+-- ---- what comes after the header
 
 -- where the header has ended no line of it may stand
 not_ended : (f : Front) (form : Form) → is_of_header form ≡ true → is_next f form ≡ true → f.ended ≡ false
@@ -85,7 +85,7 @@ kept_push r line l kept of = record {
   lines = All-push (IsLineIn r.version) r.lines l kept.lines of.own;
 }
 
--- the first lines, and those behind them
+-- the first lines, and those after them
 pub first_and_later : (r : RecordingValue) → forms_of r ≡ first_forms r.version r.base ++ later_forms r
 first_and_later r =
     let first : List Form = first_forms r.version r.base in
@@ -94,7 +94,7 @@ first_and_later r =
     let ls : List Form = map form_of r.lines in
     append_assoc (first ++ hs) bs ls ∙ append_assoc first hs (bs ++ ls)
 
--- what the lines behind the first ones say
+-- what the lines after the first ones say
 behind_first : (r : RecordingValue) (before : List (List ℕ)) → AllSay r.version before (forms_of r) → AllSay r.version before (begun_with r.version r.base (later_forms r))
 behind_first r before said = subst (AllSay r.version before) (first_and_later r) said
 
@@ -156,7 +156,7 @@ module _ {text : List ℕ} {taken : ℕ} {left : List (List ℕ)} {r : Recording
   pub many_lines : first_lines r.version ≤ length h.before
   many_lines = (said_behind r.version h.before r.base (later_forms r) (behind_first r h.before h.said)).many
 
-  -- what the lines behind the first ones say
+  -- what the lines after the first ones say
   pub later_said : AreSaid r.version h.before (later_forms r)
   later_said = said_behind r.version h.before r.base (later_forms r) (behind_first r h.before h.said)
 

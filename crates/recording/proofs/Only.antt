@@ -1,4 +1,4 @@
--- The text of a recording has no fault, and is that of no other.
+-- The text of a recording has no fault, and belongs to no other.
 use Rattle.std.proofs.Common.{ℕ, ◌≡◌, ◌≢◌, ◌+◌, ◌<◌, ◌≤◌, ◌==◌, ◌++◌, Bool, true, false, List, [], ◌∷◌, length, map, None, All, Result, Ok, Err, MatchResult, IfOk, IfErr, refl, sym, ap, subst, ◌∙◌, inl, inr, arith, append_assoc, append-nil, length-append}
 use Rattle.std.specs.List.{flat_map}
 use Rattle.std.proofs.lemmas.Bool.{cases_lt}
@@ -42,7 +42,7 @@ use Rattle.recording.proofs.Beginning.{one_few, two_few, three_few, counted, har
 
 -- ---- the parts of the text
 
--- lines, and what stands behind them
+-- lines, and what comes after them
 parts_and : (fs : List Form) (behind : List ℕ) → All IsForm fs → parts_of (text_of_forms fs ++ behind) ≡ map line_text fs ++ parts_of behind
 parts_and [] behind all = refl
 parts_and (f ∷ fs) behind all =
@@ -50,7 +50,7 @@ parts_and (f ∷ fs) behind all =
     ∙ slice_split_at (λ b. b == 10) (line_text f) 10 (text_of_forms fs ++ behind) (no_line_feed f (All-head IsForm f fs all)) refl
     ∙ ap (λ (t : List (List ℕ)). line_text f ∷ t) (parts_and fs behind (All-tail IsForm f fs all))
 
--- the text of a recording, and what stands behind it
+-- the text of a recording, and what comes after it
 pub parts_and_more : {text : List ℕ} {r : RecordingValue} → IsText text r → (behind : List ℕ) → parts_of (text ++ behind) ≡ map line_text (forms_of r) ++ parts_of behind
 parts_and_more {text} {r} h behind = ap (λ (t : List ℕ). parts_of (t ++ behind)) h.spelled ∙ parts_and (forms_of r) behind h.forms
 
@@ -75,7 +75,7 @@ forms_once {text} {r} {s} h k =
     lines_once (forms_of r) (forms_of s) h.forms k.forms
     (append_cancel_right (map line_text (forms_of r)) (map line_text (forms_of s)) ([] ∷ []) (sym (parts_of_text h) ∙ parts_of_text k))
 
--- the line that a form behind the header says
+-- the line that a form after the header says
 line_of : Form → Line
 line_of (BodyLine (InterfaceLine id area address peer up)) = line_is.Event (event.Interface id area address peer up)
 line_of (BodyLine (InstallLine at bytes)) = line_is.Event (event.Install at (lsa_of bytes))
@@ -167,7 +167,7 @@ later_areas r =
     ∙ ap (λ (areas : List AreaConfig). areas_from areas (map form_of r.lines)) (base_areas r.base)
     ∙ areas_stay form_of (λ areas l fs. refl) r.base.config.areas r.lines
 
--- what the first lines of two recordings of one version say, and the lines behind them
+-- what the first lines of two recordings of one version say, and the lines after them
 record AreSame (a b : Bool) (m n : ℕ) (fs gs : List Form) : Type 0 where
   compat : a ≡ b
   serial : m ≡ n
@@ -218,7 +218,7 @@ text_once {text} {r} {s} h k =
 
 -- ---- it has no fault
 
--- So many lines of the text were taken, and say the recording. The parts in `rest` are left.
+-- This many lines of the text were taken, and say the recording. The parts in `rest` are left.
 pub record Lined (text : List ℕ) (rest : List (List ℕ)) (r : RecordingValue) : Type 0 where
   pub taken : ℕ
   pub has : HasLines text taken rest r
@@ -340,7 +340,7 @@ lsas_run v text b spelled ordered fit xs (x ∷ ys) rest is full legal whole h =
 
 -- ---- all of them
 
--- behind a header come other lines, or nothing
+-- after a header come other lines, or nothing
 ends_there : (v : Version) (end : List (List ℕ)) (forms : List Form) → 0 < length end → All IsForm forms → All (IsOfVersion v) forms → All (λ f. is_of_header f ≡ false) forms → (forms ≡ [] → EndsHeader v end) → EndsHeader v (map line_text forms ++ end)
 ends_there v end [] full legal own others ends = ends refl
 ends_there v end (f ∷ forms) full legal own others ends =
@@ -415,7 +415,7 @@ first_run Three text setting rest spelled legal small full parts =
     let last = next_step_at next three_few fourth rest refl full (SerialLine setting.serial) (says_itself Three (SerialLine setting.serial) small refl) (counted next three_few) (harmless_serial setting.serial) in
     record { taken = 1 + 1 + 1 + 1; has = header_begins setting spelled last }
 
--- the lines of two lists of forms, and what stands behind them
+-- the lines of two lists of forms, and what comes after them
 told : (fs gs : List Form) (end : List (List ℕ)) → map line_text (fs ++ gs) ++ end ≡ map line_text fs ++ (map line_text gs ++ end)
 told fs gs end = ap (λ (t : List (List ℕ)). t ++ end) (map-append line_text fs gs) ∙ append_assoc (map line_text fs) (map line_text gs) end
 
@@ -438,7 +438,7 @@ no_lines : (fs : List Form) (lines : List Line) → fs ++ map form_of lines ≡ 
 no_lines fs [] none = refl
 no_lines fs (l ∷ lines) none = absurd (pushed fs (form_of l) (map form_of lines) none)
 
--- Reading a text from line to line that begins with the lines of the recording. Behind them stand the parts of `end`.
+-- Reading a text from line to line that begins with the lines of the recording. After them stand the parts of `end`.
 pub run_to : {whole text : List ℕ} {r : RecordingValue} (end : List (List ℕ)) → IsText whole r → parts_of text ≡ map line_text (forms_of r) ++ end → 0 < length end → (r.lines ≡ [] → EndsHeader r.version end) → Lined text end r
 run_to {whole} {text} {r} end h begins full ends_header =
     let v : Version = r.version in

@@ -47,7 +47,7 @@ pub version_push : (before : List (List ℕ)) (line : List ℕ) → before ≢ [
 version_push [] line some = absurd (some refl)
 version_push (first ∷ before) line some = refl
 
--- in a recording of the version the line of this number stands behind these lines and before those parts, so that it has
+-- in a recording of the version the line of this number comes after these lines and before those parts, so that it has
 -- its line feed
 pub record IsLineAt (v : Version) (text : List ℕ) (number : ℕ) (before : List (List ℕ)) (line : List ℕ) (rest : List (List ℕ)) : Type 0 where
   pub parts : parts_of text ≡ before ++ line ∷ rest
@@ -113,7 +113,7 @@ below_version v before line rest (fault.Config f) lt h = omega arith
 below_version v before line rest (fault.Base u) lt h = omega arith
 below_version v before line rest fault.Memory lt h = h
 
--- a line behind the first
+-- a line after the first
 below_line : (v : Version) (before : List (List ℕ)) (line : List ℕ) (rest : List (List ℕ)) → before ≢ [] → (g : Fault) → number_of g < 52 → ¬ IsFaultIn v before line rest g
 below_line v before line rest later fault.Truncated lt h = h
 below_line v before line rest later fault.Version lt h = later h.0
@@ -151,7 +151,7 @@ first_version : (v : Version) (before : List (List ℕ)) (line : List ℕ) (form
 first_version v before line form said placed first none =
     let is = placed_first v form (subst (λ b. IsPlaced v b form) first placed) in none is.0 (said.spelled ∙ ap line_text is.1)
 
--- a form that may stand there
+-- a form that may are there
 pub below_wire : (v : Version) (before : List (List ℕ)) (line : List ℕ) (rest : List (List ℕ)) (form : Form) → Says v line form → IsPlaced v before form → (g : Fault) → number_of g < 54 → ¬ IsFaultIn v before line rest g
 below_wire v before line rest form said placed fault.Truncated lt h = h
 below_wire v before line rest form said placed fault.Version lt h = first_version v before line form said placed h.0 h.1
@@ -167,7 +167,7 @@ below_wire v before line rest form said placed fault.Memory lt h = h
 abbrev pub HasNoWireFault : Form → Type 0
 HasNoWireFault form = wire_fault_in form ≡ None
 
--- a form that has none of the later faults, whatever stands before it
+-- a form that has none of the later faults, whatever comes before it
 pub record IsHarmless (form : Form) : Type 0 where
   pub readable : HasNoWireFault form
   pub fit : (f : Front) → unfit_at f form ≡ None
@@ -193,7 +193,7 @@ below_config v before line rest form said placed whole (fault.Config f) lt h = o
 below_config v before line rest form said placed whole (fault.Base u) lt h = omega arith
 below_config v before line rest form said placed whole fault.Memory lt h = h
 
--- the only fault that the line may have is that of a configuration, where the header ends there
+-- the only fault that the line may have belongs to a configuration, where the header ends there
 pub but_config : (v : Version) (before : List (List ℕ)) (line : List ℕ) (rest : List (List ℕ)) (form : Form) → Says v line form → IsPlaced v before form → HasNoWireFault form → ((u : EntryFault) → ¬ HasUnfit v before line u) → (g : Fault) → number_of g ≢ 55 → ¬ IsFaultIn v before line rest g
 but_config v before line rest form said placed whole fit (fault.Base u) other h = fit u h
 but_config v before line rest form said placed whole fit (fault.Config f) other h = other refl

@@ -1,4 +1,4 @@
--- The lines that several pieces make, as they are written one behind the other.
+-- The lines that several pieces make, as they are written one after the other.
 use Rattle.std.proofs.Common.{◌≡◌, ◌∙◌, ◌++◌, ◌<◌, ◌≤◌, ◌+◌, List, [], ◌∷◌, ℕ, Bool, All, cond, length, take, map, get_or, ap, sym, subst, codes, append_assoc, append-nil}
 use Rattle.std.specs.Prelude.{decimal}
 use Rattle.std.specs.List.{flat_map}
@@ -86,7 +86,7 @@ four_printed old new state router compat serial is written =
 
 -- ---- lines, one after the other
 
--- behind the old text stands that of these lines, each of which has a form
+-- after the old text stands that of these lines, each of which has a form
 pub record Appended (old new : List ℕ) (forms : List Form) : Type 0 where
   pub text : new ≡ old ++ text_of_forms forms
   pub legal : All IsForm forms
@@ -118,7 +118,7 @@ appended_line {X = X} f old mid new xs k x below is h written legal =
     subst (Appended old new) (single (take (k + 1) xs))
     (appended_item (λ y. f y ∷ []) old mid new xs k x below is (subst (Appended old mid) (sym (single (take k xs))) h) line (All-cons IsForm (f x) [] legal (All-nil IsForm)))
 
--- the line of the item that stands there
+-- the line of the item that is there
 pub appended_at : {X : Type 0} (f : X → Form) (old mid new : List ℕ) (xs : List X) (k : ℕ) (d : X) → k < length xs → Appended old mid (map f (take k xs))
     → new ≡ mid ++ ended (f (get_or xs k d)) → IsForm (f (get_or xs k d)) → Appended old new (map f (take (k + 1) xs))
 appended_at f old mid new xs k d below h written legal =
@@ -174,9 +174,9 @@ lsas_item old mid new lsas k x below is h written legal whole = record {
 pub lsas_all : (old new : List ℕ) (lsas items : List (Scope × Lsa)) (k : ℕ) → items ≡ lsas → length items ≤ k → LsasAppended old new items k → Appended old new (map lsa_form lsas) × AreWhole lsas
 lsas_all old new lsas items k is all h = (mapped_appended lsa_form old new lsas items k is all h.appended, subst AreWhole (take_all k items all ∙ is) h.whole)
 
--- ---- the lines behind the header
+-- ---- the lines after the header
 
--- behind the old text stands that of the lines before the k-th, and their LSAs are whole
+-- after the old text stands that of the lines before the k-th, and their LSAs are whole
 pub record LinesAppended (old new : List ℕ) (lines : List Line) (k : ℕ) : Type 0 where
   pub appended : Appended old new (map form_of (take k lines))
   pub lsas : All HasWholeLsa (take k lines)

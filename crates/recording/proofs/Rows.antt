@@ -1,4 +1,4 @@
--- The LSAs of one scope stand in a row, so that those of the last scope are counted as they come.
+-- The LSAs of one scope are in a row, so that those of the last scope are counted as they come.
 use Rattle.std.proofs.Common.{ℕ, ◌≡◌, ◌+◌, ◌++◌, Bool, true, false, cond, List, [], ◌∷◌, length, map, Option, Some, None, All, Ordering, refl, sym, ap, subst, ◌∙◌, inl, inr}
 use Rattle.std.specs.declared.cmp.Ordering.TheVariants.{Less, Equal, Greater}
 use Rattle.std.specs.Ordering.{ordering_then}
@@ -54,7 +54,7 @@ all_weaker : {X : Type 0} (P Q : X → Type 0) → ((x : X) → P x → Q x) →
 all_weaker P Q weaker [] all = All-nil Q
 all_weaker P Q weaker (x ∷ xs) all = All-cons Q x xs (weaker x (All-head P x xs all)) (all_weaker P Q weaker xs (All-tail P x xs all))
 
--- behind the last scope comes none of it
+-- after the last scope comes none of it
 none_past : (lsas : List (Scope × Lsa)) (l : Scope × Lsa) (at : Scope) → AreByPlaces lsas → last_of lsas ≡ Some l → scope_cmp at l.0 ≡ Greater → lsas_under lsas at ≡ []
 none_past lsas l at sorted last past =
     elim (last_cases lsas) [
@@ -75,7 +75,7 @@ none_past lsas l at sorted last past =
 pub row_past : (lsas : List (Scope × Lsa)) (l : Scope × Lsa) (at : Scope) → AreByPlaces lsas → last_of lsas ≡ Some l → scope_cmp at l.0 ≡ Greater → 0 ≡ length (lsas_under lsas at)
 row_past lsas l at sorted last past = sym (ap length (none_past lsas l at sorted last past))
 
--- where it is that of the last LSA, all of them are in the row
+-- where it belongs to the last LSA, all of them are in the row
 pub row_same : (lsas : List (Scope × Lsa)) (l : Scope × Lsa) (at : Scope) (row : ℕ) → row ≡ row_at lsas (last_of lsas) → last_of lsas ≡ Some l → scope_cmp at l.0 ≡ Equal → row ≡ length (lsas_under lsas at)
 row_same lsas l at row counted last same =
     counted ∙ ap (row_at lsas) last ∙ ap (λ (s : Scope). length (lsas_under lsas s)) (sym (scope_exact at l.0 same))
@@ -100,7 +100,7 @@ row_more lsas x row counted =
 
 -- ---- places
 
--- where the scope is told, and the answer to whether it may stand there
+-- where the scope is told, and the answer to whether it may are there
 pub past_of : (lsas : List (Scope × Lsa)) (l : Scope × Lsa) (at : Scope) (o : Ordering) → last_of lsas ≡ Some l → scope_cmp at l.0 ≡ o → is_past_scope (last_of lsas) at ≡ not (is_less o)
 past_of lsas l at o last is = ap (λ (x : Option (Scope × Lsa)). is_past_scope x at) last ∙ ap (λ (p : Ordering). not (is_less p)) is
 

@@ -22,7 +22,7 @@ use Rattle.recording.proofs.Forms.{are_bytes, bytes_again, line_split, words_one
 another : (a b : List ℕ) (s t : List (List ℕ)) → a ∷ s ≡ b ∷ t → bytes_eq a b ≡ false → ⊥
 another a b s t same apart = let word : a ≡ b = cc same in both_ways (bytes_eq a b) apart ((bytes_eq-Decides a b).1 word)
 
--- the words behind the first
+-- the words after the first
 pub same_rest : {before s t : List (List ℕ)} {a b : List ℕ} → before ≡ a ∷ s → before ≡ b ∷ t → s ≡ t
 same_rest first second = cc (first, second)
 
@@ -168,7 +168,7 @@ has_lsa_words words _ said = absurd (another (codes "has") _ (codes "lsa" ∷ wo
 
 -- ---- a line and its words
 
--- the words are those of the form
+-- the words belong to the form
 words_said : {v : Version} (line : List ℕ) (form : Form) → Says v line form → SaysWords (cut line) form
 words_said line form said = record { spelled = ap cut said.spelled ∙ line_split form said.legal; legal = said.legal }
 

@@ -12,7 +12,7 @@ use Rattle.recording.specs.declared.version.Version.{Version}
 use Rattle.recording.specs.Forms.{Form, VersionLine, Says, line_text}
 use Rattle.recording.specs.Places.{AreSaid, IsPlaced, areas_of, first_lines, front_of, has_ended, is_of_header, unfit_at, version_of, wire_fault_in}
 
--- The parts that line feeds end, and last what stands behind the last line feed: a line without one, or nothing.
+-- The parts that line feeds end, and last what comes after the last line feed: a line without one, or nothing.
 abbrev pub parts_of : List ℕ → List (List ℕ)
 parts_of bytes = slice_split (λ b. b == 10) bytes
 
@@ -30,7 +30,7 @@ pub record HasConfigFault (v : Version) (lines after : List (List ℕ)) (f : Con
   pub ends : EndsHeader v after
   pub has : areas_fault_of (areas_of forms) ≡ Some f
 
--- the form of the line is not one that may stand behind these lines
+-- the form of the line is not one that may come after these lines
 abbrev pub IsMisplaced : Version → List (List ℕ) → List ℕ → Type 0
 IsMisplaced v before line = (form : Form) × Says v line form × (¬ IsPlaced v before form)
 
@@ -50,7 +50,7 @@ pub record HasUnfit (v : Version) (before : List (List ℕ)) (line : List ℕ) (
 abbrev pub IsNoVersion : List ℕ → Type 0
 IsNoVersion line = (version : Version) → line ≢ line_text (VersionLine version)
 
--- a line that has its line feed has this fault in a recording of the version, behind these lines and before those parts
+-- a line that has its line feed has this fault in a recording of the version, after these lines and before those parts
 abbrev pub IsFaultIn : Version → List (List ℕ) → List ℕ → List (List ℕ) → Fault → Type 0
 IsFaultIn v before line after fault.Truncated = ⊥
 IsFaultIn v before line after fault.Version = (before ≡ []) × IsNoVersion line
@@ -61,11 +61,11 @@ IsFaultIn v before line after (fault.Config f) = HasConfigFault v (before ++ lin
 IsFaultIn v before line after (fault.Base u) = HasUnfit v before line u
 IsFaultIn v before line after fault.Memory = ⊥
 
--- the version is that of the first line, which may be this one
+-- the version belongs to the first line, which may be this one
 abbrev pub IsFaultOfLine : List (List ℕ) → List ℕ → List (List ℕ) → Fault → Type 0
 IsFaultOfLine before line after f = IsFaultIn (version_of (before ++ line ∷ [])) before line after f
 
--- there is a line without a line feed behind these lines, or one of the first lines is missing
+-- there is a line without a line feed after these lines, or one of the first lines is missing
 abbrev pub IsFaultOfEnd : List (List ℕ) → List ℕ → Fault → Type 0
 IsFaultOfEnd before left fault.Truncated = (left ≢ []) ⊎ (length before < first_lines (version_of before))
 IsFaultOfEnd before left _ = ⊥

@@ -21,7 +21,7 @@ abbrev pub row_at : List (Scope × Lsa) → Option (Scope × Lsa) → ℕ
 row_at lsas None = 0
 row_at lsas (Some last) = length (lsas_under lsas last.0)
 
--- the row is that of the last LSA
+-- the row belongs to the last LSA
 abbrev pub IsCounted : BaseLines → Type 0
 IsCounted b = b.row ≡ row_at b.base.lsas (last_of b.base.lsas)
 
@@ -33,11 +33,11 @@ AddsForm old new form = new.base ≡ with_has old.base form
 abbrev pub left_in : Lines → List ℕ
 left_in lines = drop lines.start lines.text.now
 
--- its lines, and what stands behind the last line feed
+-- its lines, and what comes after the last line feed
 abbrev pub parts_left : Lines → List (List ℕ)
 parts_left lines = parts_of (left_in lines)
 
--- the line is the next one that was left, and these are left behind it
+-- the line is the next one that was left, and these are left after it
 abbrev pub IsNextLine : Lines → List ℕ → Lines → Type 0
 IsNextLine lines line after = parts_left lines ≡ line ∷ parts_left after
 
@@ -45,7 +45,7 @@ IsNextLine lines line after = parts_left lines ≡ line ∷ parts_left after
 abbrev pub fault_at : Lines → Fault → LineFault
 fault_at lines f = record { line = lines.taken + 1; fault = f }
 
--- The fact holds of what is left behind one more line, if there is one and it has no fault.
+-- The fact holds of what is left after one more line, if there is one and it has no fault.
 abbrev pub IfMore : {E : Type 0} → Result (Option Lines) E → (Lines → Type 0) → Type 0
 IfMore read Holds = IfOk read (λ next. IfSome next Holds)
 
@@ -69,7 +69,7 @@ HasSettingAt v lines setting = HasReadAt v lines (first_forms v (headed_base set
 abbrev pub HasHeaderAt : Version → Lines → Base → Type 0
 HasHeaderAt v lines b = HasHeader v lines.text.now lines.taken (parts_left lines) b
 
--- the lines taken are the whole header and lines behind it, and say this recording
+-- the lines taken are the whole header and lines after it, and say this recording
 abbrev pub HasLinesAt : Lines → RecordingValue → Type 0
 HasLinesAt lines r = HasLines lines.text.now lines.taken (parts_left lines) r
 

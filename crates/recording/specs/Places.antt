@@ -29,7 +29,7 @@ use Rattle.recording.specs.Forms.{Form, Body, VersionLine, RouterLine, CompatLin
 use Rattle.recording.specs.declared.version.Version.{Version}
 use Rattle.recording.specs.declared.version.Version.TheVariants.{One, Two, Three}
 
--- an `area` or a `range` line, of which the header is made behind the first lines
+-- an `area` or a `range` line, of which the header is made after the first lines
 abbrev pub is_of_header : Form → Bool
 is_of_header (AreaLine id stub) = true
 is_of_header (RangeLine area range) = true
@@ -60,7 +60,7 @@ abbrev pub has_ended : List Form → Bool
 has_ended [] = false
 has_ended (form ∷ forms) = not (is_of_header form) || has_ended forms
 
--- ---- the base that the lines behind the header say
+-- ---- the base that the lines after the header say
 
 -- a line of the base: an interface or an LSA that is there before anything happens
 abbrev pub is_of_base : Form → Bool
@@ -117,7 +117,7 @@ abbrev pub is_next_range : Option AreaConfig → ℕ → Range → Bool
 is_next_range None area range = false
 is_next_range (Some a) area range = (a.id == area) && is_past_range (last_of a.ranges) range
 
--- the line says an area behind these, or a range behind those of the last one
+-- the line says an area after these, or a range after those of the last one
 abbrev pub is_next_area : List AreaConfig → Form → Bool
 is_next_area areas (AreaLine id stub) = is_past_area (last_of areas) id
 is_next_area areas (RangeLine area range) = is_next_range (last_of areas) area range
@@ -130,7 +130,7 @@ abbrev pub is_past_id : Option (ℕ × Interface) → ℕ → Bool
 is_past_id None id = true
 is_past_id (Some last) id = nat_lt last.0 id
 
--- an interface of this id may stand behind these: no LSA does, and no interface has the id or a greater one
+-- an interface of this id may come after these: no LSA does, and no interface has the id or a greater one
 abbrev pub is_next_interface : List (Scope × Lsa) → List (ℕ × Interface) → ℕ → Bool
 is_next_interface lsas interfaces id = is_none (last_of lsas) && is_past_id (last_of interfaces) id
 
@@ -146,7 +146,7 @@ abbrev pub is_past_scope : Option (Scope × Lsa) → Scope → Bool
 is_past_scope None at = true
 is_past_scope (Some last) at = not (is_less (scope_cmp at last.0))
 
--- how many LSAs of the scope there are; none if the scope is less than that of the last one
+-- how many LSAs of the scope there are, or `None` if the scope is less than that of the last one
 abbrev pub IsRowUnder : List (Scope × Lsa) → Scope → Option ℕ → Type 0
 IsRowUnder lsas at found =
     MatchOption found (is_past_scope (last_of lsas) at ≡ false) (λ row. (is_past_scope (last_of lsas) at ≡ true) × (row ≡ length (lsas_under lsas at)))
@@ -156,7 +156,7 @@ abbrev pub is_past_place : Option (Scope × Lsa) → Scope × Key → Bool
 is_past_place None place = true
 is_past_place (Some last) place = is_less (place_cmp (lsa_place last) place)
 
--- The scope tells before the bytes are read, and the key if they are those of an LSA.
+-- The scope tells before the bytes are read, and the key if they belong to an LSA.
 abbrev pub is_past_lsa : Option (Scope × Lsa) → Scope → List ℕ → Bool
 is_past_lsa last at bytes = is_past_scope last at && (is_some (fault_of bytes) || is_past_place last (lsa_place (at, lsa_of bytes)))
 
@@ -167,13 +167,13 @@ abbrev pub version_of : List (List ℕ) → Version
 version_of [] = One
 version_of (line ∷ lines) = cond (bytes_eq line (codes "abr 3")) Three (cond (bytes_eq line (codes "abr 2")) Two One)
 
--- So many lines come first, each in its place: `abr` and `router`, from version 2 on `compat`, and in version 3 `serial`.
+-- This many lines come first, each in its place: `abr` and `router`, from version 2 on `compat`, and in version 3 `serial`.
 abbrev pub first_lines : Version → ℕ
 first_lines One = 2
 first_lines Two = 3
 first_lines Three = 4
 
--- what the lines behind the first ones say so far
+-- what the lines after the first ones say so far
 pub record Front : Type 0 where
   pub areas : List AreaConfig
   pub interfaces : List (ℕ × Interface)
@@ -198,7 +198,7 @@ headed areas = record { areas = areas; interfaces = []; lsas = []; ended = false
 abbrev pub based : Base → Front
 based b = record { areas = b.config.areas; interfaces = b.interfaces; lsas = b.lsas; ended = true; begun = false }
 
--- the line of the header or of the base may stand behind what was said so far
+-- the line of the header or of the base may come after what was said so far
 abbrev pub is_next : Front → Form → Bool
 is_next f (AreaLine id stub) = not f.ended && is_next_area f.areas (AreaLine id stub)
 is_next f (RangeLine area range) = not f.ended && is_next_area f.areas (RangeLine area range)
@@ -206,12 +206,12 @@ is_next f (HasInterfaceLine id interface) = not f.begun && is_next_interface f.l
 is_next f (HasLsaLine at bytes) = not f.begun && is_past_lsa (last_of f.lsas) at bytes
 is_next f _ = false
 
--- the lines behind the first ones say this
+-- the lines after the first ones say this
 pub record AreSaid (v : Version) (before : List (List ℕ)) (forms : List Form) : Type 0 where
   pub many : first_lines v ≤ length before
   pub said : AllSay v (drop (first_lines v) before) forms
 
--- The line may stand behind these lines: one of the first ones and one of what happened by its number, and one of the
+-- The line may come after these lines: one of the first ones and one of what happened by its number, and one of the
 -- header or of the base by what the lines before it say.
 abbrev pub IsPlaced : Version → List (List ℕ) → Form → Type 0
 IsPlaced v before (VersionLine version) = before ≡ []
@@ -233,7 +233,7 @@ wire_fault_in (HasLsaLine at bytes) = fault_of bytes
 wire_fault_in (BodyLine body) = body_wire_fault body
 wire_fault_in _ = None
 
--- so many LSAs the scope may have
+-- this many LSAs the scope may have
 abbrev pub most_in : Limits → Scope → ℕ
 most_in limits (scope.Area id) = limits.area_lsas
 most_in limits scope.As = limits.externals
@@ -249,7 +249,7 @@ unfit_interface areas interfaces i = first_of (
     ∷ (list_any (λ y. has_address i y.1) interfaces, unfit.AddressTaken)
     ∷ [])
 
--- an LSA of this LS type in a scope that has so many: its area is not configured, it belongs to another scope, or the scope
+-- an LSA of this LS type in a scope that has this many: its area is not configured, it belongs to another scope, or the scope
 -- is full
 abbrev pub unfit_under : List AreaConfig → Scope → (kind row : ℕ) → Option EntryFault
 unfit_under areas at kind row = first_of (

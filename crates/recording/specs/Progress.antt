@@ -17,7 +17,7 @@ use Rattle.recording.specs.declared.version.Version.{Version}
 use Rattle.recording.specs.Places.{based, body_wire_fault, has_ended, is_of_base, is_next, is_next_area, is_next_range, unfit_at, version_of, wire_fault_in, with_form}
 use Rattle.recording.specs.Recordings.{RecordingValue, CanSpell, HasKind, HasWholeLsa, AreWhole, IsLineIn, IsOrdered, IsRecording, IsWhole, area_forms, form_of, forms_of, has_forms, header_forms}
 
--- Each of these says of a text that so many of its lines were taken, and that the parts in `rest` are left.
+-- Each of these says of a text that this many of its lines were taken, and that the parts in `rest` are left.
 
 -- The lines taken say this, and are a header as far as it goes. They have no fault, but that the last may have that of a
 -- header which ends there.
@@ -56,11 +56,11 @@ pub record HasHeader (v : Version) (text : List ℕ) (taken : ℕ) (rest : List 
   pub bare : IsBare b
   pub ordered : IsOrdered b.config.areas
 
--- what the lines behind the first ones say
+-- what the lines after the first ones say
 abbrev pub later_forms : RecordingValue → List Form
 later_forms r = flat_map area_forms r.base.config.areas ++ (has_forms r.base ++ map form_of r.lines)
 
--- The lines taken are the whole header and lines behind it, and say this recording. They have no fault.
+-- The lines taken are the whole header and lines after it, and say this recording. They have no fault.
 pub record HasLines (text : List ℕ) (taken : ℕ) (rest : List (List ℕ)) (r : RecordingValue) : Type 0 where
   pub before : List (List ℕ)
   pub parts : parts_of text ≡ before ++ rest
@@ -83,11 +83,11 @@ IsNextIn b form = is_next_area b.config.areas form ≡ true
 abbrev pub AddsToHeader : (old new : Base) → Form → Type 0
 AddsToHeader old new form = new ≡ with_areas old (with_form old.config.areas form)
 
--- the area has the range behind its others, and nothing else changed in it
+-- the area has the range after its others, and nothing else changed in it
 abbrev pub AddsRange : (old new : AreaConfig) → Range → Type 0
 AddsRange old new range = new ≡ record old { ranges = old.ranges ++ range ∷ [] }
 
--- memory ran out, or the range is none that may stand behind those of the last area
+-- memory ran out, or the range is none that may come after those of the last area
 abbrev pub IsRangeRefusal : (last : AreaConfig) (area : ℕ) → Range → Fault → Type 0
 IsRangeRefusal last area range f = (f ≡ fault.Memory) ⊎ ((f ≡ fault.Order) × (is_next_range (Some last) area range ≡ false))
 
@@ -110,7 +110,7 @@ with_has b (HasInterfaceLine id interface) = record b { interfaces = b.interface
 with_has b (HasLsaLine at bytes) = record b { lsas = b.lsas ++ (at, lsa_of bytes) ∷ [] }
 with_has b _ = b
 
--- the bytes of the form are those of the LSA that is read from them
+-- the bytes of the form belong to the LSA that is read from them
 abbrev pub IsWholeForm : Form → Type 0
 IsWholeForm (HasLsaLine at bytes) = IsWhole (lsa_of bytes) × (spelling (lsa_of bytes) ≡ bytes)
 IsWholeForm _ = Unit {0}
@@ -144,7 +144,7 @@ IsBaseRefusal b form fault.Memory = Unit {0}
 
 -- ---- a line of what happened
 
--- the line has this fault where it stands behind the base
+-- the line has this fault where it comes after the base
 abbrev pub IsFaultBehind : Version → List ℕ → Fault → Type 0
 IsFaultBehind v line fault.Truncated = ⊥
 IsFaultBehind v line fault.Version = ⊥
@@ -173,6 +173,6 @@ pub record IsLineOf (v : Version) (line : List ℕ) (l : Line) : Type 0 where
   pub own : IsLineIn v l
   pub whole : HasWholeLsa l
 
--- what the line says happened stands behind what happened before
+-- what the line says happened comes after what happened before
 abbrev pub AddsLine : Version → (text : List ℕ) → (old new : List Line) → Type 0
 AddsLine v text old new = (l : Line) × IsLineOf v text l × (new ≡ old ++ l ∷ [])

@@ -62,11 +62,11 @@ abbrev pub words_left : Option (Bor (List ℕ)) → List (List ℕ)
 words_left None = []
 words_left (Some text) = cut text.now
 
--- the text was read: a legal value that it spells, or none where it spells none
+-- the text was read: a legal value that it spells, or `None` if it spells none
 abbrev pub IsRead : {X : Type 0} → (X → List ℕ) → (X → Type 0) → List ℕ → Option X → Type 0
 IsRead {X} spell Legal text read = MatchOption read ((x : X) → Legal x → text ≢ spell x) (λ x. Legal x × (text ≡ spell x))
 
--- the first of the words were read, and those are left behind them
+-- the first of the words were read, and those are left after them
 abbrev pub Takes : {X : Type 0} → (X → List (List ℕ)) → (X → Type 0) → (before after : List (List ℕ)) → Option X → Type 0
 Takes {X} spell Legal before after read =
     MatchOption read ((x : X) (rest : List (List ℕ)) → Legal x → before ≢ spell x ++ rest) (λ x. Legal x × (before ≡ spell x ++ after))
@@ -75,7 +75,7 @@ Takes {X} spell Legal before after read =
 abbrev pub TakesWord : {X : Type 0} → (X → List ℕ) → (X → Type 0) → (before after : List (List ℕ)) → Option X → Type 0
 TakesWord {X} spell Legal before after read = Takes (λ (x : X). spell x ∷ []) Legal before after read
 
--- the first of the words was read, and the others are left; none if there is none
+-- the first of the words was read, and the others are left, or `None` if there is none
 abbrev pub IsFirstWord : (before after : List (List ℕ)) → Option (Bor (List ℕ)) → Type 0
 IsFirstWord before after read = MatchOption read ((before ≡ []) × (after ≡ [])) (λ word. before ≡ word.now ∷ after)
 
@@ -83,7 +83,7 @@ IsFirstWord before after read = MatchOption read ((before ≡ []) × (after ≡ 
 abbrev pub either_word : (first second : List ℕ) → Bool → List ℕ
 either_word first second = λ b. cond b first second
 
--- the value of a number of at most 64 bits that decimal digits write; none if the text is no such number
+-- the value of a number of at most 64 bits that decimal digits write, or `None` if the text is no such number
 abbrev pub IsDecimalValue : List ℕ → Option ℕ → Type 0
 IsDecimalValue text read =
     MatchOption read (AllDigits 10 text → 2 ^ 64 ≤ digits_value 10 text) (λ n. AllDigits 10 text × (n ≡ digits_value 10 text) × IsSerial n)
@@ -108,12 +108,12 @@ IsLowerDigit b = ((48 ≤ b) × (b ≤ 57)) ⊎ ((97 ≤ b) × (b ≤ 102))
 abbrev pub AreDigits : List ℕ → Type 0
 AreDigits text = (bytes : List ℕ) × All (λ b. b < 2 ^ 8) bytes × (text ≡ encode_lower bytes)
 
--- the digits of bytes are the only word; none if the words are not that
+-- the digits of bytes are the only word, or `None` if the words are not that
 abbrev pub AreLastDigits : List (List ℕ) → Option (Bor (List ℕ)) → Type 0
 AreLastDigits words read =
     MatchOption read ((bytes : List ℕ) → AreBytes bytes → words ≢ encode_lower bytes ∷ []) (λ word. AreDigits word.now × (words ≡ word.now ∷ []))
 
--- ---- fields: each is what the words say, or none where they say no such thing
+-- ---- fields: each is what the words say, or `None` if they say no such thing
 
 -- a range of an area
 abbrev pub IsRangeRead : List (List ℕ) → Option (ℕ × Range) → Type 0
@@ -146,11 +146,11 @@ IsKeyRead words read =
 abbrev pub has_lsa_line : Scope → (digits : List ℕ) → Form
 has_lsa_line at digits = HasLsaLine at (bytes_of digits)
 
--- the words are those of a line that says this
+-- the words belong to a line that says this
 pub record SaysWords (words : List (List ℕ)) (form : Form) : Type 0 where
   pub spelled : words ≡ words_of form
   pub legal : IsForm form
 
--- the words were read: what they say, or none where they say nothing
+-- the words were read: what they say, or `None` if they say nothing
 abbrev pub AreRead : List (List ℕ) → Option LineForm → Type 0
 AreRead words read = MatchOption read ((form : Form) → ¬ SaysWords words form) (λ found. SaysWords words (said_by found) × HasDigits found)

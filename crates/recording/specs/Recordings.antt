@@ -65,7 +65,7 @@ event_form e = BodyLine (event_body e)
 abbrev pub form_of : Line → Form
 form_of l = BodyLine (body_of l)
 
--- an area, and behind it its ranges
+-- an area, and after it its ranges
 abbrev pub area_forms : AreaConfig → List Form
 area_forms a = AreaLine a.id a.stub ∷ map (λ (range : Range). RangeLine a.id range) a.ranges
 
@@ -118,15 +118,15 @@ ended form = line_text form ++ 10 ∷ []
 abbrev pub text_of_forms : List Form → List ℕ
 text_of_forms forms = flat_map ended forms
 
--- the text is as before, and the lines behind it
+-- the text is as before, and the lines after it
 abbrev pub GainsLines : {Z : Type 0} → (old new : String Z) → List Form → Type 0
 GainsLines {Z} old new forms = string_bytes new ≡ string_bytes old ++ text_of_forms forms
 
--- the text is as before, and the line behind it
+-- the text is as before, and the line after it
 abbrev pub GainsLine : {Z : Type 0} → (old new : String Z) → Form → Type 0
 GainsLine {Z} old new form = string_bytes new ≡ string_bytes old ++ ended form
 
--- the text is as before, and the line of what happened behind it
+-- the text is as before, and the line of what happened after it
 abbrev pub GainsBody : {Z : Type 0} → (old new : String Z) → Body → Type 0
 GainsBody {Z} old new body = GainsLine old new (BodyLine body)
 

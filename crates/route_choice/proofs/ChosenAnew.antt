@@ -1,4 +1,4 @@
--- Results that are chosen anew one after another, and the keys at which another stands then.
+-- Results that are recomputed one after another, and the keys at which another stands then.
 use Rattle.std.proofs.Common.{◌≡◌, ◌≢◌, ℕ, zero, suc, ◌+◌, ◌<◌, ◌≤◌, List, [], ◌∷◌, ◌++◌, append_assoc, map, length, get_or, take, drop, Option, Ordering, true, true≢false, refl, sym, ap, subst, ◌∙◌, inl, inr, arith, add-one, drop-cons, append-nil}
 use Rattle.std.specs.Prelude.{◌↔◌}
 use Rattle.std.specs.FinMap.{IsAntisymmetric}
@@ -45,9 +45,9 @@ module _ {K : Type 0} (cmp : K → K → Ordering) where
     | inr later ↦ not_before total ys i x sorted.1 (omega (arith, lt)) is later
   ]
 
--- ---- so many are done
+-- ---- this many are done
 
--- the results at the first keys, so many, are chosen anew
+-- the results at the first keys, this many, are recomputed
 pub record IsSoFar {K V N : Type 0} (cmp : K → K → Ordering) (IsChosen : K → Option V → Type 0) (named_as : K → N) (old now : K → Option V) (keys : List K) (count : ℕ) (told : List N) : Type 0 where
   pub here : (k : K) → Contains (take count keys) k → IsChosen k (now k)
   pub others : (k : K) → (Contains (take count keys) k → ⊥) → now k ≡ old k
@@ -80,7 +80,7 @@ module _ {K V N : Type 0} (cmp : K → K → Ordering) (IsChosen : K → Option 
         in_order = subst (IsStrictlySortedBy cmp) (ap (λ (ks : List K). done.differing ++ ks) (drop_all i keys past) ∙ append-nil done.differing) done.in_order;
       }
 
-  -- at the keys the results are chosen anew, and at all others there stood what has to
+  -- at the keys the results are recomputed, and at all others there stood what has to
   pub all_chosen : IsTotalOrder cmp → IsAntisymmetric cmp → (old new : K → Option V) (named keys : List K) (told : List N) → ((k : K) → Contains keys k ↔ Contains named k)
       → AreChosenExcept IsChosen named old → AreRechosen cmp IsChosen named_as old new keys told → AreChosen IsChosen new
   all_chosen total exact old new named keys told same stood anew k = elim (listed_or_not total exact k keys) [
@@ -95,7 +95,7 @@ told_themselves cmp IsChosen old new keys told anew = anew.reported_as ∙ map-i
 module _ {K V N : Type 0} (cmp : K → K → Ordering) (total : IsTotalOrder cmp) (exact : IsAntisymmetric cmp) (IsChosen : K → Option V → Type 0) (named_as : K → N)
     (old mid new : K → Option V) (keys : List K) (sorted : IsStrictlySortedBy cmp keys) (i : ℕ) (key : K) (lt : i < length keys) (at : key ≡ get_or keys i key)
     (before after : List N) (done : IsSoFar cmp IsChosen named_as old mid keys i before) (step : IsRechosen IsChosen named_as mid new key before after) where
-  -- the result was not chosen anew before
+  -- the result was not recomputed before
   untouched : mid key ≡ old key
   untouched = done.others key (not_before cmp total keys i key sorted lt at)
 

@@ -17,7 +17,7 @@ module _ {K X Y : Type 0} (view : X → Y) where
   abbrev pub viewed : List (K × X) → List (K × Y)
   viewed es = map (λ (e : K × X). (e.0, view e.1)) es
 
-  -- a look-up among them sees the value
+  -- a lookup among them sees the value
   pub lookup_viewed : (test : K → Bool) (es : List (K × X)) → lookup test (viewed es) ≡ option_map view (lookup test es)
   lookup_viewed test [] = refl
   lookup_viewed test (e ∷ es) =
@@ -80,7 +80,7 @@ module _ {K X : Type 0} {cmp : K → K → Ordering} (total : IsTotalOrder cmp) 
   abbrev pub map_of : List (K × X) → FinMap cmp X
   map_of es = from_entries {R = cmp} es
 
-  -- what a look-up by `==` gives
+  -- what a lookup by `==` gives
   pub looked_up : (es : List (K × X)) (q : K) → lookup (equals q) es ≡ get (map_of es) q
   looked_up es q =
       ap (λ (eq : K → K → Bool). lookup (eq q) es) equals_order ∙ sym (find-lookup cmp q es) ∙ sym (get-from_entries total es q)
@@ -105,7 +105,7 @@ module _ {K X : Type 0} {cmp : K → K → Ordering} (total : IsTotalOrder cmp) 
   find_none q [] none = refl
   find_none q (e ∷ es) none = ap (λ b. cond b (Some e.1) (find cmp q es)) none.0 ∙ find_none q es none.1
 
-  -- there are so many keys as entries, where none stands twice
+  -- there are this many keys as entries, where none occurs twice
   len_distinct : (es : List (K × X)) → IsDistinct (eq_by_cmp cmp) (keys_of es) → len (map_of es) ≡ length es
   len_distinct [] unique = len-empty cmp X
   len_distinct (e ∷ es) unique =

@@ -1,4 +1,4 @@
--- How many places a change notes: each is that of another key with a result, so that there are no more of them than of results.
+-- How many places a change notes: each belongs to another key with a result, so that there are no more of them than of results.
 use Rattle.std.proofs.Common.{◌≡◌, ◌≢◌, ℕ, suc, ◌+◌, ◌<◌, ◌≤◌, List, [], ◌∷◌, ◌++◌, append_assoc, length, get_or, take, drop, Option, Some, None, Ordering, true, true≢false, refl, sym, ap, subst, ◌∙◌, inl, inr, arith, add-one, drop-cons, append-nil}
 use Rattle.std.specs.Prelude.{IsSome, IfSome}
 use Rattle.std.specs.FinMap.{IsAntisymmetric, get-from_entries}
@@ -47,7 +47,7 @@ module _ {K : Type 0} (cmp : K → K → Ordering) where
       let same : eq_by_cmp cmp k y ≡ true = subst (λ (w : K). eq_by_cmp cmp k w ≡ true) e ((eq_by_cmp_equiv total).refl k) in
       true≢false (sym same ∙ ap is_eq less)
 
--- at most so many places are noted: each of another key among the first, which has a result now
+-- at most this many places are noted: each of another key among the first, which has a result now
 pub record IsLeft {K V : Type 0} (cmp : K → K → Ordering) (now : K → Option V) (keys : List K) (count left : ℕ) : Type 0 where
   pub standing : List K
   pub at_most : left ≤ length standing
@@ -85,7 +85,7 @@ module _ {K V : Type 0} {cmp : K → K → Ordering} where
     still : (k : K) → Contains noted.standing k → IsSome (new k)
     still k c = subst (λ (o : Option V). IsSome o) (sym (others k (other_than cmp total noted.standing key rest was k c))) (noted.present k c)
 
-    -- the result at the key is chosen anew, and no place is noted
+    -- the result at the key is recomputed, and no place is noted
     pub left_chosen : IsLeft cmp new keys i left
     left_chosen = record { standing = noted.standing; at_most = noted.at_most; present = still; in_order = noted.in_order }
 

@@ -18,7 +18,7 @@ module _ {K : Type 0} {cmp : K → K → Ordering} (total : IsTotalOrder cmp) (e
   kept_is : kept ≡ dedup (eq_by_cmp cmp) sorted
   kept_is = dedup_is equals sorted kept filtered ∙ ap (λ (same : K → K → Bool). dedup same sorted) equals_order
 
-  -- is ascending, and each once
+  -- is ascending, without duplicates
   pub strictly : IsStrictlySortedBy cmp kept
   strictly = subst (IsStrictlySortedBy cmp) (sym kept_is) (IsStrictlySortedBy-dedup total (λ v w. refl) sorted in_order)
 

@@ -1,4 +1,4 @@
--- What stands at a place among entries, and whether another result stands at a key than before.
+-- What is at a place among entries, and whether another result is at a key than before.
 use Rattle.std.proofs.Common.{◌≡◌, ◌≢◌, Bool, cond, true, false, List, [], ◌∷◌, length, Option, Some, None, Ordering, refl, sym, ap, subst, ◌∙◌, arith}
 use Rattle.std.specs.Prelude.{◌↔◌, IsTrue, not}
 use Rattle.std.specs.Cmp.{IsEquivalence, eq_by_cmp_equiv}
@@ -12,7 +12,7 @@ module _ {K : Type 0} {order : K → K → Ordering} {equals : K → K → Bool}
   pub equivalence : IsEquivalence equals
   equivalence = subst (λ (eq : K → K → Bool). IsEquivalence eq) (sym keys.ties) (eq_by_cmp_equiv keys.total)
 
-  -- a look-up finds the key itself
+  -- a lookup finds the key itself
   pub own_key : {V : Type 0} (es : List (K × V)) (k q : K) → lookup_key (equals k) es ≡ Some q → q ≡ k
   own_key [] k q is = absurd cc
   own_key {V} (e ∷ es) k q is = by (own_key es k q) (equals k e.0) refl is
@@ -27,7 +27,7 @@ module _ {K : Type 0} {order : K → K → Ordering} {equals : K → K → Bool}
   nothing_in (e ∷ es) k none = absurd (omega (arith, none))
 
 module _ {K V : Type 0} (q k : K) (w v : V) (there : ◌≡◌ {A = Option (K × V)} (Some (q, w)) (Some (k, v))) where
-  -- whose result stands at a place
+  -- whose result is at a place
   pub own_of : q ≡ k
   own_of = ap (λ (x : K × V). x.0) (same_Some (q, w) (k, v) there)
 

@@ -17,7 +17,7 @@ HasAlso {X} old item new = (x : X) → Contains new x ↔ (Contains old x ⊎ (x
 abbrev pub IsOffered : {K X : Type 0} → List (K × X) → K → X → Type 0
 IsOffered offers key item = Contains offers (key, item)
 
--- the best of the offers, its items in order and each once; none where nothing is offered
+-- the best of the offers, its items in order without duplicates, or `None` if nothing is offered
 abbrev pub IsChosen : {K X : Type 0} → (K → K → Ordering) → (X → X → Ordering) → (K → X → Type 0) → Option (Chosen K X) → Type 0
 IsChosen key_cmp item_cmp offers None = NoOffer offers
 IsChosen key_cmp item_cmp offers (Some chosen) = IsBest key_cmp offers chosen.key chosen.items × IsStrictlySortedBy item_cmp chosen.items

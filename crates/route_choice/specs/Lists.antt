@@ -5,7 +5,7 @@ use Rattle.std.specs.Prelude.{◌⊎◌, ◌↔◌, List, Contains}
 abbrev pub ListsExactly : {A : Type 0} → (A → Type 0) → List A → Type 0
 ListsExactly {A} these list = (x : A) → Contains list x ↔ these x
 
--- the list has what it had and, beside it, just these
+-- the list has what it had and, next to it, just these
 abbrev pub HasMore : {A : Type 0} → (A → Type 0) → List A → List A → Type 0
 HasMore {A} more before after = (x : A) → Contains after x ↔ (Contains before x ⊎ more x)
 

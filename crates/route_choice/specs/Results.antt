@@ -29,7 +29,7 @@ AreKeysOf {K} cmp results keys = (k : K) → Contains keys k ↔ IsSome (result_
 abbrev pub AreResults : {K V : Type 0} → (K → K → Ordering) → Results K V → List (K × V) → Type 0
 AreResults {K} {V} cmp results entries = (k : K) (value : V) → Contains entries (k, value) → result_at cmp results k ≡ Some value
 
--- the result of the key stands at the place among the entries
+-- the result of the key is at the place among the entries
 abbrev pub StandsAt : {K V : Type 0} → (K → K → Ordering) → List (K × V) → K → ℕ → Type 0
 StandsAt {V = V} cmp entries key place = (value : V) × (slice_get entries place ≡ Some (key, value)) × (result_in cmp entries key ≡ Some value)
 

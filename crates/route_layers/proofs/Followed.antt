@@ -2,7 +2,7 @@
 --   followed_long: there are as many as before
 --   followed_trees: they are the trees of the state
 --   followed_inputs: what routes are calculated from differs in no more than is named
---   followed_work: the work is that of the event
+--   followed_work: the work belongs to the event
 use Rattle.std.proofs.Common.{◌≡◌, ℕ, true, List, length, map, sym, ap, subst, ◌∙◌}
 use Rattle.std.proofs.lemmas.List.{length-map}
 use Rattle.ospf_types.specs.declared.config.AreaConfig.{AreaConfig}

@@ -1,6 +1,6 @@
 -- The tree of one area follows a state.
 --   ups_kept: interfaces that stay leave those that are up
---   tree_by_keys, tree_by_interfaces: the tree is that of the state after
+--   tree_by_keys, tree_by_interfaces: the tree belongs to the state after
 --   keys_named: the LSAs of an area differ in no more than the keys of the area
 use Rattle.std.proofs.Common.{◌≡◌, ℕ, true, List, [], ◌∷◌, length, refl, sym, ap, subst, ◌∙◌, inl, inr, arith}
 use Rattle.std.specs.Prelude.{◌==◌, ◌↔◌, option_map}
@@ -53,11 +53,11 @@ module _ (s t : State) (keys : List (Scope × Key)) (ids : List ℕ) (differ : S
     λ w. (are u).1 (w.0, (interface_kept u.id w.0 (not_among ids none u.id)).0 w.1, w.2, w.3, w.4),
   )
 
-  -- the tree of the LSAs after, and of the interfaces before, is that of the state after, where no interfaces are named
+  -- the tree of the LSAs after, and of the interfaces before, belongs to the state after, where no interfaces are named
   pub tree_by_keys : ids ≡ [] → (area : ℕ) (ups : List Up) (x : AreaTreeValue) → AreUpsOf s area ups → IsAreaTree s.config.router (lsas_in (database_of t (Area area))) ups x → IsTreeFor t area x
   tree_by_keys none area ups x are is = (ups, ups_kept none area ups are, subst (λ (r : ℕ). IsAreaTree r (lsas_in (database_of t (Area area))) ups x) (sym router_kept) is)
 
-  -- and so is that of the LSAs before, and of the interfaces after, where no LSAs are named
+  -- and so belongs to the LSAs before, and of the interfaces after, where no LSAs are named
   pub tree_by_interfaces : keys ≡ [] → (area : ℕ) (ups : List Up) (x : AreaTreeValue) → AreUpsOf t area ups → IsAreaTree s.config.router (lsas_in (database_of s (Area area))) ups x → IsTreeFor t area x
   tree_by_interfaces none area ups x are is = (
     ups,

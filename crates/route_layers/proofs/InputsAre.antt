@@ -1,5 +1,5 @@
 -- What routes are calculated from is what the definitions speak of, and is ready to be calculated from.
---   ready_of: each area's tree is that of its database
+--   ready_of: each area's tree belongs to its database
 --   area_is: an area with its database and its interfaces that are up is one of the definitions
 --   inputs_are: what is kept of a state is calculated from what the definitions speak of
 use Rattle.std.proofs.Common.{◌≡◌, List, [], ◌∷◌, map, length, Option, Some, None, refl, sym, subst, ◌∙◌, ⊎_elim, arith}
@@ -23,7 +23,7 @@ use Rattle.route_layers.specs.Trees.{lsas_in, areas_with, inputs_with, AreUpsOf,
 use Rattle.route_layers.specs.Works.{area_of}
 use Rattle.route_layers.proofs.Places.{fit_lsas}
 
--- each tree is that of its area's database
+-- each tree belongs to its area's database
 ready : (s : State) (areas : List AreaConfig) (trees : List AreaTreeValue) → AreTreesOf s areas trees → (a : AreaValue) → Contains (areas_with s areas trees) a → (ups : List Up) × IsAreaTree s.config.router a.lsas ups a.tree
 ready s [] [] are a c = absurd (no_element a c)
 ready s (b ∷ areas) (t ∷ trees) are a c =

@@ -1,5 +1,5 @@
 -- Databases that are used alike have one tree.
---   standing_alike: what stands for a vertex of the one stands for it of the other
+--   standing_alike: what represents a vertex of the one stands for it of the other
 --   alike_tree: what is a tree of the one is a tree of the other
 use Rattle.std.proofs.Common.{◌≡◌, ℕ, Option, sym, subst, ◌∙◌, inl, inr}
 use Rattle.std.specs.Prelude.{List, IsSome}
@@ -18,7 +18,7 @@ module _ (d e : Database) (alike : (key : Key) → body_at e key ≡ body_at d k
   used_now : (key : Key) → IsUsed e key → IsUsed d key
   used_now key = subst (λ (o : Option Body). IsSome o) (alike key)
 
-  -- what stands for a vertex of the one stands for it of the other
+  -- what represents a vertex of the one stands for it of the other
   pub standing_alike : (v : Vertex) (body : Option Body) → IsStanding d v body → IsStanding e v body
   standing_alike (Router r) body stands = stands ∙ sym (alike (router_key r))
   standing_alike (Network n) body (inl one) =

@@ -1,7 +1,7 @@
 -- The trees of the areas follow one by one, and what they then say.
 --   turn_more: one more tree has followed
---   trees_followed: all trees are those of the state
---   works_followed: the works are those of the two states
+--   trees_followed: all trees belong to the state
+--   works_followed: the works belong to the two states
 --   areas_followed: the areas differ in no more than is named
 use Rattle.std.proofs.Common.{◌≡◌, ℕ, suc, zero, ◌+◌, ◌<◌, ◌≤◌, true, List, [], ◌∷◌, ◌++◌, length, map, get_or, set, take, drop, refl, sym, ap, subst, ◌∙◌, inr, arith}
 use Rattle.std.specs.Prelude.{min, option_map}

@@ -23,7 +23,7 @@ IsUpAmong list area = (id : ℕ) × (i : Interface) × Contains list (id, i) × 
 abbrev pub IsUpIn : State → ℕ → Type 0
 IsUpIn s area = IsUpAmong (entries s.interfaces) area
 
--- the area whose summaries are examined, with its LSAs; none where no area is active
+-- the area whose summaries are examined, with its LSAs, or `None` if no area is active
 abbrev pub IsExaminedOf : State → Option ExaminedValue → Type 0
 IsExaminedOf s None = (a : InputArea) → IsExamined (inputs_of s) a → ⊥
 IsExaminedOf s (Some x) = ((a : InputArea) × IsExamined (inputs_of s) a × (a.id ≡ x.area)) × (x.lsas ≡ lsas_in (database_of s (Area x.area)))
@@ -52,6 +52,6 @@ AreActiveIn s areas active = (area : ℕ) → Contains active area ↔ ((a : Are
 abbrev pub AreActive : State → List ℕ → Type 0
 AreActive s active = AreActiveIn s s.config.areas active
 
--- the inter-area routes are those of the state, by the summaries of the area that is examined
+-- the inter-area routes belong to the state, by the summaries of the area that is examined
 abbrev pub IsInterFor : State → IntraValue → ActiveValue → InterValue → Type 0
 IsInterFor s intra active inter = (examined : Option ExaminedValue) × IsExaminedOf s examined × IsInterOf (inter_inputs s examined intra active) inter

@@ -33,7 +33,7 @@ inputs_with s trees = record { root = s.config.router; areas = areas_with s s.co
 abbrev pub AreUpsOf : State → ℕ → List Up → Type 0
 AreUpsOf s area ups = (u : Up) → Contains ups u ↔ ((i : Interface) × Contains (entries s.interfaces) (u.id, i) × (i.area ≡ area) × IsTrue i.up × (i.address ≡ u.address))
 
--- the tree is that of the area's database and of its interfaces that are up
+-- the tree belongs to the area's database and to its interfaces that are up
 abbrev pub IsTreeFor : State → ℕ → AreaTreeValue → Type 0
 IsTreeFor s area t = (ups : List Up) × AreUpsOf s area ups × IsAreaTree s.config.router (lsas_in (database_of s (Area area))) ups t
 

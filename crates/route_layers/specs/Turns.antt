@@ -49,7 +49,7 @@ pub record AreFollowed (s : State) (areas : List AreaConfig) (old new : List Are
   pub each : AreTurns s vertices turns
   pub total : IsTotal (map (λ (x : Turn). x.work) turns) w
 
--- so many of the trees have followed the state, and the others are as they were
+-- this many of the trees have followed the state, and the others are unchanged
 pub record AreFollowedTo (s : State) (areas : List AreaConfig) (old new : List AreaTreeValue) (vertices : List (ℕ × Vertex)) (w : Touched) (i : ℕ) : Type 0 where
   pub first : AreFollowed s (take i areas) (take i old) (take i new) vertices w
   pub rest : drop i new ≡ drop i old

@@ -58,7 +58,7 @@ module _ (after : Links) (gone come : List Link) where
   }
 
   module _ (before : Links) (decided_before : AreDecided before) (decided_after : AreDecided after) (exact : AreExactChanges before after gone come) where
-    -- Where the lists have just the links that went and just those that came, they give the links before.
+    -- Where the lists have just the removed links and the added links, they give the links before.
     pub earlier_is : SameLinks (Earlier after gone come) before
     earlier_is from to cost label = (
       λ was. elim was [

@@ -1,4 +1,4 @@
--- The work is bounded by what differs: what is taken and what is written stands in lists that are owed.
+-- The work is bounded by what differs: what is taken and what is written is in lists that are owed.
 use Rattle.std.proofs.Common.{◌≡◌, ◌≢◌, ℕ, ◌+◌, ◌*◌, ◌≤◌, List, ◌++◌, length, Option, Some, ◌∙◌, inl, inr, length-append, arith}
 use Rattle.std.specs.Prelude.{◌↔◌}
 use Rattle.std.specs.List.{Contains}

@@ -24,7 +24,7 @@ use Rattle.spf.proofs.SameLinks.{same_back, tree_same, links_same}
 use Rattle.spf.proofs.Values.{root_zero, root_has, within_path}
 
 module _ {before after : GraphValue} {gone come : List Link} (decided_before : AreDecided (LinksOf before)) (decided_after : AreDecided (LinksOf after)) (exact : AreExact before after gone come) where
-  -- the links before are those of the graph before
+  -- the links before belong to the graph before
   links_before : SameLinks (LinksOf before) (LinksBefore after gone come)
   links_before = same_back (earlier_is (LinksOf after) gone come (LinksOf before) decided_before decided_after (record {
     went = λ from to cost label. exact.went (link_value from to cost label);

@@ -200,7 +200,7 @@ module _ {g : GraphValue} {gone come : List Link} {t : TreeValue} (u : TreeValue
       sets_are = refl;
     }
 
-    -- The tree is that of the graph.
+    -- The tree belongs to the graph.
     pub tree_after : u.spent ≡ false → IsTreeOf g u
     tree_after fresh = record { fresh = fresh; tree = s.tree }
 

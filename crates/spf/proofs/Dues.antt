@@ -21,7 +21,7 @@ module _ {after gone come : Links} where
   due_more lost more_lost moved more_moved written more_written l m w v (OutOfMoved from cost label taken c) = OutOfMoved from cost label taken (m from c)
   due_more lost more_lost moved more_moved written more_written l m w v (OutOfWritten from cost label taken c) = OutOfWritten from cost label taken (w from c)
 
-  -- What is stale is due: at the start by a link that went, while support is lost by a link out of what is lost, then by a link that came, and while distances are relaxed by a link out of what is moved.
+  -- What is stale is due: at the start by a removed link, while support is lost by a link out of what is lost, then by an added link, and while distances are relaxed by a link out of what is moved.
   pub due_went : (stale : List Vertex) → ((v : Vertex) → Contains stale v → (from : Vertex) × (cost : ℕ) × (label : Label) × gone from v cost label) → AreDue after gone come [] [] [] stale
   due_went stale by = record { due = λ v c. let w = by v c in Went w.0 w.1 w.2 w.3 }
 

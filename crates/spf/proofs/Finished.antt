@@ -108,7 +108,7 @@ carried_out_of t u fresh r = record {
   differ = r.differ;
 }
 
--- what the tree is seen as, and the links that came, given another way
+-- what the tree is seen as, and the added links, given another way
 pub carried_out_at : {g : GraphValue} {slice come : List Link} (i t u : TreeValue) {lost stale moved written : List Vertex} {taken hop_sets : ℕ} → i ≡ t → slice ≡ come → u.spent ≡ false
     → IsCarriedOut g slice (tree_of i.distances i.hops) (tree_of u.distances u.hops) lost stale moved written taken hop_sets → IsCarriedOut g come t u lost stale moved written taken hop_sets
 carried_out_at {g} {slice} {come} i t u {lost} {stale} {moved} {written} {taken} {hop_sets} view same fresh r =

@@ -1,4 +1,4 @@
--- The next hops of a path that goes on are what its last link hands on of those before it.
+-- The next hops of a path that goes on are what its last link passes on of those before it.
 use Rattle.std.proofs.Common.{◌≡◌, ℕ, List, [], ◌∷◌, ◌++◌, refl, sym, subst}
 use Rattle.ospf_types.specs.declared.entry.Vertex.{Vertex}
 use Rattle.ospf_types.specs.declared.entry.Vertex.TheVariants.{Router, Network}
@@ -43,7 +43,7 @@ pub first_before : (step last : TakenLink) (way : List TakenLink) (h : NextHop) 
 first_before step last [] h first = second_step step.to step.label last.label h first
 first_before step last (next ∷ way) h first = (h, first, handed_on_itself step.to step.label next.label last.label h first)
 
--- And what the step hands on is a next hop of the longer path.
+-- And what the step passes on is a next hop of the longer path.
 pub first_after : (step last : TakenLink) (way : List TakenLink) (g h : NextHop) → IsFirst (step ∷ way) g → HandsOn g last.label h → IsFirst ((step ∷ way) ++ last ∷ []) h
 first_after step last [] g h first hands = from_first_step step.to step.label last.label g h first hands
 first_after step last (next ∷ way) g h first hands =

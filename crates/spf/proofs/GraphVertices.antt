@@ -29,7 +29,7 @@ IsThere g v = (ends : List LinkEnd) × (get g.ends v ≡ Some ends)
 
 -- ---- the routers among vertices
 
--- Of some vertices the routers for which a fact holds, each once.
+-- Of some vertices the routers for which a fact holds, without duplicates.
 record AreRouters (P : ℕ → Type 0) (vertices : List Vertex) (routers : List ℕ) : Type 0 where
   pub apart : HasNoDoubles routers
   pub hold : (r : ℕ) → Contains routers r → P r

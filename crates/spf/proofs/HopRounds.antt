@@ -15,7 +15,7 @@ use Rattle.spf.specs.Parts.{hops_of}
 use Rattle.spf.specs.Trees.{IsGiven}
 use Rattle.spf.specs.TreeValues.{listed_hops}
 
--- the next hops of a vertex are those of its list
+-- the next hops of a vertex belong to its list
 pub hops_listed : (m : HopMap) (v : Vertex) (h : NextHop) → hops_of m v h ↔ Contains (listed_hops (get m v)) h
 hops_listed m v h = go (get m v) refl
   where

@@ -68,7 +68,7 @@ module _ {link : Links} {root : ℕ} {has_root : Type 0} {distance : Vertex → 
         path = (last ∷ [], (has, (subst (λ v. link v to cost label) is_root least.taken, other, refl)), subst (λ n. IsDistance link root has_root to n) costs at, first);
       }
 
-  -- what another least link hands on is a next hop
+  -- what another least link passes on is a next hop
   from_other : (from to : Vertex) (cost : ℕ) (label : Label) (g h : NextHop) → to ≢ Router root → IsLeast link distance from to cost label → IsHop link root has_root from g → HandsOn g label h → IsHop link root has_root to h
   from_other from to cost label g h other least is hands =
       let path = is.path in

@@ -49,7 +49,7 @@ same_listed x y one other same = same_list hop_total hop_exact (listed_hops x) (
   λ c. (listed x h).1 ((same h).1 ((listed y h).0 c)),
 ))
 
--- what was not listed is as it was
+-- what was not listed is unchanged
 others_kept : (old new : TreeValue) → AreHopsInOrder old.hops → AreHopsInOrder new.hops → AreChanged old new new.changed → AreOthersKept old new
 others_kept old new were are changed v other =
     let alike : Differs old new v → ⊥ = λ differs. other ((changed.exact v).1 differs) in

@@ -13,7 +13,7 @@ use Rattle.ospf_types.proofs.Elements.{no_element}
 use Rattle.spf.proofs.LostVertices.{held_at_start, held_passed, held_lost, dear_at_start, dear_lost}
 
 module _ {before after gone : Links} {root : ℕ} {had_root has_root : Type 0} {old : Vertex → Option ℕ} (were : AreDistances before root had_root old) where
-  -- at the start the heads of the least links that went are suspected and stale
+  -- at the start the heads of the removed least links are suspected and stale
   pub lose_support_start : AreGone before after gone → (suspects stale : List Vertex)
       → ((from to : Vertex) (cost : ℕ) (label : Label) → to ≢ Router root → IsLeast gone old from to cost label → Contains suspects to × Contains stale to)
       → ((v : Vertex) → Contains suspects v → IsReached root old v)

@@ -144,11 +144,11 @@ module _ {after : Links} {root : ℕ} {has_root : Type 0} {old : Vertex → Opti
   kept_path to d is = by_rank old KeepsPath keeps_path to d is d is
 
 module _ (after : Links) (has_root : Type 0) {before : Links} {root : ℕ} {had_root : Type 0} {old : Vertex → Option ℕ} (were : AreDistances before root had_root old) where
-  -- what stands both before and after stood before
+  -- what is both before and after stood before
   stood : (from to : Vertex) (cost : ℕ) (label : Label) → Between before after from to cost label → before from to cost label
   stood from to cost label taken = taken.0
 
-  -- a path over what stands both before and after is one before
+  -- a path over what is both before and after is one before
   pub path_before : (to : Vertex) (way : List TakenLink) → IsPath (Between before after) root (had_root × has_root) way to → IsPath before root had_root way to
   path_before to way path = (path.0.0, leads_more (Between before after) before root stood (Router root) to way path.1)
 

@@ -48,7 +48,7 @@ module _ {after : Links} {root : ℕ} {has_root : Type 0} {old start queue more 
   made : AreMade (AtStart after root start lost came) start (get no_queue) more stale wider
   made = made_both {first = Into after root start lost} {second = OverReached root start came} {all = AtStart after root start lost came} into over (λ v e offer. offer) (λ v e offer. inl offer) (λ v e offer. inr offer)
 
-  -- an offer over a link that came
+  -- an offer over an added link
   over_came : (from to : Vertex) (cost : ℕ) (label : Label) (d : ℕ) → Among came from to cost label → start from ≡ Some d → to ≢ Router root → AtStart after root start lost came to (d + cost)
   over_came from to cost label d c at other = inr (link_value from to cost label, d, c, at, (refl, other, refl))
 
@@ -71,7 +71,7 @@ module _ {after : Links} {root : ℕ} {has_root : Type 0} {old start queue more 
     tells = λ from to cost label c other least. made.tells to (least.near + cost) (over_came from to cost label least.near c least.tail other) least.head;
   }
 
-  -- what is stale then was so, or a link that came leads there
+  -- what is stale then was so, or an added link leads there
   pub stale_at_start : (v : Vertex) → Contains wider v → Contains stale v ⊎ ((from : Vertex) × (cost : ℕ) × (label : Label) × Among came from v cost label)
   stale_at_start v c = elim (made.why v c) [
     | inl was ↦ inl was
@@ -86,7 +86,7 @@ module _ {after : Links} {root : ℕ} {has_root : Type 0} {old start queue more 
 
 -- ---- a round
 
--- the queue's rank is that of the tree
+-- the queue's rank belongs to the tree
 same_rank : (v : Vertex) (k : ℕ) → queue_rank v k ≡ rank v k
 same_rank (Router r) k = refl
 same_rank (Network n) k = refl

@@ -44,7 +44,7 @@ module _ {root : ℕ} {has_root : Type 0} {old distance : Vertex → Option ℕ}
     ]
   ]
 
-  -- each distance from which the search starts is that of a path after, or more
+  -- each distance from which the search starts belongs to a path after, or more
   pub real_at_start : {after : Links} → AreLinks after root has_root → AreHeld after root old lost [] → AreReal after root has_root distance
   real_at_start {after} links held = record { real = λ v d at. path_of v d (starts v d at) }
     where

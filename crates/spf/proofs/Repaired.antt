@@ -30,7 +30,7 @@ module _ {before after gone come : Links} {root : ℕ} {had_root has_root : Type
     (links_before : AreLinks before root had_root) (links : AreLinks after root has_root) (was : IsTree before root had_root old sets)
     (l : AreLosingSupport before after gone root had_root has_root old lost [] told) (reset : IsReset root has_root old lost start)
     (n : AreRelaxing after come root has_root start distance queue moved stale) (none : IsEmptyQueue queue) where
-  -- Between relaxing and updating next hops: all that was moved or is stale is queued, and the sets of what is reached are as they were.
+  -- Between relaxing and updating next hops: all that was moved or is stale is queued, and the sets of what is reached are unchanged.
   pub update_next_hops_opened : AreGone before after gone → AreCome before after come start → ((v : Vertex) → Contains told v → Contains stale v)
       → (now : Vertex → NextHop → Type 0) (again : Vertex → Option ℕ)
       → ((v : Vertex) (d : ℕ) → distance v ≡ Some d → (h : NextHop) → now v h ↔ sets v h)
@@ -56,7 +56,7 @@ module _ {before after gone come : Links} {root : ℕ} {had_root has_root : Type
     ]
   ]
 
-  -- Once next hops are updated the tree is that of the links after.
+  -- Once next hops are updated the tree belongs to the links after.
   pub tree_after : {begun now : Vertex → NextHop → Type 0} {again : Vertex → Option ℕ} {taken written : List Vertex} → AreUpdatingNextHops after root distance again begun now taken written → IsEmptyQueue again
       → ((h : NextHop) → begun (Router root) h → ⊥) → ((to : Vertex) → distance to ≡ None → (h : NextHop) → begun to h → ⊥)
       → IsTree after root has_root distance now

@@ -178,7 +178,7 @@ updated = record {
     written : (w : Vertex) → Contains (Router 1 ∷ []) w → w ≡ Router 1
     written w c = elim ((added_front (Router 1) []).only w c) [ inl same ↦ same | inr none ↦ absurd (no_element w none) ]
 
--- and the tree is that of the link
+-- and the tree belongs to the link
 tree : IsTree one_link 0 (Unit {0}) distance hops
 tree = tree_after (no_links 0) links (blank_tree 0) (none_lost one_link 0 (Unit {0})) reset ended (λ v. refl) (update_next_hops_taken opened_hops links empty hops (Router 1 ∷ []) (Router 1 ∷ []) (Router 1) 1 updated (added_front (Router 1) [])) (λ v. refl) (λ h x. x) (λ to none h x. x)
 

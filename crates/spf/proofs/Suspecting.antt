@@ -229,7 +229,7 @@ module _ (g : GraphValue) (old : Vertex → Option ℕ) (lost suspects stale : L
 -- ---- the loop
 
 module _ (g : GraphValue) (gone come : List Link) (old : Vertex → Option ℕ) (is : IsBefore g gone come old) where
-  -- at the start the heads of the least links that went are told
+  -- at the start the heads of the removed least links are told
   pub suspected_at_start : (suspects stale : List Vertex) → AreToldOf (IsHead (WasLeast g.root old) gone) [] [] stale [] suspects → AreSuspected g gone come old [] suspects stale
   suspected_at_start suspects stale told = record {
     losing_support = lose_support_start is.distances (record { went = (earlier_changes (LinksOf g) gone come).went }) suspects stale

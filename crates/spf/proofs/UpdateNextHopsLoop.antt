@@ -37,7 +37,7 @@ module _ {link : Links} {root : ℕ} {distance queue : Vertex → Option ℕ} {s
   pub kept_until_taken : (v : Vertex) → (Contains taken v → ⊥) → (h : NextHop) → now v h ↔ sets v h
   kept_until_taken v none = n.unwritten v (λ c. none (n.within v c))
 
-  -- with nothing queued, and no next hops at the root and at what is not reached, the tree is that of the links
+  -- with nothing queued, and no next hops at the root and at what is not reached, the tree belongs to the links
   pub update_next_hops_end : {has_root : Type 0} → AreLinks link root has_root → AreDistances link root has_root distance → IsEmptyQueue queue
       → ((h : NextHop) → sets (Router root) h → ⊥) → ((to : Vertex) → distance to ≡ None → (h : NextHop) → sets to h → ⊥)
       → IsTree link root has_root distance now

@@ -35,7 +35,7 @@ use Rattle.spf.proofs.Settling.{given_more}
 
 -- ---- how many vertices are taken at most
 
--- what is found stands among the vertices
+-- what is found is among the vertices
 key_of : (es : List (Vertex × ℕ)) (v : Vertex) (d : ℕ) → find vertex_cmp v es ≡ Some d → Contains (keys_of es) v
 key_of [] v d found = absurd cc
 key_of (e ∷ es) v d found =
@@ -310,7 +310,7 @@ module _ {g : GraphValue} {distance : Vertex → Option ℕ} {old mid : HopMap} 
   set_written : (v : Vertex) → Contains a.set v → Contains written v
   set_written v c = subst (λ (vs : List Vertex). Contains vs v) (sym a.whole) (Contains-append_right blanked a.set v c)
 
-  -- With nothing left waiting, the tree is that of the links.
+  -- With nothing left waiting, the tree belongs to the links.
   pub amidst_end : waiting ≡ empty → AreSettled g distance (hops_of old) now lost moved stale written (number - start)
   amidst_end none = record {
     tree = update_next_hops_end a.updating (area_links (graph_view g)) u.distances (λ v. ap (λ (q : Queue). get q v) none ∙ get-empty {X = ℕ} vertex_cmp v) (blank_root u b) (blank_unreached u b);

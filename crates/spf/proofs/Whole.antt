@@ -65,6 +65,6 @@ module _ {link : Links} {root : ℕ} {has_root : Type 0} {distance : Vertex → 
       let are : AreDistances link root has_root distance = distances_at_end distance queue rooted none fair real in
       record { distances = are; right = hops_everywhere links distance hops are (unions_at_end distance again hops none_again right) blank_root blank }
 
-  -- the distances of a tree are those of its vertices
+  -- the distances of a tree belong to its vertices
   pub tree_distance : IsTree link root has_root distance hops → (v : Vertex) (d : ℕ) → (distance v ≡ Some d) ↔ IsDistance link root has_root v d
   tree_distance tree v d = (λ is. tree.distances.right v d is, λ at. value_at tree.distances v d at)

@@ -1,4 +1,4 @@
--- How the next hops after are found: a set that is written breaks only what its least links hand on, and those are looked at later.
+-- How the next hops after are found: a set that is written breaks only what its least links pass on, and those are looked at later.
 use Rattle.std.proofs.Common.{◌≡◌, ◌≢◌, ℕ, ◌+◌, ◌<◌, List, Option, Some, None, refl, sym, ap, subst, ◌∙◌, ◌⊎◌, inl, inr, arith}
 use Rattle.std.specs.Prelude.{◌↔◌}
 use Rattle.std.specs.List.{Contains}

@@ -25,7 +25,7 @@ SameLinks A B = (from to : Vertex) (cost : ℕ) (label : Label) → A from to co
 abbrev pub AreDecided : Links → Type 0
 AreDecided link = (from to : Vertex) (cost : ℕ) (label : Label) → link from to cost label ⊎ (link from to cost label → ⊥)
 
--- The lists have just the links that went and just those that came.
+-- The lists have just the removed links and the added links.
 pub record AreExactChanges (before after : Links) (gone come : List Link) : Type 0 where
   pub went : SameLinks (Among gone) (λ from to cost label. before from to cost label × (after from to cost label → ⊥))
   pub came : SameLinks (Among come) (λ from to cost label. after from to cost label × (before from to cost label → ⊥))

@@ -37,7 +37,7 @@ HasDistance distances v d = get distances v ≡ Some d
 abbrev pub IsGivenOver : ℕ → (Vertex → Option ℕ) → (Vertex → NextHop → Type 0) → Link → NextHop → Type 0
 IsGivenOver root distance hops l h = IsLeastLink distance l × Gives root hops l.from l.to l.label h
 
--- what a link with this label hands on of a next hop
+-- what a link with this label passes on of a next hop
 abbrev pub IsHandedOn : Label → NextHop → NextHop → Type 0
 IsHandedOn label g h = HandsOn g label h
 
@@ -106,7 +106,7 @@ IsHeadPut root distances l old new = ArePut (get distances) (IsHeadOver root (ge
 
 -- ---- what is written
 
--- What is in the list and is not reached is written, each once, and has no next hops. The others stay.
+-- What is in the list and is not reached is written, without duplicates, and has no next hops. The others stay.
 pub record AreBlanked (distance : Vertex → Option ℕ) (vertices : List Vertex) (old new : HopMap) (written : List Vertex) : Type 0 where
   pub exact : (v : Vertex) → Contains written v ↔ (Contains vertices v × (distance v ≡ None))
   pub apart : HasNoDoubles written
@@ -129,7 +129,7 @@ abbrev pub IsSettledIn : GraphValue → DistanceMap → Vertex → Queue → Que
 IsSettledIn g distances v queue more old new written wider =
     IsSettled (LinksOf g) g.root (get distances) queue more (hops_of old) (hops_of new) written wider v
 
--- While vertices wait: those that were taken, and those that were written since what is lost is blank. The counts are those of the start and now.
+-- While vertices wait: those that were taken, and those that were written since what is lost is blank. The counts are from the start to now.
 pub record IsAmidst (g : GraphValue) (distance : Vertex → Option ℕ) (begun now : Vertex → NextHop → Type 0) (queue : Queue) (blanked moved stale written : List Vertex) (start number sets : ℕ) : Type 0 where
   pub taken : List Vertex
   pub set : List Vertex

@@ -33,7 +33,7 @@ pub record IsLost (after : Links) (root : ℕ) (old : Vertex → Option ℕ) (lo
       → Contains wider to × (Contains more to ⊎ Contains suspects to)
   pub only : (w : Vertex) → Contains suspects w → Contains rest w ⊎ IsReached root old w
 
--- What opens the queue of distances: every link into what is lost is offered, and every link that came. What is offered is nearer, and what is as near is told.
+-- What opens the queue of distances: every link into what is lost is offered, and every added link. What is offered is nearer, and what is as near is told.
 pub record IsOpened (after come : Links) (root : ℕ) (lost : List Vertex) (start queue : Vertex → Option ℕ) (stale : List Vertex) : Type 0 where
   pub into_lost : (from to : Vertex) (cost : ℕ) (label : Label) (d : ℕ) → Contains lost to → to ≢ Router root → after from to cost label → start from ≡ Some d → IsWithin (queue to) (d + cost)
   pub over_new : (from to : Vertex) (cost : ℕ) (label : Label) (d : ℕ) → come from to cost label → to ≢ Router root → start from ≡ Some d → IsWithin (start to) (d + cost) ⊎ IsWithin (queue to) (d + cost)

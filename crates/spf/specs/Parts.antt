@@ -50,7 +50,7 @@ AreBefore g gone come distances = IsBefore g gone come (get distances)
 
 -- ---- who loses its distance
 
--- why a vertex is stale: it is the head of a link that went, or of a link out of a vertex that is lost
+-- why a vertex is stale: it is the head of a removed link, or of a link out of a vertex that is lost
 abbrev pub IsStaleBy : GraphValue → List Link → List Vertex → Vertex → Type 0
 IsStaleBy g gone lost to =
     ((from : Vertex) × (cost : ℕ) × (label : Label) × Among gone from to cost label)
@@ -61,7 +61,7 @@ pub record AreLost (g : GraphValue) (gone come : List Link) (old : Vertex → Op
   pub losing_support : AreLosingSupport (LinksBefore g gone come) (LinksOf g) (Among gone) g.root (HadRoot g.root old) (HasRoot g) old lost [] stale
   pub why : (v : Vertex) → Contains stale v → IsStaleBy g gone lost v
 
--- what the links that went and came take from these distances
+-- what the links that were removed and added take from these distances
 abbrev pub AreLostBy : GraphValue → List Link → List Link → DistanceMap → Search → Type 0
 AreLostBy g gone come distances search = AreLost g gone come (get distances) search.lost search.pending.stale
 
@@ -86,7 +86,7 @@ AreReadyToRelax g come distances lost = AreStarted (LinksOf g) (Among come) g.ro
 abbrev pub AreReset : GraphValue → DistanceMap → List Vertex → DistanceMap → Type 0
 AreReset g old lost new = IsReset g.root (HasRoot g) (get old) lost (get new)
 
--- why a vertex is stale once distances are relaxed: it was before, it is the head of a link that came, or of a link out of a vertex that moved
+-- why a vertex is stale once distances are relaxed: it was before, it is the head of an added link, or of a link out of a vertex that moved
 abbrev pub IsStaleNow : GraphValue → List Link → List Vertex → List Vertex → Vertex → Type 0
 IsStaleNow g come stale moved to =
     Contains stale to
@@ -143,7 +143,7 @@ pub record AreSettled (g : GraphValue) (distance : Vertex → Option ℕ) (befor
   pub lost_written : (v : Vertex) → Contains lost v → distance v ≡ None → Contains written v
   pub unwritten : (v : Vertex) → (Contains written v → ⊥) → (h : NextHop) → now v h ↔ before v h
 
--- the update leads from the old next hops to the new ones, where so many vertices were taken and these were written
+-- the update leads from the old next hops to the new ones, where this many vertices were taken and these were written
 abbrev pub AreSettledIn : Relaxed → HopMap → HopMap → List Vertex → List Vertex → ℕ → Type 0
 AreSettledIn r old new stale written taken_count =
     AreSettled r.graph.now (get r.distances.now) (hops_of old) (hops_of new) r.lost.now r.moved.now stale written taken_count

@@ -11,15 +11,15 @@ use Rattle.spf.specs.Trees.{IsWithin, IsLeast, rank, IsGiven}
 abbrev pub Between : Links → Links → Links
 Between before after from to cost label = before from to cost label × after from to cost label
 
--- each link that went is among those gone
+-- each removed link is among those gone
 pub record AreGone (before after gone : Links) : Type 0 where
   pub went : (from to : Vertex) (cost : ℕ) (label : Label) → before from to cost label → after from to cost label ⊎ gone from to cost label
 
--- each link that came, out of a vertex that has a distance at the start, is among those come
+-- each added link, out of a vertex that has a distance at the start, is among those come
 pub record AreCome (before after come : Links) (start : Vertex → Option ℕ) : Type 0 where
   pub came : (from to : Vertex) (cost : ℕ) (label : Label) (d : ℕ) → after from to cost label → start from ≡ Some d → before from to cost label ⊎ come from to cost label
 
--- Each link that went is among those gone, and each that came among those come. To name more does no harm.
+-- Each removed link is among those gone, and each added link among those come. To name more does no harm.
 pub record AreChanges (before after gone come : Links) : Type 0 where
   pub went : (from to : Vertex) (cost : ℕ) (label : Label) → before from to cost label → after from to cost label ⊎ gone from to cost label
   pub came : (from to : Vertex) (cost : ℕ) (label : Label) → after from to cost label → before from to cost label ⊎ come from to cost label
@@ -93,12 +93,12 @@ IsQueued queue v = (k : ℕ) × (queue v ≡ Some k)
 pub record AreRightOrQueued (link : Links) (root : ℕ) (distance queue : Vertex → Option ℕ) (hops : Vertex → NextHop → Type 0) : Type 0 where
   pub right : (to : Vertex) (d : ℕ) → distance to ≡ Some d → to ≢ Router root → IsQueued queue to ⊎ ((h : NextHop) → hops to h ↔ IsGiven link root distance hops to h)
 
--- The heads of the least links that went are stale, and so are those that what is lost might have reached over a link after.
+-- The heads of the removed least links are stale, and so are those that what is lost might have reached over a link after.
 pub record AreToldLost (after gone : Links) (root : ℕ) (old : Vertex → Option ℕ) (lost stale : List Vertex) : Type 0 where
   pub went : (from to : Vertex) (cost : ℕ) (label : Label) → to ≢ Router root → IsLeast gone old from to cost label → Contains stale to
   pub led : (from to : Vertex) (cost : ℕ) (label : Label) (d e : ℕ) → Contains lost from → after from to cost label → to ≢ Router root → old from ≡ Some d → old to ≡ Some e → d + cost ≤ e → Contains stale to
 
--- The head of each least link that came, or that leads out of a moved vertex, is stale, moved or queued.
+-- The head of each added least link, or that leads out of a moved vertex, is stale, moved or queued.
 pub record AreTold (after come : Links) (root : ℕ) (distance queue : Vertex → Option ℕ) (moved stale : List Vertex) : Type 0 where
   pub told : (from to : Vertex) (cost : ℕ) (label : Label) → to ≢ Router root → IsLeast after distance from to cost label → come from to cost label ⊎ Contains moved from
       → Contains stale to ⊎ (Contains moved to ⊎ IsQueued queue to)
@@ -112,7 +112,7 @@ pub record IsSame (root : ℕ) (A : Links) (has_A : Type 0) (B : Links) (has_B :
 pub record HasDiffering (root : ℕ) (A : Links) (has_A : Type 0) (B : Links) (has_B : Type 0) (vertices : List Vertex) : Type 0 where
   pub differing : (v : Vertex) → (IsSame root A has_A B has_B v → ⊥) → Contains vertices v
 
--- the lists that bound the work: what differs from before to between and from between to after, the heads of the links that went or came, and those of the links out of what differs
+-- the lists that bound the work: what differs from before to between and from between to after, the heads of the links that were removed or added, and those of the links out of what differs
 pub record AreOwed (root : ℕ) (before after gone come : Links) (had_root has_root : Type 0) (first second heads first_out second_out : List Vertex) : Type 0 where
   pub first_differ : HasDiffering root before had_root (Between before after) (had_root × has_root) first
   pub second_differ : HasDiffering root (Between before after) (had_root × has_root) after has_root second
@@ -121,7 +121,7 @@ pub record AreOwed (root : ℕ) (before after gone come : Links) (had_root has_r
   pub out_of_first : (from to : Vertex) (cost : ℕ) (label : Label) → Between before after from to cost label → Contains first from → Contains first_out to
   pub out_of_second : (from to : Vertex) (cost : ℕ) (label : Label) → after from to cost label → Contains second from → Contains second_out to
 
--- why a vertex is looked at again: it was moved, it is the head of a link that went or came, or of a link after out of what is lost, moved or written
+-- why a vertex is looked at again: it was moved, it is the head of a link that was removed or added, or of a link after out of what is lost, moved or written
 pub data IsDue (after gone come : Links) (lost moved written : List Vertex) (to : Vertex) : Type 0 where
   Moved : Contains moved to → IsDue after gone come lost moved written to
   Went : (from : Vertex) (cost : ℕ) (label : Label) → gone from to cost label → IsDue after gone come lost moved written to

@@ -31,7 +31,7 @@ abbrev pub listed_hops : Option (List NextHop) → List NextHop
 listed_hops None = []
 listed_hops (Some hops) = hops
 
--- The tree is that of the graph: each distance and each next hop is the one that the definitions give.
+-- The tree belongs to the graph: each distance and each next hop is the one that the definitions give.
 pub record IsTreeOf (g : GraphValue) (t : TreeValue) : Type 0 where
   pub fresh : t.spent ≡ false
   pub tree : IsTree (LinksOf g) g.root (HasRoot g) (get t.distances) (hops_of t.hops)
@@ -48,7 +48,7 @@ pub record IsBegun (g : GraphValue) (gone come : List Link) (t : TreeValue) (los
   pub before : IsTreeBefore g gone come t
   pub losses : AreLost g gone come (get t.distances) lost stale
 
--- a repair is begun for some links that went
+-- a repair is begun for some removed links
 abbrev pub IsBegunWith : GraphValue → List Link → TreeValue → Search → Type 0
 IsBegunWith g come t search = (gone : List Link) × IsBegun g gone come t search.lost search.pending.stale
 
@@ -62,7 +62,7 @@ IsChangedBy root old new lost moved written v =
     (Contains (Router root ∷ lost) v × (get new.distances v ≢ get old.distances v))
     ⊎ (IsNearer moved lost v ⊎ Contains written v)
 
--- exactly the vertices that differ, ascending, each once
+-- exactly the vertices that differ, ascending without duplicates
 pub record AreChanged (old new : TreeValue) (changed : List Vertex) : Type 0 where
   pub in_order : IsStrictlySortedBy vertex_cmp changed
   pub exact : (v : Vertex) → Contains changed v ↔ Differs old new v
@@ -118,7 +118,7 @@ pub record IsWorkDone (g : GraphValue) (old new : TreeValue) (taken hop_sets : �
 abbrev pub IsRepairWork : GraphValue → TreeValue → TreeValue → Touched → Type 0
 IsRepairWork g old new touched = IsWorkDone g old new touched.taken touched.hop_sets
 
--- Of building a tree: twice as many vertices are taken as are reached, the root left out, each once for its distance and once for its next hops; and as many sets are written.
+-- Of building a tree: twice as many vertices are taken as are reached, the root left out, once for its distance and once for its next hops; and as many sets are written.
 pub record IsWorkForAll (g : GraphValue) (t : TreeValue) (taken hop_sets : ℕ) : Type 0 where
   pub reached : List Vertex
   pub reached_apart : HasNoDoubles reached

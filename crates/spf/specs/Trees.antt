@@ -1,4 +1,4 @@
--- What a shortest-path tree rests on: the links, the distances of the vertices, and the next hops that a link hands on.
+-- What a shortest-path tree rests on: the links, the distances of the vertices, and the next hops that a link passes on.
 use Rattle.std.specs.Prelude.{◌↔◌, ℕ, ◌+◌, ◌*◌, ◌≡◌, ◌≢◌, ◌<◌, ◌≤◌, ◌⊎◌, ◌++◌, ◌∷◌, [], List, map, Contains, Option, Some, None}
 use Rattle.ospf_types.specs.declared.entry.Vertex.{Vertex}
 use Rattle.ospf_types.specs.declared.entry.Vertex.TheVariants.{Router, Network}
@@ -96,7 +96,7 @@ abbrev pub rank : Vertex → ℕ → ℕ
 rank (Router r) d = 2 * d + 1
 rank (Network n) d = 2 * d
 
--- What a link hands on of a next hop of its tail, by its label (RFC 2328, 16.1.1: what its head inherits from the parent). A network that is attached to the root becomes the addresses there.
+-- What a link passes on of a next hop of its tail, by its label (RFC 2328, 16.1.1: what its head inherits from the parent). A network that is attached to the root becomes the addresses there.
 abbrev pub HandsOn : NextHop → Label → NextHop → Type 0
 HandsOn (hop.Direct i) (At addresses) h = (address : ℕ) × Contains addresses address × (h ≡ hop.Router i address)
 HandsOn (hop.Direct i) (Over other) h = ⊥
@@ -111,7 +111,7 @@ first_hops (Network n) (Over id) = hop.Direct id ∷ []
 first_hops v (At addresses) = []
 first_hops v Plain = []
 
--- what a link hands on, as a list
+-- what a link passes on, as a list
 abbrev pub handed_on : NextHop → Label → List NextHop
 handed_on (hop.Direct i) (At addresses) = map (λ address. hop.Router i address) addresses
 handed_on (hop.Direct i) (Over other) = []
@@ -119,7 +119,7 @@ handed_on (hop.Direct i) Plain = []
 handed_on (hop.Peer i) label = hop.Peer i ∷ []
 handed_on (hop.Router i a) label = hop.Router i a ∷ []
 
--- what a link gives its head: out of the root the first hop of the link alone, else what it hands on
+-- what a link gives its head: out of the root the first hop of the link alone, else what it passes on
 abbrev pub Gives : ℕ → (Vertex → NextHop → Type 0) → Vertex → Vertex → Label → NextHop → Type 0
 Gives root hops from to label h = ((from ≡ Router root) × FirstOnly to label h) ⊎ ((from ≢ Router root) × (g : NextHop) × hops from g × HandsOn g label h)
 

@@ -13,7 +13,7 @@ IsConfigured configured p metric = Contains configured (p, metric)
 abbrev pub IsOffered : List (Prefix × ℕ) → List Prefix → Prefix → ℕ → Type 0
 IsOffered configured taken p metric = (Contains taken p → ⊥) × IsConfigured configured p metric
 
--- the least of these; none where there are none
+-- the least of these, or `None` if there are none
 abbrev pub IsLeast : (ℕ → Type 0) → Option ℕ → Type 0
 IsLeast these None = (m : ℕ) → these m → ⊥
 IsLeast these (Some m) = these m × ((n : ℕ) → these n → m ≤ n)

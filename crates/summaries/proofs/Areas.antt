@@ -1,4 +1,4 @@
--- The configured areas are those of the definitions: which one has an Area ID, its ranges, and which are active.
+-- The configured areas are as defined: which one has an Area ID, its ranges, and which are active.
 use Rattle.std.proofs.Common.{◌≡◌, ◌≢◌, ℕ, List, [], ◌∷◌, get_or, sym, ap, subst, ◌∙◌, inl, inr, arith}
 use Rattle.std.specs.Prelude.{IsTrue}
 use Rattle.std.specs.List.{All, Contains, AllPairs}

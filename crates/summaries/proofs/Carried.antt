@@ -9,12 +9,12 @@ use Rattle.summary_lists.specs.Plans.{Fits, IsChanged}
 use Rattle.summaries.specs.Carrying.{AllFit, AllChanged, changes_of}
 use Rattle.summary_lists.proofs.Changing.{left_at}
 
--- so many were carried out: the plans that are left may be, and then all were
+-- this many were carried out: the plans that are left may be, and then all were
 pub record IsCarriedTo (plans : List AreaPlan) (old : List AreaSummariesValue) (left : List AreaPlan) (now : List AreaSummariesValue) (i : ℕ) : Type 0 where
   pub fits : AllFit left (drop i now)
   pub leads : (after : List AreaSummariesValue) → AllChanged (changes_of left) (drop i now) after → AllChanged (changes_of plans) old (take i now ++ after)
 
--- so many were carried out, of plans whose changes are still what they were
+-- this many were carried out, of plans whose changes are still what they were
 pub record AreCarriedTo (plans now_plans : List AreaPlan) (old now : List AreaSummariesValue) (i : ℕ) : Type 0 where
   pub changes : changes_of now_plans ≡ changes_of plans
   pub carried : IsCarriedTo plans old (drop i now_plans) now i

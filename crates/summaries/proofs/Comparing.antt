@@ -56,7 +56,7 @@ unfolding IsStrictlySortedBy
 sorted_last [] ys h = h
 sorted_last (x ∷ xs) ys h = sorted_last xs ys h.1
 
--- those behind a destination of a list in order come after it
+-- those after a destination of a list in order come after it
 pub later_dests : (dests : List Dest) (i : ℕ) (d : Dest) → i < length dests → d ≡ get_or dests i d → IsStrictlySortedBy dest_cmp dests → (e : Dest) → Contains (drop (i + 1) dests) e → dest_cmp d e ≡ Less
 later_dests dests i d lt at ordered e c =
     let rest = drop (i + 1) dests in
@@ -64,7 +64,7 @@ later_dests dests i d lt at ordered e c =
     let last : IsStrictlySortedBy dest_cmp (d ∷ rest) = sorted_last (take i dests) (d ∷ rest) (subst (IsStrictlySortedBy dest_cmp) (sym whole) ordered) in
     All-contains (λ f. dest_cmp d f ≡ Less) rest e (All-from_recursion (λ f. dest_cmp d f ≡ Less) rest (sorted_head dest_cmp d rest last)) c
 
--- ---- so many destinations were compared
+-- ---- this many destinations were compared
 
 pub record AreComparedTo (v : SummaryInputsValue) (a : AreaConfig) (list : List DueSummary) (dests : List Dest) (metrics : Metrics) (i : ℕ) : Type 0 where
   pub in_order : IsStrictlySortedBy dest_cmp (keys_of metrics ++ drop i dests)

@@ -57,7 +57,7 @@ greatest_same P Q there back n is = record { holds = there n is.holds; greatest 
 abbrev IsQuiet : List Dest → Prefix → Type 0
 IsQuiet dests p = (network : Prefix) → Contains dests (Net network) → Covers p network → ⊥
 
--- where the prefix is that of a range, and is not affected
+-- where the prefix belongs to a range, and is not affected
 quiet : (areas : List AreaConfig) (dests : List Dest) (p : Prefix) (through : ℕ) → (IsTouchedBy areas dests (Net p) → ⊥) → IsAdvertised areas through p → IsQuiet dests p
 quiet areas dests p through untouched range network named covers =
     let over : IsRangeOver areas dests p = (range.0, range.1, network, range.2, range.4, range.5, named, covers) in

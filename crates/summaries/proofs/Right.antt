@@ -1,4 +1,4 @@
--- Due summaries are those of the definitions (RFC 2328, 12.4.3).
+-- Due summaries are as defined (RFC 2328, 12.4.3).
 use Rattle.std.proofs.Common.{◌≡◌, ℕ, List, [], ◌∷◌, Option, sym, subst, ◌∙◌}
 use Rattle.std.specs.Prelude.{◌↔◌}
 use Rattle.std.specs.List.{Contains}

@@ -1,7 +1,7 @@
 -- The areas are planned one by one, and what comes of it where the plans are carried out.
 --   planned_more: one more area has its plan
 --   all_fit: the plans may be carried out
---   lists_after: the lists are those of the inputs then
+--   lists_after: the lists belong to the inputs then
 --   changes_after: the plans change just what differs
 use Rattle.std.proofs.Common.{◌≡◌, ℕ, suc, add-zero, ◌+◌, ◌<◌, ◌≤◌, List, [], ◌∷◌, ◌++◌, length, map, get_or, set, take, drop, Option, refl, sym, ap, subst, ◌∙◌, inl, inr, arith}
 use Rattle.std.specs.Prelude.{◌↔◌}
@@ -51,7 +51,7 @@ listed_set lists i x old at area list =
     map-set_same f lists i x old (same ∙ ap f at)
 
 module _ (v : SummaryInputsValue) (dests : List Dest) (areas : List AreaConfig) (old now : List AreaSummariesValue) (plans : List AreaPlan) (i : ℕ) where
-  -- the list at the place is as it was
+  -- the list at the place is unchanged
   pub still_there : (x : AreaSummariesValue) → i < length now → x ≡ get_or now i x → ArePlannedTo v dests areas old now plans i → get_or old i x ≡ x
   still_there x lt at to =
       ap (λ (k : ℕ). get_or old k x) (sym (add-zero i)) ∙ sym (get_or-drop i old 0 x) ∙ ap (λ (ys : List AreaSummariesValue). get_or ys 0 x) (sym to.rest)
@@ -189,7 +189,7 @@ module _ (v : SummaryInputsValue) (dests : List Dest) (areas : List AreaConfig) 
         (subst (λ (lists : List AreaSummariesValue). AreDueChanges (changes_of (map (λ (x : Turn). x.plan) planned.turns)) (listed lists) (listed after)) planned.old_are
         (changes_after v dests planned.turns after planned.each led))
 
-    -- the lists are those of the inputs then
+    -- the lists belong to the inputs then
     pub planned_lists : (was : SummaryInputsValue) → ((a : AreaConfig) (d : Dest) → Contains areas a → (Contains dests d → ⊥) → (m : ℕ) → IsDueIn was a d m ↔ IsDueIn v a d m) → AreListsOf was areas old → AreListsOf v areas after
     planned_lists was alike lists =
         subst (λ (bs : List AreaConfig). AreListsOf v bs after) planned.areas_are

@@ -3,7 +3,7 @@
 --   alike_few: where fewer than two are, and nothing is due
 --   alike_all: where all that is due and all that was due is affected
 --   lists_rest: where nothing is due otherwise
---   lists_now: the lists of before are those of the areas now, of which the ranges may differ
+--   lists_now: the lists of before belong to the areas now, of which the ranges may differ
 use Rattle.std.proofs.Common.{◌≡◌, ◌<◌, ℕ, List, [], ◌∷◌, ◌++◌, Ordering, arith, length, refl, sym, ap, subst, ◌∙◌, inl, inr}
 use Rattle.std.specs.Prelude.{◌↔◌}
 use Rattle.std.specs.List.{Contains, flat_map}
@@ -52,7 +52,7 @@ pub none_in_order : {A : Type 0} (cmp : A → A → Ordering) → IsStrictlySort
 unfolding IsStrictlySortedBy
 none_in_order cmp = tt
 
--- where nothing is due otherwise, the lists are those of the inputs now
+-- where nothing is due otherwise, the lists belong to the inputs now
 pub lists_rest : (before now : SummaryInputsValue) (areas : List AreaConfig) (lists : List AreaSummariesValue) → ((a : AreaConfig) (d : Dest) → Contains areas a → (m : ℕ) → IsDueIn before a d m ↔ IsDueIn now a d m)
     → AreListsOf before areas lists → AreListsOf now areas lists
 lists_rest before now [] [] alike are = tt
@@ -128,6 +128,6 @@ module _ (v : SummaryInputsValue) where
       let rest : areas_without_ranges xs ≡ areas_without_ranges ys = cc in
       (list_kept x y here w are.0, lists_kept xs ys rest lists are.1)
 
--- the lists of before are those of the areas now, of which the ranges may differ
+-- the lists of before belong to the areas now, of which the ranges may differ
 pub lists_now : (before now : SummaryInputsValue) (lists : List AreaSummariesValue) → areas_without_ranges now.areas ≡ areas_without_ranges before.areas → AreListsOf before before.areas lists → AreListsOf before now.areas lists
 lists_now before now lists same are = lists_kept before before.areas now.areas (sym same) lists are

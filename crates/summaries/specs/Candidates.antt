@@ -15,7 +15,7 @@ use Rattle.summaries.specs.declared.giving.Through.{Through}
 use Rattle.summaries.specs.Inputs.{SummaryInputsValue}
 use Rattle.summaries.specs.Giving.{Advertises, GivesIn, IsComponentIn, IsDueIn, IsMost, IsNetworkDueIn, IsOutside, IsServed, PreferredGives}
 
--- it is the one that has the property; none where nothing has it
+-- it is the one that has the property, or `None` if nothing has it
 abbrev pub IsOnly : {A : Type 0} → (A → Type 0) → Option A → Type 0
 IsOnly {A} P result = (x : A) → (result ≡ Some x) ↔ P x
 

@@ -16,7 +16,7 @@ AllFit (p ∷ plans) [] = ⊥
 abbrev pub changes_of : List AreaPlan → List (ℕ × Metrics)
 changes_of plans = map (λ p. (p.area, p.metrics.items)) plans
 
--- the areas became the others by these changes; those that are left stay as they were
+-- the areas became the others by these changes; those that are left are unchanged
 abbrev pub AllChanged : List (ℕ × Metrics) → List AreaSummariesValue → List AreaSummariesValue → Type 0
 AllChanged [] old new = new ≡ old
 AllChanged (c ∷ changes) (w ∷ old) (x ∷ new) = IsChanged c.1 w x × AllChanged changes old new

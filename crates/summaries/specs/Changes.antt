@@ -31,7 +31,7 @@ pub record InputsDifferAmong (dests : List Dest) (old new : SummaryInputsValue) 
 abbrev pub AreDueAlikeBut : List Dest → SummaryInputsValue → SummaryInputsValue → Type 0
 AreDueAlikeBut dests old new = (a : AreaConfig) (d : Dest) → Contains new.areas a → (Contains dests d → ⊥) → (m : ℕ) → IsDueIn old a d m ↔ IsDueIn new a d m
 
--- the lists are those of earlier inputs, which differ from these in no more than is named
+-- the lists belong to earlier inputs, which differ from these in no more than is named
 abbrev pub AreSummariesBehind : List Dest → SummaryInputsValue → DueSummariesValue → Type 0
 AreSummariesBehind dests v w = (before : SummaryInputsValue) × AreSummariesOf before w × InputsDifferAmong dests before v
 

@@ -22,7 +22,7 @@ lists_of w = listed w.areas
 abbrev pub dests_of : AreaSummariesValue → List Dest
 dests_of a = map (λ due. due.dest) a.list
 
--- what is due in the first area with that Area ID; none where it is not configured
+-- what is due in the first area with that Area ID, or `None` if it is not configured
 abbrev pub list_in : List AreaSummariesValue → ℕ → Option (List DueSummary)
 list_in [] area = None
 list_in (a ∷ areas) area = if a.area == area then Some a.list else list_in areas area
@@ -39,12 +39,12 @@ AreListsOf v (a ∷ areas) (w ∷ lists) = IsListOf v a w × AreListsOf v areas 
 AreListsOf v [] (w ∷ lists) = ⊥
 AreListsOf v (a ∷ areas) [] = ⊥
 
--- the lists are those of the inputs
+-- the lists belong to the inputs
 pub record AreSummariesOf (v : SummaryInputsValue) (w : DueSummariesValue) : Type 0 where
   pub active : w.active ≡ v.active
   pub lists : AreListsOf v v.areas w.areas
 
--- the lists are those of all inputs with these areas, of which none is active
+-- the lists belong to all inputs with these areas, of which none is active
 abbrev pub AreOfInactive : List AreaConfig → DueSummariesValue → Type 0
 AreOfInactive areas w = (v : SummaryInputsValue) → v.areas ≡ areas → v.active ≡ [] → AreSummariesOf v w
 

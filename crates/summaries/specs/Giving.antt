@@ -15,7 +15,7 @@ use Rattle.active_ranges.specs.Active.{HasCost}
 use Rattle.external.specs.AsbrRoute.{PreferredValue}
 use Rattle.summaries.specs.Inputs.{SummaryInputsValue}
 
--- the greatest of the numbers that have the property; none where none has it
+-- the greatest of the numbers that have the property, or `None` if none has it
 pub record IsMost (P : ℕ → Type 0) (most : Option ℕ) : Type 0 where
   pub found : (n : ℕ) → most ≡ Some n → P n
   pub reached : (n : ℕ) → P n → (m : ℕ) × (most ≡ Some m) × (n ≤ m)

@@ -41,7 +41,7 @@ pub record ArePlanned (v : SummaryInputsValue) (dests : List Dest) (areas : List
   pub plans_are : map (λ (x : Turn). x.plan) turns ≡ plans
   pub each : AreTurns v dests turns
 
--- so many of the areas have their plans, and the other lists are as they were
+-- this many of the areas have their plans, and the other lists are unchanged
 pub record ArePlannedTo (v : SummaryInputsValue) (dests : List Dest) (areas : List AreaConfig) (old new : List AreaSummariesValue) (plans : List AreaPlan) (i : ℕ) : Type 0 where
   pub first : ArePlanned v dests (take i areas) (take i old) (take i new) plans
   pub rest : drop i new ≡ drop i old

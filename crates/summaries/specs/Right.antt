@@ -1,4 +1,4 @@
--- When due summaries are those of the definitions.
+-- When due summaries are as defined.
 use Rattle.std.specs.Prelude.{ℕ, ◌≡◌, ◌≢◌, ◌↔◌, List, [], ◌∷◌, Contains}
 use Rattle.std.specs.List.{AllPairs}
 use Rattle.ospf_types.specs.declared.config.AreaConfig.{AreaConfig}

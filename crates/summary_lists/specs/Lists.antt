@@ -18,7 +18,7 @@ due_for d metric = record { kind = kind_of d; dest = d; metric = metric }
 pub record AreaSummariesValue : Type 0 where
   pub area : ℕ
   pub list : List DueSummary
-  pub room : ℕ  -- so many more it takes without memory
+  pub room : ℕ  -- this many more it takes without memory
 
 -- ascending by destination, and so by LS type
 abbrev pub AreInOrder : List DueSummary → Type 0
@@ -28,7 +28,7 @@ AreInOrder list = IsStrictlySortedBy dest_cmp (map (λ due. due.dest) list)
 abbrev pub AreOfKind : List DueSummary → Type 0
 AreOfKind list = All (λ due. due.kind ≡ kind_of due.dest) list
 
--- the list tells of the destination just at this metric; at none where it has nothing of it
+-- the list tells of the destination just at this metric; at `None` if it has nothing of it
 abbrev pub IsMetricIn : List DueSummary → Dest → Option ℕ → Type 0
 IsMetricIn list d metric = (m : ℕ) → (metric ≡ Some m) ↔ Contains list (due_for d m)
 

@@ -1,4 +1,4 @@
--- Where a destination stands in the list of an area, and what its list is with another metric of it.
+-- Where a destination is in the list of an area, and what its list is with another metric of it.
 use Rattle.std.specs.Prelude.{ℕ, ◌≡◌, ◌+◌, ◌<◌, ◌≤◌, List, [], ◌∷◌, ◌++◌, filter, Option, Some, None, length, take, drop, slice_index_or}
 use Rattle.std.specs.Ordering.{is_lt, is_gt}
 use Rattle.ospf_types.specs.declared.key.Dest.{Dest}
@@ -21,7 +21,7 @@ those_at d (Some metric) = due_for d metric ∷ []
 abbrev pub with_metric : Dest → Option ℕ → List DueSummary → List DueSummary
 with_metric d metric list = those_before d list ++ (those_at d metric ++ those_after d list)
 
--- it stands at this place
+-- it is at this place
 pub record IsAt (list : List DueSummary) (d : Dest) (at : ℕ) : Type 0 where
   pub in_range : at < length list
   pub before : take at list ≡ those_before d list

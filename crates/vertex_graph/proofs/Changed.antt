@@ -40,7 +40,7 @@ missing : (v : Vertex) (es : List (Vertex × List LinkEnd)) → AllByRecursion (
 missing v [] none = refl
 missing v (e ∷ es) none = ap (λ b. cond b (Some e.1) (find vertex_cmp v es)) none.0 ∙ missing v es none.1
 
--- there are as many vertices as entries, if none stands twice
+-- there are as many vertices as entries, if none occurs twice
 len_is : (es : List (Vertex × List LinkEnd)) → IsDistinct is_vertex (keys_of es) → len (from_entries {R = vertex_cmp} es) ≡ length es
 len_is [] unique = len-empty vertex_cmp (List LinkEnd)
 len_is (e ∷ es) unique =
@@ -167,7 +167,7 @@ module _ (root : ℕ) (rows rows_new : RowList) (ups ups_new : List Up) (after :
         );
       }
 
--- the rows that a graph has are those of its links
+-- the rows that a graph has belong to its links
 pub rows_right : (root : ℕ) (rows : RowList) (ups : List Up) → AreRows root rows ups → AreRowsBy root ups rows
 rows_right root rows ups old v row at =
     let g = graph_of root rows ups in

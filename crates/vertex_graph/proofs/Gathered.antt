@@ -77,7 +77,7 @@ network_has n body e = (
 pub has_all_of_eq : (v w : Vertex) (body : Body) (xs ys : List LinkEnd) → v ≡ w → xs ≡ ys → HasAll w body ys → HasAll v body xs
 has_all_of_eq v w body xs ys same list all = subst (λ (u : Vertex). HasAll u body xs) (sym same) (subst (HasAll w body) (sym list) all)
 
--- sorted, and each once, they are the ends of the vertex
+-- sorted, without duplicates, they are the ends of the vertex
 pub gathered : (v : Vertex) (body : Body) (raw sorted kept : List LinkEnd) → HasAll v body raw → IsPermutation raw sorted → IsSorted end_order.ghosts.cmp sorted
     → IsFiltered (DiffersFromLast (end_equality.eq-value).it) [] sorted kept → AreEnds v body kept
 gathered v body raw sorted kept all moved in_order once = record {

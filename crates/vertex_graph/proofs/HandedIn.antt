@@ -1,4 +1,4 @@
--- Where vertices lead once some were handed in.
+-- Where vertices lead once some were given.
 use Rattle.std.proofs.Common.{◌≡◌, ◌≢◌, ◌⊎◌, inl, inr, ⊎_elim, ℕ, ◌+◌, ◌<◌, List, [], ◌∷◌, length, get_or, take, cond, arith, ◌≤◌, Bor, Bool, true, false, Option, Some, None, refl, sym, ap, subst, ◌∙◌}
 use Rattle.std.specs.Prelude.{◌↔◌, ◌&&◌, Contains, IsSome, option_map}
 use Rattle.std.specs.FinMap.{get, find}
@@ -27,7 +27,7 @@ use Rattle.graph_links.proofs.EndOrders.{end_exact, end_tied}
 use Rattle.graph_links.proofs.Growing.{more, more_at}
 use Rattle.graph_links.proofs.VertexTests.{equals, one_or_other, found_after, found_own, found_other}
 
--- whether a vertex is handed in
+-- whether a vertex is given
 abbrev WasHandedIn : List Handed → Vertex → Type 0
 WasHandedIn handed v = (given : Option Body) × Contains handed (v, given)
 
@@ -57,7 +57,7 @@ ends_listed (Router r) body ends are n e is there = absurd cc
 ends_listed (Network m) body ends are n e is there = let led = (are.exact e).0 there in (led.0, led.2)
 
 module _ (old : GraphValue) (before after : Leading) (handed : List Handed) (has : HasEnds old) (leads : (v : Vertex) → get old.ends v ≡ before v) (h : IsHandedIn before after handed) where
-  -- what a vertex that was handed in leads to
+  -- what a vertex that was given leads to
   given_ends : (v : Vertex) (given : Option Body) → Contains handed (v, given) → (ends : List LinkEnd) → after v ≡ Some ends → (body : Body) × (given ≡ Some body) × AreEnds v body ends
   given_ends v None there ends is = let e : None ≡ Some ends = sym (h.away v there) ∙ is in absurd cc
   given_ends v (Some body) there ends is =
@@ -107,7 +107,7 @@ module _ (old : GraphValue) (before after : Leading) (handed : List Handed) (has
 
 -- ---- staged one after another
 
--- what is staged of those that were handed in so far
+-- what is staged of those that were given so far
 pub record IsStagedUpTo (rows : RowList) (staged : StagedList) (handed : List Handed) : Type 0 where
   pub there : (v : Vertex) (body : Body) → Contains handed (v, Some body) → (ends : List LinkEnd) × (ends_after rows staged v ≡ Some ends) × AreEnds v body ends
   pub away : (v : Vertex) → Contains handed (v, None) → ends_after rows staged v ≡ None

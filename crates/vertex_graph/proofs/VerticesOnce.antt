@@ -37,7 +37,7 @@ module _ (all sorted kept : List Vertex) (moved : IsPermutation all sorted) (in_
   kept_is : kept ≡ dedup (eq_by_cmp vertex_cmp) sorted
   kept_is = each ∙ ap (λ (same : Vertex → Vertex → Bool). dedup same sorted) vertices_order
 
-  -- is ascending, and each once
+  -- is ascending, without duplicates
   pub strictly : IsStrictlySortedBy vertex_cmp kept
   strictly = subst (IsStrictlySortedBy vertex_cmp) (sym kept_is) (IsStrictlySortedBy-dedup vertex_total (λ v w. refl) sorted (subst (λ (c : Vertex → Vertex → Ordering). IsSorted c sorted) order_is in_order))
 

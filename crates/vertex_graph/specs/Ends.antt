@@ -31,7 +31,7 @@ abbrev pub LeadsTo : Vertex → Body → LinkEnd → Type 0
 LeadsTo (Router r) body e = (l : RouterLink) × Contains (links_of body) l × (end_of l ≡ Some e)
 LeadsTo (Network n) body e = (router : ℕ) × Contains (routers_of body) router × (e ≡ listed_end router)
 
--- all that the vertex leads to, in order, each once, so that there is one list of it
+-- all that the vertex leads to, in order, without duplicates, so that there is one list of it
 pub record AreEnds (v : Vertex) (body : Body) (ends : List LinkEnd) : Type 0 where
   pub in_order : IsStrictlySortedBy end_cmp ends
   pub exact : (e : LinkEnd) → Contains ends e ↔ LeadsTo v body e

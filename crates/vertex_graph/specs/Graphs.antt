@@ -41,7 +41,7 @@ abbrev pub number_of : Vertex → ℕ
 number_of (Router r) = r
 number_of (Network n) = n
 
--- what the graph's links rest on: the LSAs and interfaces that were handed in
+-- what the graph's links rest on: the LSAs and interfaces that were given
 abbrev pub graph_view : GraphValue → View
 graph_view g = record {
   root = g.root;
@@ -86,23 +86,23 @@ pub record HasEnds (g : GraphValue) : Type 0 where
   pub in_order : (v : Vertex) (ends : List LinkEnd) → get g.ends v ≡ Some ends → IsStrictlySortedBy end_cmp ends
   pub listed : (n : ℕ) (ends : List LinkEnd) (e : LinkEnd) → get g.ends (Network n) ≡ Some ends → Contains ends e → (router : ℕ) × (e ≡ listed_end router)
 
--- what is handed in: a vertex with the body of its LSA, or with none if the LSA goes
+-- what is given: a vertex with the body of its LSA, or with `None` if the LSA goes
 abbrev pub Handed : Type 0
 Handed = Vertex × Option Body
 
--- what a slice hands in
+-- what a slice gives
 abbrev pub handed_of : List (Vertex × Option (Bor Checked)) → List Handed
 handed_of = map (λ p. (p.0, option_map (λ lsa. lsa.now.body) p.1))
 
--- what is handed in for one vertex: its LSA, or none
+-- what is given for one vertex: its LSA, or none
 abbrev pub handed_in : Vertex → Option (Bor Checked) → List Handed
 handed_in v lsa = (v, option_map (λ (l : Bor Checked). l.now.body) lsa) ∷ []
 
--- no vertex is handed in twice
+-- no vertex is given twice
 abbrev pub AreApartHanded : List Handed → Type 0
 AreApartHanded handed = AllPairs (λ x y. x.0 ≢ y.0) handed
 
--- the vertex is there once these were handed in
+-- the vertex is there once these were given
 abbrev pub IsThereAfter : GraphValue → List Handed → Vertex → Type 0
 IsThereAfter g handed v = ((body : Body) × Contains handed (v, Some body)) ⊎ (((given : Option Body) → Contains handed (v, given) → ⊥) × IsSome (get g.ends v))
 
@@ -110,7 +110,7 @@ IsThereAfter g handed v = ((body : Body) × Contains handed (v, Some body)) ⊎ 
 abbrev pub AreFewAfter : GraphValue → List Handed → Type 0
 AreFewAfter g handed = AreFew (λ r. IsThereAfter g handed (Router r))
 
--- the graph once these were handed in
+-- the graph once these were given
 pub record IsReplaced (old new : GraphValue) (handed : List Handed) : Type 0 where
   pub there : (v : Vertex) (body : Body) → Contains handed (v, Some body) → (ends : List LinkEnd) × (get new.ends v ≡ Some ends) × AreEnds v body ends
   pub away : (v : Vertex) → Contains handed (v, None) → get new.ends v ≡ None
@@ -118,13 +118,13 @@ pub record IsReplaced (old new : GraphValue) (handed : List Handed) : Type 0 whe
   pub root : new.root ≡ old.root
   pub interfaces : new.interfaces ≡ old.interfaces
 
--- exactly the links that went and those that came, each once; one with another cost or label is one of each
+-- exactly the links that were removed and added, without duplicates; one with another cost or label is one of each
 pub record AreExact (old new : GraphValue) (gone come : List Link) : Type 0 where
   pub went : (l : Link) → Contains gone l ↔ (LinksOf old l.from l.to l.cost l.label × (LinksOf new l.from l.to l.cost l.label → ⊥))
   pub came : (l : Link) → Contains come l ↔ (LinksOf new l.from l.to l.cost l.label × (LinksOf old l.from l.to l.cost l.label → ⊥))
   pub went_once : AllPairs (λ k l. k ≢ l) gone
   pub came_once : AllPairs (λ k l. k ≢ l) come
 
--- a change names exactly the links that went and those that came
+-- a change names exactly the links that were removed and added
 abbrev pub AreLinkChanges : GraphValue → GraphValue → LinkChanges → Type 0
 AreLinkChanges old new changes = AreExact old new changes.gone.items changes.came.items

@@ -12,7 +12,7 @@ use Rattle.graph_links.specs.Sides.{IsRow}
 abbrev pub graph_of : ℕ → List (Vertex × Row) → List Up → GraphValue
 graph_of root rows ups = record { root = root; ends = from_entries (map (λ (p : Vertex × Row). (p.0, p.1.ends.items)) rows); interfaces = ups }
 
--- each row has the links of its vertex, and the graph is one that may be handed out
+-- each row has the links of its vertex, and the graph is one that may be returned
 pub record AreRows (root : ℕ) (rows : List (Vertex × Row)) (ups : List Up) : Type 0 where
   pub right : (v : Vertex) (row : Row) → find vertex_cmp v rows ≡ Some row → IsRow (LinksOf (graph_of root rows ups)) v row
   pub few : HasFewRouters (graph_of root rows ups)

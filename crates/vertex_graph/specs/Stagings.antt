@@ -1,4 +1,4 @@
--- What is handed in, and which vertices it touches.
+-- What is given, and which vertices it touches.
 use Rattle.std.specs.Prelude.{◌↔◌, ◌⊎◌, ℕ, ◌≡◌, ◌≢◌, List, Contains, Option, Some, None, option_copied, option_map}
 use Rattle.std.specs.FinMap.{find}
 use Rattle.std.specs.Global.{Vec}
@@ -16,23 +16,23 @@ use Rattle.graph_links.specs.declared.row.Row.{Row}
 use Rattle.graph_links.specs.Pairs.{Names}
 use Rattle.graph_links.specs.Sides.{Leading, RowList, StagedList, ends_after, ends_of_row, ends_or, row_ends}
 
--- where vertices lead once these were handed in
+-- where vertices lead once these were given
 pub record IsHandedIn (before after : Leading) (handed : List Handed) : Type 0 where
   pub there : (v : Vertex) (body : Body) → Contains handed (v, Some body) → (ends : List LinkEnd) × (after v ≡ Some ends) × AreEnds v body ends
   pub away : (v : Vertex) → Contains handed (v, None) → after v ≡ None
   pub others : (v : Vertex) → ((given : Option Body) → Contains handed (v, given) → ⊥) → after v ≡ before v
 
--- what is staged is where vertices lead once these were handed in
+-- what is staged is where vertices lead once these were given
 abbrev pub StagesAll : RowList → List Handed → Staging → Type 0
 StagesAll rows handed staging = IsHandedIn (row_ends rows) (ends_after rows staging.ends.entries) handed
 
--- where the vertex leads by what is handed in
+-- where the vertex leads by what is given
 abbrev pub IsGivenEnds : Vertex → Option Body → Option (List LinkEnd) → Type 0
 IsGivenEnds v (Some body) (Some ends) = AreEnds v body ends
 IsGivenEnds v (Some body) None = ⊥
 IsGivenEnds v None ends = ends ≡ None
 
--- where the vertex leads by the LSA that is handed in, or by none
+-- where the vertex leads by the LSA that is given, or by none
 abbrev pub IsGivenBy : Vertex → Option (Bor Checked) → Option (Vec LinkEnd) → Type 0
 IsGivenBy v lsa ends = IsGivenEnds v (option_map (λ (l : Bor Checked). l.now.body) lsa) (option_map (λ (es : Vec LinkEnd). es.items) ends)
 

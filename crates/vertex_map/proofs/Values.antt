@@ -30,21 +30,21 @@ module _ {V : Type 0} where
   seen true p r = refl
   seen false p r = refl
 
-  -- what a look-up finds is the vertex's value
+  -- what a lookup finds is the vertex's value
   pub value_is : (es : List (Vertex × (ℕ × Option V))) (q : Vertex) → inner (lookup (vertices_equal q) es) ≡ get (values_of es) q
   value_is [] q = sym (get-empty vertex_cmp q)
   value_is (e ∷ es) q =
       seen (vertices_equal q e.0) e.1 (lookup (vertices_equal q) es)
       ∙ (λ i. cond (vertices_order i q e.0) e.1.1 (value_is es q i)) ∙ sym (get_with (values_of es) e.0 e.1.1 q)
 
-  -- an entry's value is that of its vertex
+  -- an entry's value belongs to its vertex
   pub found_at : (es : List (Vertex × (ℕ × Option V))) (w v : Vertex) (p : ℕ × Option V) → lookup (vertices_equal w) es ≡ Some p → w ≡ v → get (values_of es) v ≡ p.1
   found_at es w v p is same = sym (value_is es v) ∙ ap inner (subst (λ (x : Vertex). lookup (vertices_equal x) es ≡ Some p) same is)
 
   pub not_found : (es : List (Vertex × (ℕ × Option V))) (v : Vertex) → lookup (vertices_equal v) es ≡ None → get (values_of es) v ≡ None
   not_found es v none = sym (value_is es v) ∙ ap inner none
 
-  -- a look-up finds the vertex's own entry
+  -- a lookup finds the vertex's own entry
   pub key_found : (es : List (Vertex × (ℕ × Option V))) (v w : Vertex) → lookup_key (vertices_equal v) es ≡ Some w → w ≡ v
   key_found [] v w is = absurd cc
   key_found (e ∷ es) v w is = by (key_found es v w) (vertices_equal v e.0) refl is
@@ -60,7 +60,7 @@ module _ {V : Type 0} where
       ∙ (λ i. cond (vertices_order i v q) p.1 (value_is es q i))
       ∙ ap (λ b. cond b p.1 (get (values_of es) q)) ((eq_by_cmp_equiv vertex_total).symm v q) ∙ sym (get_with (values_of es) v p.1 q))
 
-  -- entries in which each look-up finds the same have the same values
+  -- entries in which each lookup finds the same have the same values
   pub same_values : (es fs : List (Vertex × (ℕ × Option V))) → ((q : Vertex) → lookup (vertices_equal q) fs ≡ lookup (vertices_equal q) es) → values_of fs ≡ values_of es
   same_values es fs same = same_map vertex_total vertex_exact (values_of fs) (values_of es) (λ q. sym (value_is fs q) ∙ ap inner (same q) ∙ value_is es q)
 

@@ -20,7 +20,7 @@ module _ {V : Type 0} where
   inner None = None
   inner (Some p) = p.1
 
-  -- the vertex's entry stands there
+  -- the vertex's entry is there
   abbrev pub IsAt : List (Vertex × (ℕ × Option V)) → Vertex → ℕ → Type 0
   IsAt es v i = (p : ℕ × Option V) × (slice_get es i ≡ Some (v, p))
 
@@ -28,7 +28,7 @@ module _ {V : Type 0} where
   abbrev pub is_valued : List (Vertex × (ℕ × Option V)) → Vertex → Bool
   is_valued es v = is_some (get (values_of es) v)
 
-  -- the vertex whose entry stands at the place has this value or none, and each other vertex what it had
+  -- the vertex whose entry is at the place has this value or none, and each other vertex what it had
   abbrev pub WritesAt : ℕ → Option V → List (Vertex × (ℕ × Option V)) → List (Vertex × (ℕ × Option V)) → Type 0
   WritesAt place value old new = (v : Vertex) → IsAt old v place → values_of new ≡ with_value (values_of old) v value
 

@@ -1,4 +1,4 @@
--- A list without doubles whose elements all stand in another list is no longer than it.
+-- A list without doubles whose elements all are in another list is no longer than it.
 use Rattle.std.proofs.Common.{◌≡◌, ◌≢◌, ℕ, suc, ◌-◌, ◌<◌, ◌≤◌, List, [], ◌∷◌, ◌++◌, length, get_or, sym, ap, subst, ◌∙◌, inl, inr, arith}
 use Rattle.std.specs.List.{Contains, remove}
 use Rattle.std.proofs.lemmas.Bool.{cases_lt}
@@ -9,7 +9,7 @@ use Rattle.vertex_queue.specs.VertexSet.{HasNoDoubles}
 use Rattle.ospf_types.proofs.Elements.{first_element, later_element}
 
 module _ {X : Type 0} where
-  -- what stands at another place still stands where one is taken out
+  -- what is at another place still is where one is taken out
   contains_without : (ys : List X) (i k : ℕ) (y : X) → i < length ys → k < length ys → get_or ys k y ≡ y → k ≢ i → Contains (remove ys i) y
   contains_without ys i k y i_in k_in is other = elim (cases_lt k i) [
     | inl less ↦ (k, omega (arith, length-remove ys i i_in), get_or-remove_below ys i y k less i_in ∙ is)

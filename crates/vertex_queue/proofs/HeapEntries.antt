@@ -98,7 +98,7 @@ others q hs ks x v d before moved ordered at = record {
   ];
 }
 
--- ---- the heap's order is that of the queue, the other way round
+-- ---- the heap's order belongs to the queue, the other way round
 
 by_parts : (x y e d : ℕ) (rest : Ordering) → (e < d → x < y) → (d < e → y < x) → (e ≡ d → rest ≡ nat_cmp x y) → nat_cmp x y ≡ ordering_then (nat_cmp e d) rest
 by_parts x y e d rest less more same =

@@ -34,7 +34,7 @@ module _ {X : Type 0} where
   pub get_is : (es : List (Vertex × X)) (q : Vertex) → get (map_of es) q ≡ find vertex_cmp q es
   get_is es q = get-from_entries vertex_total es q
 
-  -- what a look-up by `==` gives
+  -- what a lookup by `==` gives
   pub looked_up : (es : List (Vertex × X)) (q : Vertex) → lookup (vertices_equal q) es ≡ get (map_of es) q
   looked_up es q = found_by_equals q es ∙ sym (get_is es q)
 
@@ -58,7 +58,7 @@ module _ {X : Type 0} where
   find_none q [] none = refl
   find_none q (e ∷ es) none = ap (λ b. cond b (Some e.1) (find vertex_cmp q es)) none.0 ∙ find_none q es none.1
 
-  -- there are so many vertices as entries, where none stands twice
+  -- there are this many vertices as entries, where none occurs twice
   len_distinct : (es : List (Vertex × X)) → IsDistinct (eq_by_cmp vertex_cmp) (keys_of es) → len (map_of es) ≡ length es
   len_distinct [] unique = len-empty vertex_cmp X
   len_distinct (e ∷ es) unique =

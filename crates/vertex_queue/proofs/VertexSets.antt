@@ -11,7 +11,7 @@ pub member_added : (old new : List Vertex) (v : Vertex) (fresh : Bool) → IsWit
 member_added old new v fresh (inl one) = subst (λ (vs : List Vertex). IsAdded old vs v) (sym one.1) (added_end v old)
 member_added old new v fresh (inr same) = subst (λ (vs : List Vertex). IsAdded old vs v) (sym same.1) (record { grows = λ w there. there; here = same.2; only = λ w there. inr there })
 
--- the vertices before a place are without the one that stands there
+-- the vertices before a place are without the one that is there
 pub before_apart : (vs : List Vertex) (i : ℕ) (d : Vertex) → HasNoDoubles vs → i < length vs → Contains (take i vs) (get_or vs i d) → ⊥
 before_apart vs i d apart lt there =
     let short : there.0 < i = omega (arith, there.1, length-take-le i vs (omega (arith, lt))) in

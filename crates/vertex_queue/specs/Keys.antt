@@ -10,6 +10,6 @@ vertex_from first k = cond (nat_lt k first) (Router k) (Network (k - first))
 abbrev pub vertex_at : ℕ → Vertex
 vertex_at k = vertex_from (2 ^ 32) k
 
--- the vertices with those of some keys behind them
+-- the vertices with those of some keys after them
 abbrev pub with_keys : List Vertex → List ℕ → List Vertex
 with_keys vertices keys = vertices ++ map vertex_at keys

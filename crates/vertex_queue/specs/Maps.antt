@@ -26,6 +26,6 @@ abbrev pub with_hops : HopMap → Vertex → Option (List NextHop) → HopMap
 with_hops m v (Some hops) = insert m v hops
 with_hops m v None = remove m v
 
--- the next hops of each vertex stand in their order, each once
+-- the next hops of each vertex are in their order, without duplicates
 abbrev pub AreHopsInOrder : HopMap → Type 0
 AreHopsInOrder m = (v : Vertex) → IfSome (get m v) (λ (hops : List NextHop). IsStrictlySortedBy hop_cmp hops)

@@ -1,4 +1,4 @@
--- Lists in which no element stands twice, and what one more vertex makes of one.
+-- Lists in which no element occurs twice, and what one more vertex makes of one.
 use Rattle.std.specs.Prelude.{◌≡◌, ◌≢◌, ◌⊎◌, ◌++◌, ◌∷◌, Bool, true, false, List, [], Contains}
 use Rattle.std.specs.List.{AllPairs}
 use Rattle.ospf_types.specs.declared.entry.Vertex.{Vertex}

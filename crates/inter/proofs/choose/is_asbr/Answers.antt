@@ -1,4 +1,4 @@
--- The router is handed out over a next hop just where it has the bit and some next hop.
+-- The router is returned over a next hop just where it has the bit and some next hop.
 use Rattle.std.proofs.Common.{◌==◌, List, [], ◌∷◌, length, Option, true≢false, not, refl, sym, ap, subst, ◌∙◌}
 use Rattle.std.specs.Prelude.{IsTrue}
 use Rattle.std.proofs.Math.Dec.{eqb-suc-zero}

@@ -1,4 +1,4 @@
--- The entry that stands at the place is the key's.
+-- The entry that is at the place is the key's.
 use Rattle.std.proofs.Common.{◌≡◌, None, ap, subst, ◌∙◌}
 use Rattle.std.specs.FinMap.{FinMap, from_entries, get}
 use Rattle.route_choice.specs.Results.{result_in}

@@ -1,4 +1,4 @@
--- The keys, sorted, each once.
+-- The keys, sorted, without duplicates.
 use Rattle.std.proofs.Common.{Ordering, subst}
 use Rattle.std.specs.List.Sorted.{IsSorted}
 use Rattle.route_choice.proofs.KeyLaws.{key_order}

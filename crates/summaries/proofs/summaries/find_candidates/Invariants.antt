@@ -1,4 +1,4 @@
--- So many destinations have their candidates.
+-- This many destinations have their candidates.
 use Rattle.std.proofs.Common.{◌≡◌, take}
 use Rattle.summaries.specs.Candidates.{AreCandidates, dests_in}
 use Rattle.summaries.proofs.summaries.find_candidates.Given as goal

@@ -1,4 +1,4 @@
--- The prefix is that of an active range where one that is still to come has a network.
+-- The prefix belongs to an active range where one that is still to come has a network.
 use Rattle.active_ranges.proofs.Activity.{AreLeft}
 use Rattle.active_ranges.proofs.active.ActiveRanges.contains.Given as goal
 

@@ -1,4 +1,4 @@
--- The cost that is put is that of the entry.
+-- The cost that is put belongs to the entry.
 use Rattle.std.proofs.Common.{◌≡◌, ℕ, Option, Some, sym, subst}
 use Rattle.std.specs.Prelude.{◌↔◌, option_copied}
 use Rattle.std.specs.FinMap.{get}

@@ -1,4 +1,4 @@
--- Ranges of the routes are those of the definitions.
+-- Ranges of the routes are as defined.
 use Rattle.std.proofs.lemmas.Result.{on_ok_weaker}
 use Rattle.active_ranges.proofs.Right.{ranges_right}
 use Rattle.active_ranges.proofs.active.ActiveRanges.reconfigure.Goals as goal

@@ -1,4 +1,4 @@
--- The networks of the members stand in the place of what the range had.
+-- The networks of the members are in place of what the range had.
 use Rattle.std.proofs.Common.{refl, subst}
 use Rattle.active_ranges.specs.Active.{ActiveValue}
 use Rattle.active_ranges.specs.Following.{AreTakenIn}

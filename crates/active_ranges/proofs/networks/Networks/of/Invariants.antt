@@ -1,4 +1,4 @@
--- So many came.
+-- This many came.
 use Rattle.std.proofs.Common.{ℕ, map, take}
 use Rattle.active_ranges.specs.Grouped.{AreMadeOf}
 use Rattle.active_ranges.specs.declared.member.RangeMember.{RangeMember}

@@ -1,4 +1,4 @@
--- Routes of the inputs are those of the definitions.
+-- Routes of the inputs are as defined.
 use Rattle.std.proofs.lemmas.Result.{on_ok_weaker}
 use Rattle.external.proofs.Right.{external_right}
 use Rattle.external.proofs.external.External.update.Goals as goal

@@ -1,4 +1,4 @@
--- Routes of the inputs are those of the definitions.
+-- Routes of the inputs are as defined.
 use Rattle.std.proofs.lemmas.Result.{on_ok_weaker}
 use Rattle.inter.proofs.Right.{inter_right}
 use Rattle.inter.proofs.inter.Inter.update.Goals as goal

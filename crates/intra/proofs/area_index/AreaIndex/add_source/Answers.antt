@@ -38,7 +38,7 @@ returns-in_ok-insert-in-None-clause-come c =
     (ap sources_of (sources_at es p None c.in-None.ensures.value ∙ ap (λ (m : SourcesByPrefix). get m p) was))
     (sources_written es p gs c.from_buf-first.result updates ∙ (λ i. insert (was i) p (c.from_buf-first.ensures.items i)) ∙ ap (λ (v : Vertex). insert old p (record { vertex = v; metric = c.args.offer.metric } ∷ [])) c.copy.ensures)
 
--- where memory is refused, the list is as it was
+-- where memory is refused, the list is unchanged
 pub invariant_of-self : goal.invariant_of-self
 invariant_of-self c =
     let p = c.args.offer.prefix in

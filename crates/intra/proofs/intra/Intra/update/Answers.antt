@@ -1,4 +1,4 @@
--- Routes of the inputs are those of the definitions.
+-- Routes of the inputs are as defined.
 use Rattle.std.proofs.lemmas.Result.{on_ok_weaker}
 use Rattle.intra.proofs.Right.{intra_right}
 use Rattle.intra.proofs.intra.Intra.update.Goals as goal

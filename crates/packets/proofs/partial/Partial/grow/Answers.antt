@@ -16,7 +16,7 @@ returns-else-places-size-clause-grown c =
     ∙ ap (λ (b : List (Option ℕ)). record { key = v.key; has_end = v.has_end; bytes = b }) (none_grown c.args.size v.came.items v.bytes.items small enough)
     ∙ ap (λ (k : Kept). record k { bytes = grown c.args.size k.bytes }) c.self.view_is
 
--- the bytes behind the first resize
+-- the bytes after the first resize
 abbrev more : ℕ → List ℕ → List ℕ
 more size bytes = take size bytes ++ replicate (size - length bytes) 0
 

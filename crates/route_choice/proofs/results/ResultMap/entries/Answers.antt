@@ -1,4 +1,4 @@
--- The entries of the map, none of which stands twice.
+-- The entries of the map, none of which occurs twice.
 use Rattle.std.proofs.Common.{◌≢◌, List, subst, sym, ap, ◌∙◌}
 use Rattle.std.specs.Prelude.{◌↔◌, Contains, IsSome}
 use Rattle.std.specs.List.{AllPairs}

@@ -1,4 +1,4 @@
--- The keys of the entries are those that have a result, and none stands twice.
+-- The keys of the entries are those that have a result, and none occurs twice.
 use Rattle.std.proofs.Common.{◌≡◌, ◌≢◌, ◌∙◌, List, subst, sym}
 use Rattle.std.specs.Prelude.{◌↔◌, Contains, IsSome}
 use Rattle.std.specs.List.{AllPairs}

@@ -28,7 +28,7 @@ reach-requires c =
 pub push-requires : goal.push-requires
 push-requires c = unmoved c.args.after.graph.now c.args.after.came.now c.loop-vertex.invariant.sought c.in-Some.vertex c.in-Some.distance c.in-Some.ensures.first
 
--- what was added stands at the end
+-- what was added is at the end
 at_end : (c : goal.Else-prove) → c.push.new.self ≡ c.loop-vertex.moved ++ c.in-Some.vertex ∷ []
 at_end c = c.in_ok-push.ensures.pushed
 

@@ -44,7 +44,7 @@ returns-clause-planned c =
     all_planned v (dests_in c.args.self.candidates.now) v.areas c.args.lists.now c.loop-place.lists c.loop-place.plans.items c.loop-place.place
     past c.requires.long (c.loop-place.auto.lists ∙ c.requires.long) c.loop-place.invariant
 
--- where memory is refused, the list in its place is as it was
+-- where memory is refused, the list in its place is unchanged
 pub returns-in_err-plan-clause-same : goal.returns-in_err-plan-clause-same
 returns-in_err-plan-clause-same c =
     let now = c.loop-place.lists in

@@ -1,4 +1,4 @@
--- The place that is tried first is that of the destination.
+-- The place that is tried first belongs to the destination.
 use Rattle.std.proofs.Common.{◌≡◌, List, sym, ap, subst, ◌∙◌}
 use Rattle.std.specs.declared.cmp.Ordering.TheVariants.{Equal}
 use Rattle.ospf_types.specs.Keys.{dest_cmp}
