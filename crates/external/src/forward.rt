@@ -175,10 +175,7 @@ fn longest_match(inputs: &ExternalInputs<'_>, address: u32) -> Option<Prefix>
     ensures { IsMatchOf inputs.now address result }
 {
     for length in (0..33).rev() {
-        let network = match Prefix::new(address, length) {
-            Some(network) => network,
-            None => unreachable!(),
-        };
+        let network = Prefix::around(address, length);
         if is_match(inputs, network) {
             return Some(network);
         }

@@ -1,4 +1,5 @@
 ghost use Rattle.std.specs.Prelude.{◌≡◌, ◌≤◌, ◌↔◌, IsTrue, IsSome, IfSome};
+ghost use Rattle.ospf_types.specs.Address.{network_around};
 ghost use Rattle.ospf_types.specs.Masks.{masked};
 ghost use Rattle.ospf_types.specs.Network.{network_cmp, network_word};
 ghost use Rattle.ospf_types.specs.Lsa.{network_of};
@@ -42,10 +43,18 @@ impl Prefix {
         if length > 32 {
             return None;
         }
-        Some(Prefix {
+        Some(Prefix::around(address, length))
+    }
+
+    /// Returns the network of the given length that contains the address (in host order).
+    pub fn around(address: u32, length: u8) -> Prefix
+        requires { length ≤ 32 }
+        ensures { result ≡ network_around address length }
+    {
+        Prefix {
             address: first_bits(address, length),
             length,
-        })
+        }
     }
 
     /// Returns the prefix given by an address and a mask, both in host order.
@@ -54,10 +63,7 @@ impl Prefix {
     pub fn from_mask(address: u32, mask: u32) -> Prefix
         ensures { result ≡ network_of address mask }
     {
-        match Prefix::new(address, mask.count_ones() as u8) {
-            Some(prefix) => prefix,
-            None => unreachable!(),
-        }
+        Prefix::around(address, mask.count_ones() as u8)
     }
 
     /// Returns the network number, in host order.
