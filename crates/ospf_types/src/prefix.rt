@@ -1,8 +1,9 @@
-ghost use Rattle.std.specs.Prelude.{◌≡◌, ◌≤◌, ◌↔◌, IsTrue, IsSome, IfSome};
+ghost use Rattle.std.specs.Prelude.{◌≡◌, ◌==◌, ◌≤◌, ◌↔◌, IsTrue, IsSome, IfSome};
 ghost use Rattle.ospf_types.specs.Address.{network_around};
 ghost use Rattle.ospf_types.specs.Masks.{masked};
 ghost use Rattle.ospf_types.specs.Network.{network_cmp, network_word};
 ghost use Rattle.ospf_types.specs.Lsa.{network_of};
+ghost use Rattle.ospf_types.specs.Summaries.{default_route};
 
 use std::cmp::Ordering;
 use std::hash::{Hash, Hasher};
@@ -80,6 +81,14 @@ impl Prefix {
         ensures bound { result ≤ 32 }
     {
         self.length
+    }
+
+    /// Returns true if it is the destination of the default route, 0.0.0.0/0.
+    pub fn is_default(self) -> bool
+        ensures value { IsTrue result ↔ (self ≡ default_route) }
+        ensures length { result ≡ (self.length == 0) }
+    {
+        self.length == 0
     }
 
     /// Compares two prefixes by network number and then by length.
