@@ -5,12 +5,13 @@ use Rattle.std.specs.declared.hash.RandomState.{RandomState}
 use Rattle.core.specs.Hash.DefaultHasher.{finish, with_keys}
 use Rattle.byteorder.specs.Endian.{little_number}
 use Rattle.event_state.specs.declared.base.Base.{Base}
+use Rattle.event_state.specs.Bases.{HasConfigOnly}
 use Rattle.event_state.specs.Steps.{standard_limits}
 use Rattle.event_core.specs.Cores.{CoreValue, IsCore, IsOpening}
 use Rattle.recording.specs.declared.fault.LineFault.{LineFault}
 use Rattle.recording.specs.declared.version.Version.{Version}
 use Rattle.recording.specs.Faults.{IsFaultOf}
-use Rattle.recording.specs.Recordings.{RecordingValue, IsText, HasConfigOnly, recording_of}
+use Rattle.recording.specs.Recordings.{RecordingValue, IsText, recording_of}
 use Rattle.abr_c.specs.Numbers.{fault_number, misplaced_line, out_of_memory, short_seed}
 
 -- the text is that of a recording of this base in which nothing happens

@@ -2,11 +2,10 @@
 //!
 //! A call that opens returns 0 or the number of a fault. The core that was open before is closed in
 //! either case.
-ghost use Rattle.std.specs.Prelude.{◌≡◌, ◌≤◌, ◌↔◌, None, IfOk, IfErr, IsTrue, OnOk, length};
+ghost use Rattle.std.specs.Prelude.{◌≡◌, ◌≤◌, None, IfOk, IfErr, OnOk, length};
 ghost use Rattle.event_state.specs.BaseFaults.{base_fault_of};
 ghost use Rattle.event_state.specs.Steps.{standard_limits};
 ghost use Rattle.event_core.specs.Cores.{IsCore, IsOpening};
-ghost use Rattle.recording.specs.Recordings.{HasConfigOnly};
 ghost use Rattle.abr_c.specs.Opening.{Opens, OpensBase, SaysBase, SaysConfig, IsBaseRefusal};
 ghost use Rattle.abr_c.specs.Opening.{IsConfigRefusal, IsSeedRefusal};
 ghost use Rattle.abr_c.specs.Slots.{core_in};
@@ -84,17 +83,11 @@ fn config_in(alloc: Global, text: &[u8]) -> Result<Base, u32>
     ensures refused { IfErr result (IsConfigRefusal text.now) }
 {
     let base = base_in(alloc, text)?;
-    if has_config_only(&base) {
+    if base.has_config_only() {
         Ok(base)
     } else {
         Err(ORDER)
     }
-}
-
-fn has_config_only(base: &Base) -> bool
-    ensures { IsTrue result ↔ HasConfigOnly base.now }
-{
-    base.serial == 0 && base.interfaces.is_empty() && base.lsas.is_empty()
 }
 
 // Parses the text as a base. Returns the number of its fault.

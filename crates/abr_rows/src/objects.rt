@@ -4,6 +4,7 @@ mod samples;
 use anyhow::Result;
 use event_state::Refusal;
 use lsa_codec::WireFault;
+use ospf_types::address::BACKBONE;
 use ospf_types::entry::PathType;
 use ospf_types::key::{Dest, Scope};
 use recording::{Fault, LineFault};
@@ -12,7 +13,7 @@ use replay::json_lines::{
     put_refused, put_serial, put_set, put_shown_due, put_undue,
 };
 use route_table::{Item, Match};
-use samples::{BACKBONE, HEADER, ROUTER, everything, route, wide};
+use samples::{HEADER, ROUTER, everything, route, wide};
 use std::alloc::Global;
 use summary_lists::DueSummary;
 

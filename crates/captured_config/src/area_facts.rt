@@ -8,9 +8,8 @@ ghost use Rattle.captured_config.specs.Finding.{tells_no_externals as tells_no_e
 ghost use Rattle.captured_config.specs.Finding.{tells_other, tells_own};
 
 use crate::fact::Told;
+use ospf_types::address::BACKBONE;
 use ospf_types::config::Stub;
-
-const BACKBONE: u32 = 0;
 
 /// The default cost of a stub area if the capture has none.
 const ASSUMED_COST: u32 = 1;

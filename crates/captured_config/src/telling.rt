@@ -180,7 +180,7 @@ fn is_default(network: Option<Prefix>) -> bool
     ensures { result ≡ is_default_test network }
 {
     match network {
-        Some(network) => network.length() == 0,
+        Some(network) => network.is_default(),
         None => false,
     }
 }

@@ -1,7 +1,6 @@
 //! The reason why a summary is due in an area, or is not due there (RFC 2328, 12.4.3).
-ghost use Rattle.std.specs.Prelude.{◌≡◌, ◌↔◌, Some, IfNone, IfOk, IfSome, IsTrue};
+ghost use Rattle.std.specs.Prelude.{Some, IfNone, IfOk, IfSome};
 ghost use Rattle.ospf_types.specs.declared.key.Dest.TheVariants as dest_value;
-ghost use Rattle.ospf_types.specs.Summaries.{default_route};
 ghost use Rattle.summaries.specs.Giving.{IsServed};
 ghost use Rattle.due_explanation.specs.Reasons.{IsExplained, IsExplainedIn, IsStubReason, MaySend};
 
@@ -98,7 +97,7 @@ fn stub_network_reason(stub: Stub, network: Prefix) -> Option<DueExplained>
         x.metric x.reason) }
     ensures none { IfNone result (MaySend (Some stub) (dest_value.Net network)) }
 {
-    if is_default(network) {
+    if network.is_default() {
         return Some(DueExplained {
             metric: Some(stub.cost),
             reason: DueReason::StubDefault,
@@ -108,11 +107,4 @@ fn stub_network_reason(stub: Stub, network: Prefix) -> Option<DueExplained>
         return Some(DueExplained::undue(DueReason::StubHides));
     }
     None
-}
-
-// Returns true if the network is the destination of the default route.
-fn is_default(network: Prefix) -> bool
-    ensures { IsTrue result ↔ (network ≡ default_route) }
-{
-    network == Prefix::from_mask(0, 0)
 }

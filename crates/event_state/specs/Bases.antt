@@ -1,5 +1,5 @@
 -- What a run of events begins with, and the databases and interfaces that it makes.
-use Rattle.std.specs.Prelude.{ℕ, ◌==◌, ◌++◌, Bool, true, false, List, [], ◌∷◌, map, filter}
+use Rattle.std.specs.Prelude.{ℕ, ◌≡◌, ◌==◌, ◌++◌, Bool, true, false, List, [], ◌∷◌, map, filter}
 use Rattle.std.specs.Ordering.{nat_cmp}
 use Rattle.std.specs.FinMap.{FinMap, from_entries}
 use Rattle.ospf_types.specs.declared.config.AreaConfig.{AreaConfig}
@@ -19,6 +19,10 @@ most_serial = 18446744073709551615
 -- a configuration only: serial 0, no interfaces and no LSAs
 abbrev pub bare : Config → Base
 bare config = record { config = config; serial = 0; interfaces = []; lsas = [] }
+
+-- the base is a configuration only: its serial is 0, and it has no interfaces and no LSAs
+abbrev pub HasConfigOnly : Base → Type 0
+HasConfigOnly b = (b.serial ≡ 0) × (b.interfaces ≡ []) × (b.lsas ≡ [])
 
 -- both are one scope
 abbrev pub is_scope : Scope → Scope → Bool

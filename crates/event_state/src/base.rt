@@ -1,6 +1,6 @@
 //! The base: the state before the first event of a journal.
-ghost use Rattle.std.specs.Prelude.{◌≡◌, IfOk};
-ghost use Rattle.event_state.specs.Bases.{bare};
+ghost use Rattle.std.specs.Prelude.{◌≡◌, ◌↔◌, IsTrue, IfOk};
+ghost use Rattle.event_state.specs.Bases.{bare, HasConfigOnly};
 
 use lsa_codec::Checked;
 use ospf_types::config::{Config, Interface};
@@ -45,6 +45,13 @@ impl Base {
             interfaces: Listed::new(alloc),
             lsas: Listed::new(alloc),
         }
+    }
+
+    /// Returns true if the base is a configuration only: serial 0, no interfaces and no LSAs.
+    pub fn has_config_only(&self) -> bool
+        ensures { IsTrue result ↔ HasConfigOnly self.now }
+    {
+        self.serial == 0 && self.interfaces.is_empty() && self.lsas.is_empty()
     }
 
     /// Returns a copy of the base.

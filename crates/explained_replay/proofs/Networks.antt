@@ -1,8 +1,9 @@
 -- The networks that contain an address, the longest first.
 use Rattle.std.proofs.Common.{◌≡◌, ℕ, zero, suc, ◌<◌, ◌≤◌, ◌-◌, List, [], ◌++◌, append_assoc, append-nil, ap, sym, ◌∙◌, arith, refl, sub-one}
 use Rattle.std.specs.List.{flat_map}
+use Rattle.ospf_types.specs.Address.{network_around}
 use Rattle.ospf_types.specs.Network.{Network}
-use Rattle.explained_replay.specs.Explanations.{network_around, networks_below}
+use Rattle.explained_replay.specs.Explanations.{networks_below}
 
 -- the longest, and the others
 pub longest_first : (text : Network → List ℕ) (address bits : ℕ) → 0 < bits

@@ -3,7 +3,7 @@ use Rattle.std.specs.Prelude.{ℕ, ◌≡◌, ◌++◌, ◌||◌, zero, suc, Boo
 use Rattle.std.specs.List.{flat_map, list_any}
 use Rattle.std.specs.FinMap as map
 use Rattle.output_lines.specs.declared.format.Format.{Format}
-use Rattle.ospf_types.specs.Masks.{masked}
+use Rattle.ospf_types.specs.Address.{network_around}
 use Rattle.ospf_types.specs.Network.{Network, network_cmp}
 use Rattle.ospf_types.specs.RangeChanges.{is_same_prefix}
 use Rattle.route_table.specs.declared.table.Item.{Item}
@@ -13,10 +13,6 @@ use Rattle.explanation.specs.declared.explained.Candidate.{Candidate}
 use Rattle.explanation.specs.declared.trace.Trace.{Trace}
 use Rattle.explained_replay.specs.Lines.{lookup_line, network_line, candidate_line, path_line, link_line}
 use Rattle.explained_replay.specs.Reasons.{is_taken}
-
--- the network of so many bits that contains the address
-abbrev pub network_around : (address bits : ℕ) → Network
-network_around address bits = record { address = masked address bits; length = bits }
 
 -- the networks of fewer bits than this that contain the address, the longest first
 unfoldable pub networks_below : (address bits : ℕ) → List Network

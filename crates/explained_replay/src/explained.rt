@@ -1,12 +1,12 @@
 //! The explanation of the table's items for an address, line by line.
-ghost use Rattle.std.specs.Prelude.{List, ℕ, ◌≡◌, ◌≤◌, ◌++◌, OnOk, string_bytes};
+ghost use Rattle.std.specs.Prelude.{List, ℕ, ◌≡◌, ◌++◌, OnOk, string_bytes};
 ghost use Rattle.std.specs.List.{flat_map, list_any};
 ghost use Rattle.route_table.specs.declared.table.Match.{Match};
 ghost use Rattle.route_table.specs.Tables.{IsMatch};
 ghost use Rattle.explained_replay.specs.Lines.{link_line, lookup_line};
 ghost use Rattle.explained_replay.specs.Explanations.{IsExplanation, candidate_text};
 ghost use Rattle.explained_replay.specs.Explanations.{is_of as is_offer_of};
-ghost use Rattle.explained_replay.specs.Explanations.{network_around as around, network_text};
+ghost use Rattle.explained_replay.specs.Explanations.{network_text};
 ghost use Rattle.explained_replay.specs.Explanations.{networks_below, offers_text, text_if_of};
 ghost use Rattle.explained_replay.specs.Explanations.{trace_text};
 
@@ -85,7 +85,7 @@ impl Explained<'_> {
             (networks_below self.entry.address 33)) }
     {
         for bits in (0..LENGTHS).rev() {
-            let network = network_around(self.address, bits);
+            let network = Prefix::around(self.address, bits);
             self.put_network(format, network, text)?;
         }
         Ok(())
@@ -103,17 +103,6 @@ impl Explained<'_> {
         }
         put_network(format, network, item, text)?;
         put_offers(format, network, self.candidates, text)
-    }
-}
-
-// Returns the network of this prefix length that contains the address.
-fn network_around(address: u32, bits: u8) -> Prefix
-    requires { bits ≤ 32 }
-    ensures { result ≡ around address bits }
-{
-    match Prefix::new(address, bits) {
-        Some(network) => network,
-        None => unreachable!(),
     }
 }
 

@@ -1,7 +1,6 @@
 //! The traces of the paths that an AS-external-LSA gives through its forwarding address (RFC 2328,
 //! 16.4 (3)).
 ghost use Rattle.std.specs.Prelude.{◌≡◌, ◌↔◌, Contains, IfOk, IsTrue, OnOk};
-ghost use Rattle.ospf_types.specs.External.{toward};
 ghost use Rattle.explanation.specs.Giving.{Adds};
 ghost use Rattle.explanation.specs.Groups.{AreGroups, offers_for};
 ghost use Rattle.explanation.specs.Layers.{AreAreas};
@@ -20,7 +19,7 @@ use crate::offers::Wanted;
 use crate::outside::has_path;
 use crate::trace::{Trace, TraceNode};
 use crate::verdict::Verdict;
-use ospf_types::hop::{NextHop, Path};
+use ospf_types::hop::Path;
 use ospf_types::key::Scope;
 use ospf_types::memory::Memory;
 use ospf_types::prefix::Prefix;
@@ -236,7 +235,7 @@ fn push_onward(
 {
     let alloc = *traces.allocator();
     let path = Path {
-        hop: toward(forwarded.address, inner.path.hop),
+        hop: inner.path.hop.toward(forwarded.address),
         advertiser: Some(forwarded.offer.source.key.router),
     };
     if !has_path(forwarded.paths, path) {
@@ -253,14 +252,4 @@ pub(crate) fn is_taken(verdict: Verdict) -> bool
     ensures { IsTrue result ↔ (verdict ≡ Verdict.Taken) }
 {
     matches!(verdict, Verdict::Taken)
-}
-
-// Returns the next hop toward the address: on a network of the root, it is the address itself.
-fn toward(address: u32, hop: NextHop) -> NextHop
-    ensures { result ≡ toward address hop }
-{
-    match hop {
-        NextHop::Direct(id) => NextHop::Router(id, address),
-        _ => hop,
-    }
 }

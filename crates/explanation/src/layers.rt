@@ -9,13 +9,11 @@ ghost use Rattle.explanation.specs.Layers.{LacksArea, internal_at, is_examined};
 use calculation::Calculation;
 use event_state::State;
 use intra::AreaInputs;
+use ospf_types::address::BACKBONE;
 use ospf_types::entry::{Entry, Vertex};
 use ospf_types::key::{Dest, Key};
 use ospf_types::prefix::Prefix;
 use route_choice::ReachedRouter;
-
-// The Area ID of the backbone (RFC 2328, 3.1).
-const BACKBONE: u32 = 0;
 
 /// The inputs of explanations.
 #[derive(Clone, Copy)]

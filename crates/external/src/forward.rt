@@ -1,7 +1,6 @@
 //! The longest match of a forwarding address, and the path there (RFC 2328, 16.4).
 ghost use Rattle.std.specs.Prelude.{◌≡◌, ◌↔◌, ◌<◌, Some, IfOk, IfSome, IsSome, IsTrue};
 ghost use Rattle.std.specs.Prelude.{option_copied};
-ghost use Rattle.ospf_types.specs.External.{toward};
 ghost use Rattle.inter.specs.Inters.{most_cost};
 ghost use Rattle.external.specs.Forwards.{HaveOneCost, IsForwardOf, IsMatchOf, IsWayBy, Matches};
 ghost use Rattle.external.specs.Forwards.{class_at, hops_toward, internal_entry};
@@ -176,10 +175,7 @@ fn longest_match(inputs: &ExternalInputs<'_>, address: u32) -> Option<Prefix>
     ensures { IsMatchOf inputs.now address result }
 {
     for length in (0..33).rev() {
-        let network = match Prefix::new(address, length) {
-            Some(network) => network,
-            None => unreachable!(),
-        };
+        let network = Prefix::around(address, length);
         if is_match(inputs, network) {
             return Some(network);
         }
@@ -229,17 +225,7 @@ fn hops_toward(alloc: Global, address: u32, paths: &[Path]) -> Result<Vec<NextHo
 {
     let mut hops = Vec::with_capacity(alloc, paths.len())?;
     for path in paths {
-        hops.push(toward(address, path.hop))?;
+        hops.push(path.hop.toward(address))?;
     }
     Ok(hops)
-}
-
-// Returns the next hop toward the address: on a network attached to the root, the address itself.
-fn toward(address: u32, hop: NextHop) -> NextHop
-    ensures { result ≡ toward address hop }
-{
-    match hop {
-        NextHop::Direct(id) => NextHop::Router(id, address),
-        _ => hop,
-    }
 }

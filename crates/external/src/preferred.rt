@@ -8,6 +8,7 @@ ghost use Rattle.external.specs.AsbrRoute.{RouterOffers, ReachedOffers, EntryOff
 ghost use Rattle.external.specs.AsbrRoute.{InterEntryOffers, IsPreferredFor};
 
 use crate::inputs::ExternalInputs;
+use ospf_types::address::BACKBONE;
 use ospf_types::entry::Entry;
 use ospf_types::hop::{NextHop, Path};
 use ospf_types::key::Dest;
@@ -176,7 +177,7 @@ pub(crate) fn class_of(compat: bool, within: Option<u32>) -> u8
         return 0;
     }
     match within {
-        Some(area) => if area == 0 { 1 } else { 0 },
+        Some(area) => if area == BACKBONE { 1 } else { 0 },
         None => 1,
     }
 }

@@ -2,7 +2,6 @@
 //! networks of ever shorter length.
 ghost use Rattle.std.specs.Prelude.{◌<◌, ◌≤◌};
 
-use crate::sets::network_around;
 use crate::table::{Table, Value};
 use ospf_types::memory::Memory;
 use ospf_types::prefix::Prefix;
@@ -32,7 +31,7 @@ impl Table for OrderedMap {
     fn longest(&self, address: u32) -> Option<(Prefix, &Value)> {
         // No network of the map that contains the address is longer than `length`.
         let mut length = 32;
-        while let Some((network, value)) = self.last_up_to(network_around(address, length)) {
+        while let Some((network, value)) = self.last_up_to(Prefix::around(address, length)) {
             if network.contains(address) {
                 return Some((*network, value));
             }

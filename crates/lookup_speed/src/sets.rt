@@ -1,5 +1,4 @@
 //! Sets of networks, and addresses in them.
-ghost use Rattle.std.specs.Prelude.{◌≤◌};
 
 use crate::random::Random;
 use ospf_types::prefix::Prefix;
@@ -88,22 +87,22 @@ fn push_anywhere(
 ) -> Result<(), AllocError> {
     for _ in 0..count {
         let length = 16 + random.below(9) as u8;
-        networks.push(network_around(random.address(), length))?;
+        networks.push(Prefix::around(random.address(), length))?;
     }
     Ok(())
 }
 
 fn push_ospf(networks: &mut Vec<Prefix>, random: &mut Random) -> Result<(), AllocError> {
-    networks.push(network_around(0, 0))?;
+    networks.push(Prefix::around(0, 0))?;
     for link in 0..12_000 {
         // The links of an area are in 10.AREA.0.0/16.
         let address = 0x0a00_0000 + (link % 100 << 16) + random.below(65536);
         let length = [24, 25, 26, 27, 28, 29, 30, 32][random.below(8) as usize];
-        networks.push(network_around(address, length))?;
+        networks.push(Prefix::around(address, length))?;
     }
     for _ in 0..95_000 {
         let address = (random.below(20_000) * 3 << 16) + random.below(65536);
-        networks.push(network_around(address, 16 + random.below(9) as u8))?;
+        networks.push(Prefix::around(address, 16 + random.below(9) as u8))?;
     }
     Ok(())
 }
@@ -111,7 +110,7 @@ fn push_ospf(networks: &mut Vec<Prefix>, random: &mut Random) -> Result<(), Allo
 fn push_hosts(networks: &mut Vec<Prefix>, random: &mut Random) -> Result<(), AllocError> {
     for place in 0..100_000 {
         let address = (place * 167 << 8) + random.below(256);
-        networks.push(network_around(address, 32))?;
+        networks.push(Prefix::around(address, 32))?;
     }
     Ok(())
 }
@@ -119,7 +118,7 @@ fn push_hosts(networks: &mut Vec<Prefix>, random: &mut Random) -> Result<(), All
 fn push_dense(networks: &mut Vec<Prefix>) -> Result<(), AllocError> {
     for place in 0..100_000 {
         let address = 0x0a00_0000 + place * 21_845 % 0x2_0000;
-        networks.push(network_around(address, 32))?;
+        networks.push(Prefix::around(address, 32))?;
     }
     Ok(())
 }
@@ -128,7 +127,7 @@ fn push_nested(networks: &mut Vec<Prefix>, random: &mut Random) -> Result<(), Al
     for _ in 0..3_125 {
         let address = random.address();
         for length in 1..33 {
-            networks.push(network_around(address, length))?;
+            networks.push(Prefix::around(address, length))?;
         }
     }
     Ok(())
@@ -139,7 +138,7 @@ fn push_one_place(networks: &mut Vec<Prefix>, count: u32, groups: u32) -> Result
         if networks.len() >= count as usize {
             break;
         }
-        let network = network_around(address, 32);
+        let network = Prefix::around(address, 32);
         if hash_without_keys(network).checked_rem(groups) == Some(0) {
             networks.push(network)?;
         }
@@ -160,19 +159,9 @@ fn fold_product(a: u64, b: u64) -> u64 {
 
 fn push_equal_bits(networks: &mut Vec<Prefix>, count: u32) -> Result<(), AllocError> {
     for place in 0..count {
-        networks.push(network_around(place.wrapping_mul(4096), 32))?;
+        networks.push(Prefix::around(place.wrapping_mul(4096), 32))?;
     }
     Ok(())
-}
-
-/// Returns the network of this length that contains the address (in host order).
-pub fn network_around(address: u32, length: u8) -> Prefix
-    requires { length ≤ 32 }
-{
-    match Prefix::new(address, length) {
-        Some(network) => network,
-        None => unreachable!(),
-    }
 }
 
 /// Returns a number that only this network has, and by which it is hashed.

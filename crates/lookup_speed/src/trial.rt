@@ -2,7 +2,7 @@
 //! up networks whose hashes collide.
 
 use crate::random::Random;
-use crate::sets::{network_around, network_word};
+use crate::sets::network_word;
 use ospf_types::memory::Memory;
 use ospf_types::prefix::Prefix;
 use prefix_index::PrefixIndex;
@@ -188,7 +188,7 @@ impl Trial {
 
     fn network(&mut self) -> Prefix {
         let address = self.address();
-        network_around(address, self.random.below(33) as u8)
+        Prefix::around(address, self.random.below(33) as u8)
     }
 
     // Returns one of the `CENTRES`, or an address that differs from it in one bit.

@@ -7,6 +7,10 @@ use Rattle.ospf_types.specs.Masks.{masked}
 abbrev pub HasAddress : Prefix → ℕ → Type 0
 HasAddress p address = masked address p.length ≡ p.address
 
+-- the network of that length that contains the address
+abbrev pub network_around : (address length : ℕ) → Prefix
+network_around address length = record { address = masked address length; length = length }
+
 -- the outer network contains the inner one, which is as long or longer
 pub record Covers (outer inner : Prefix) : Type 0 where
   pub longer : outer.length ≤ inner.length

@@ -6,6 +6,9 @@ use crate::dotted::{MOST, write_dotted};
 use std::net::Ipv4Addr;
 use std::{fmt, str};
 
+/// The Area ID of the backbone (RFC 2328, 3.1).
+pub const BACKBONE: u32 = 0;
+
 /// An address, Router ID or Area ID, in host order. It prints in dotted form.
 #[derive(Clone, Copy, Debug, PartialEq, Eq, Hash, PartialOrd, Ord)]
 pub struct Address(pub u32);

@@ -7,6 +7,7 @@ ghost use Rattle.ospf_types.specs.Configs.{is_costly};
 ghost use Rattle.ospf_types.specs.Neighbours.{IsMasked, is_ascending, is_before_first};
 ghost use Rattle.ospf_types.specs.Neighbours.{has_next_overlap, overlaps_first};
 
+use crate::address::BACKBONE;
 use crate::config::{AreaConfig, Config, Range, Stub};
 use crate::fault::ConfigFault;
 use crate::lsa::LS_INFINITY;
@@ -17,8 +18,6 @@ pub const MAX_AREAS: usize = 16;
 
 // The most ranges that an area may have.
 const MOST_RANGES: usize = 32;
-
-const BACKBONE: u32 = 0;
 
 /// Returns the first fault of the configuration, in the order of `ConfigFault`, or `None` if it has
 /// no fault. The fault is never `Memory`.

@@ -1,8 +1,10 @@
 //! Networks: a network number and a prefix length.
-ghost use Rattle.std.specs.Prelude.{◌≡◌, ◌≤◌, ◌↔◌, IsTrue, IsSome, IfSome};
+ghost use Rattle.std.specs.Prelude.{◌≡◌, ◌==◌, ◌≤◌, ◌↔◌, IsTrue, IsSome, IfSome};
+ghost use Rattle.ospf_types.specs.Address.{network_around};
 ghost use Rattle.ospf_types.specs.Masks.{masked};
 ghost use Rattle.ospf_types.specs.Network.{network_cmp, network_word};
 ghost use Rattle.ospf_types.specs.Lsa.{network_of};
+ghost use Rattle.ospf_types.specs.Summaries.{default_route};
 
 use std::cmp::Ordering;
 use std::hash::{Hash, Hasher};
@@ -43,10 +45,18 @@ impl Prefix {
         if length > 32 {
             return None;
         }
-        Some(Prefix {
+        Some(Prefix::around(address, length))
+    }
+
+    /// Returns the network of the given length that contains the address (in host order).
+    pub fn around(address: u32, length: u8) -> Prefix
+        requires { length ≤ 32 }
+        ensures { result ≡ network_around address length }
+    {
+        Prefix {
             address: first_bits(address, length),
             length,
-        })
+        }
     }
 
     /// Returns the prefix given by an address and a mask, both in host order.
@@ -55,10 +65,7 @@ impl Prefix {
     pub fn from_mask(address: u32, mask: u32) -> Prefix
         ensures { result ≡ network_of address mask }
     {
-        match Prefix::new(address, mask.count_ones() as u8) {
-            Some(prefix) => prefix,
-            None => unreachable!(),
-        }
+        Prefix::around(address, mask.count_ones() as u8)
     }
 
     /// Returns the network number, in host order.
@@ -75,6 +82,14 @@ impl Prefix {
         ensures bound { result ≤ 32 }
     {
         self.length
+    }
+
+    /// Returns true if it is the destination of the default route, 0.0.0.0/0.
+    pub fn is_default(self) -> bool
+        ensures value { IsTrue result ↔ (self ≡ default_route) }
+        ensures length { result ≡ (self.length == 0) }
+    {
+        self.length == 0
     }
 
     /// Compares two prefixes by network number and then by length.

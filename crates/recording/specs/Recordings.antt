@@ -16,6 +16,7 @@ use Rattle.event_state.specs.declared.event.Event.{Event}
 use Rattle.event_state.specs.declared.event.Event.TheVariants as event
 use Rattle.event_state.specs.declared.base.Base.{Base}
 use Rattle.event_state.specs.BaseFaults.{base_fault_of}
+use Rattle.event_state.specs.Bases.{HasConfigOnly}
 use Rattle.event_state.specs.Steps.{standard_limits}
 use Rattle.recording.specs.declared.fault.Fault.TheVariants as fault
 use Rattle.recording.specs.declared.fault.LineFault.{LineFault}
@@ -169,10 +170,6 @@ pub record IsBaseOrdered (b : Base) : Type 0 where
   pub areas : IsOrdered b.config.areas
   pub interfaces : AreByIds b.interfaces
   pub lsas : AreByPlaces b.lsas
-
--- the base is a configuration only: its serial is 0, and it has no interfaces and no LSAs
-abbrev pub HasConfigOnly : Base → Type 0
-HasConfigOnly b = (b.serial ≡ 0) × (b.interfaces ≡ []) × (b.lsas ≡ [])
 
 -- The version has lines for all of the base. In version 1 RFC1583Compatibility is disabled, and only version 3 says a
 -- serial, interfaces and LSAs.

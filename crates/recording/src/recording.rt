@@ -6,7 +6,7 @@ ghost use Rattle.event_state.specs.BaseFaults.{base_fault_of, unfit_of};
 ghost use Rattle.event_state.specs.Steps.{standard_limits};
 ghost use Rattle.recording.specs.Forms.{IsKind};
 ghost use Rattle.recording.specs.Recordings.{IsRecording, IsBaseOrdered, IsOrdered, AreByIds};
-ghost use Rattle.recording.specs.Recordings.{AreByNetworks, AreByPlaces, CanSpell, HasConfigOnly};
+ghost use Rattle.recording.specs.Recordings.{AreByNetworks, AreByPlaces, CanSpell};
 ghost use Rattle.recording.specs.Recordings.{HasKind, IsEventIn, IsLineIn, recording_of};
 
 use crate::base_lines::compare_places;
@@ -149,17 +149,10 @@ fn can_spell(version: Version, base: &Base) -> bool
     ensures { IsTrue result ↔ CanSpell version base.now }
 {
     match version {
-        Version::One => !base.config.compat && has_config_only(base),
-        Version::Two => has_config_only(base),
+        Version::One => !base.config.compat && base.has_config_only(),
+        Version::Two => base.has_config_only(),
         Version::Three => true,
     }
-}
-
-// Returns true if the base is a configuration only.
-fn has_config_only(base: &Base) -> bool
-    ensures { IsTrue result ↔ HasConfigOnly base.now }
-{
-    base.serial == 0 && base.interfaces.is_empty() && base.lsas.is_empty()
 }
 
 // Returns true if the base is in order: areas by Area ID, the ranges of each area by address and

@@ -36,6 +36,7 @@ use external::{External, ExternalInputs};
 use inter::{ExaminedArea, Inter, InterInputs};
 use intra::{Dirty, Intra};
 use lsdb::Database;
+use ospf_types::address::BACKBONE;
 use ospf_types::config::Interface;
 use ospf_types::key::{Dest, Scope};
 use ospf_types::memory::Memory;
@@ -43,9 +44,6 @@ use smallvec::SmallVec;
 use std::alloc::Global;
 use std::collections::btree_map::Iter;
 use std::hash::RandomState;
-
-// The Area ID of the backbone (RFC 2328, 3.1).
-const BACKBONE: u32 = 0;
 
 /// A state, its intra-area routes and its active ranges, from which the other routes are
 /// calculated.

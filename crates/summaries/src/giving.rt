@@ -171,7 +171,7 @@ fn network_metric(area: &AreaConfig, given: Given, network: Prefix) -> Option<u3
 {
     // 12.4.3: a stub area gets a default route at its StubDefaultCost (C.2).
     if let Some(stub) = area.stub {
-        if is_default(network) {
+        if network.is_default() {
             return Some(stub.cost);
         }
         if !stub.summaries {
@@ -179,13 +179,6 @@ fn network_metric(area: &AreaConfig, given: Given, network: Prefix) -> Option<u3
         }
     }
     given.metric_into(area.id)
-}
-
-// Returns true if the network is the destination of the default route.
-fn is_default(network: Prefix) -> bool
-    ensures { IsTrue result ↔ (network ≡ default_route) }
-{
-    network == default_network()
 }
 
 /// Returns the destination of the default route, 0.0.0.0/0.

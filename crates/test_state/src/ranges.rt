@@ -11,10 +11,7 @@ use std::test::*;
 fn network(n: u8, length: u8) -> Prefix
     requires { length ≤ 32 }
 {
-    match Prefix::new(u32::from_be_bytes([10, n, 0, 0]), length) {
-        Some(prefix) => prefix,
-        None => unreachable!(),
-    }
+    Prefix::around(u32::from_be_bytes([10, n, 0, 0]), length)
 }
 
 fn set_in(area: u32, prefix: Prefix, advertise: bool) -> Event {

@@ -111,10 +111,7 @@ impl Graph {
         ensures each_once { AllPairs (λ k l. k ≢ l) result.now }
         ensures cheap { AreCheap result.now }
     {
-        match self.rows.get(&vertex) {
-            Some(row) => &row.out,
-            None => &[],
-        }
+        self.links_from_at(&HintedVertex::without_hint(vertex))
     }
 
     /// Returns the links to the vertex, without duplicates. The slice is empty if the graph does
@@ -124,10 +121,7 @@ impl Graph {
         ensures each_once { AllPairs (λ k l. k ≢ l) result.now }
         ensures cheap { AreCheap result.now }
     {
-        match self.rows.get(&vertex) {
-            Some(row) => &row.into,
-            None => &[],
-        }
+        self.links_to_at(&HintedVertex::without_hint(vertex))
     }
 
     /// Returns the links from the vertex, as `links_from` does. The vertex is hashed only if its

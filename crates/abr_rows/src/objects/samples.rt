@@ -8,9 +8,6 @@ use ospf_types::prefix::Prefix;
 use smallvec::SmallVec;
 use std::alloc::Global;
 
-/// The Area ID of the backbone, 0.0.0.0.
-pub(crate) const BACKBONE: u32 = 0;
-
 /// The Router ID 10.0.0.5.
 pub(crate) const ROUTER: u32 = 0x0a00_0005;
 

@@ -17,7 +17,7 @@ returns c = λ v of m.
     let given : (metric ≡ Some m) ↔ IsGreatest (GivesIn v c.args.area.now.id c.args.network) m = (λ is. (of m).0 (sym c.metric_into.ensures ∙ is), λ g. c.metric_into.ensures ∙ (of m).1 g) in
     elim c.match-area.branch [
       | in-Some+else-is_default+else-not-stub w ↦
-          let other : c.args.network ≡ default_route → ⊥ = λ same. let wrong : true ≡ false = sym (w.is_default.ensures.1 same) ∙ w.if-is_default.false in absurd cc in
+          let other : c.args.network ≡ default_route → ⊥ = λ same. let wrong : true ≡ false = sym (w.is_default.ensures.value.1 same) ∙ w.if-is_default.false in absurd cc in
           subst (λ (stub : Option Stub). (metric ≡ Some m) ↔ IsNetworkDueIn v c.args.area.now.id stub c.args.network m) (sym w.in-Some.is) (
             λ is. inr (other, is_sent w.in-Some.stub.summaries w.if-not-stub.false, given.0 is),
             λ due. elim due [ inl own ↦ absurd (other own.0) | inr told ↦ given.1 told.2 ],

@@ -7,7 +7,7 @@ use Rattle.explained_replay.proofs.explained.Explained.put_networks.Goals as goa
 pub loop-bits-preserved : goal.loop-bits-preserved
 loop-bits-preserved c =
     let text : Network → List ℕ = network_text c.args.format c.args.self.table.now.items c.args.self.candidates.now in
-    network_printed text c.args.self.address c.loop-bits.bits _ _ _ c.loop-bits.invariant c.loop-bits-test.true (c.in_ok-put_network.ensures ∙ ap (λ p. string_bytes c.loop-bits.text ++ text p) c.network_around-network.ensures)
+    network_printed text c.args.self.address c.loop-bits.bits _ _ _ c.loop-bits.invariant c.loop-bits-test.true (c.in_ok-put_network.ensures ∙ ap (λ p. string_bytes c.loop-bits.text ++ text p) c.around-network.ensures)
 
 pub returns : goal.returns
 returns c = all_networks_printed (network_text c.args.format c.args.self.table.now.items c.args.self.candidates.now) c.args.self.address c.loop-bits.bits _ _ c.loop-bits.invariant c.loop-bits-test.false
