@@ -1,3 +1,4 @@
+//! The file with the beginning of a capture's recording.
 use abr_cli::{Job, Usage};
 use std::fs;
 

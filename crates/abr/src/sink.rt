@@ -1,3 +1,4 @@
+//! The output of a command: standard output, or the file of a page.
 use crate::output::Output;
 use abr_cli::{Job, Usage};
 use std::io;

@@ -1,3 +1,4 @@
+//! The input of a command: a file, or standard input.
 use abr_cli::{Job, Usage};
 use std::fs::File;
 use std::io;

@@ -40,7 +40,7 @@ c_scope_of (Area area) = record { is_as = false; area = area }
 abbrev pub key_of : CKey → Key
 key_of k = record { kind = k.kind; id = k.id; router = k.router }
 
--- the network that C names; none if the length is above 32, or a bit behind it is 1
+-- the network that C names, or `None` if the length is above 32 or a bit past the length is 1
 abbrev pub network_in : CPrefix → Option Network
 network_in p = if nat_le p.length 32 && (masked p.address p.length == p.address) then Some (record { address = p.address; length = p.length }) else None
 

@@ -1,4 +1,4 @@
--- What a call writes for C.
+-- The results that a call writes for C.
 use Rattle.std.specs.Prelude.{◌≡◌, ◌++◌, Bool, true, false, if◌then◌else◌, Option, Some, None, List, length, take, drop, nat_le}
 
 -- what there is is written and told; else nothing is written
@@ -6,10 +6,11 @@ abbrev pub IsGiven : {X : Type 0} → Option X → (told : Bool) → (before aft
 IsGiven (Some x) told before after = (told ≡ true) × (after ≡ x)
 IsGiven None told before after = (told ≡ false) × (after ≡ before)
 
--- the bytes stand at the beginning if there is room for all of them; else nothing is written
+-- the bytes are written at the beginning if there is room for all of them; otherwise nothing is
+-- written
 abbrev pub written : {X : Type 0} → (bytes before : List X) → List X
 written bytes before = if nat_le (length bytes) (length before) then bytes ++ drop (length bytes) before else before
 
--- they stand at the beginning, as many as there is room for; what stands behind them stays
+-- as many as there is room for are written at the beginning; what follows them is unchanged
 abbrev pub copied : {X : Type 0} → (given before : List X) → List X
 copied given before = take (length before) given ++ drop (length given) before

@@ -1,4 +1,4 @@
--- The numbers by which C is told what a call comes to.
+-- The numbers that calls return to C.
 use Rattle.std.specs.Prelude.{ℕ, Result, Ok, Err}
 use Rattle.lsa_codec.specs.declared.fault.WireFault.{WireFault}
 use Rattle.lsa_codec.specs.declared.fault.WireFault.TheVariants as wire
@@ -21,7 +21,7 @@ short_seed = 1
 abbrev pub out_of_memory : ℕ
 out_of_memory = 30
 
--- a line may not stand where it stands
+-- a line out of order
 abbrev pub misplaced_line : ℕ
 misplaced_line = 53
 
@@ -29,7 +29,7 @@ misplaced_line = 53
 abbrev pub no_core : ℕ
 no_core = 60
 
--- an address and a length that are no network
+-- an address and a length that are not a network
 abbrev pub no_network : ℕ
 no_network = 61
 

@@ -14,7 +14,7 @@ use Rattle.recording.specs.Faults.{IsFaultOf}
 use Rattle.recording.specs.Recordings.{RecordingValue, IsText, recording_of}
 use Rattle.abr_c.specs.Numbers.{fault_number, misplaced_line, out_of_memory, short_seed}
 
--- the text is that of a recording of this base in which nothing happens
+-- the text of a recording of this base without events
 abbrev pub SaysBase : (text : List ℕ) → Base → Type 0
 SaysBase text base = (v : Version) × IsText text (recording_of v base [])
 
@@ -22,7 +22,7 @@ SaysBase text base = (v : Version) × IsText text (recording_of v base [])
 abbrev pub SaysConfig : (text : List ℕ) → Base → Type 0
 SaysConfig text base = SaysBase text base × HasConfigOnly base
 
--- the number is that of the first fault of the text; or the text is that of a recording in which something happens
+-- the number of the first fault of the text; or the text is a recording with events
 abbrev pub IsBaseRefusal : (text : List ℕ) → ℕ → Type 0
 IsBaseRefusal text number =
     ((f : LineFault) × IsFaultOf text f × (number ≡ fault_number f.fault))
@@ -36,11 +36,13 @@ IsConfigRefusal text number = IsBaseRefusal text number ⊎ ((base : Base) × Sa
 abbrev pub IsSeedRefusal : (seed : List ℕ) → ℕ → Type 0
 IsSeedRefusal seed number = ((length seed < 16) × (number ≡ short_seed)) ⊎ (number ≡ out_of_memory)
 
--- The empty text has the hash that SipHash gives it under the two keys that the first 16 bytes of the seed are, eight bytes each, the lowest first.
+-- The empty text has the hash that SipHash gives it under two keys: the first 16 bytes of the seed,
+-- eight bytes each, the lowest first.
 abbrev pub HasKeysOf : (seed : List ℕ) → RandomState → Type 0
 HasKeysOf seed state = finish (initial_hasher state) ≡ finish (with_keys (little_number 8 seed) (little_number 8 (drop 8 seed)))
 
--- the seed is long enough, and the core has this base, and no event was taken; or there is none, and the number is why
+-- the seed is long enough, the core has this base, and no event was taken; or there is no core, and
+-- the number is the reason
 abbrev pub OpensBase : Base → (seed : List ℕ) (number : ℕ) → Option CoreValue → Type 0
 OpensBase base seed number (Some core) = (number ≡ 0) × (16 ≤ length seed) × IsCore core × IsOpening base standard_limits core
 OpensBase base seed number None = IsSeedRefusal seed number

@@ -1,4 +1,4 @@
--- What C is told of an event, and what becomes of the core.
+-- The answers of events to C, and the core after them.
 use Rattle.std.specs.Prelude.{ℕ, ◌≡◌, ◌⊎◌, List, IfOk, Option, Some, None, Result}
 use Rattle.ospf_types.specs.declared.key.Scope.{Scope}
 use Rattle.ospf_types.specs.Lsa.{Lsa}
@@ -14,7 +14,7 @@ use Rattle.event_core.specs.declared.reply.Status.{Status}
 use Rattle.event_core.specs.Cores.{CoreValue, Applies, IsRollRefusal, NamesChanges, HasBoundedWork, Rolls, MatchesStatus}
 use Rattle.abr_c.specs.Numbers.{answer_number, no_core, no_network, out_of_memory, refusal_number, status_number, wire_number}
 
--- the core answers the event, and the number is that of its answer
+-- the core answers the event, and the number is the number of its answer
 pub record IsAnswered (e : Event) (old : CoreValue) (told : ℕ) (new : CoreValue) : Type 0 where
   pub answer : Result Reply Refusal
   pub number : told ≡ answer_number answer
@@ -28,19 +28,21 @@ IsTold e (Some old) number (Some new) = IsAnswered e old number new
 IsTold e (Some old) number None = ⊥
 IsTold e None number new = (number ≡ no_core) × (new ≡ None)
 
--- what was given names an event, which is told; or it names no network
+-- the arguments name an event, which is applied; or they name no network
 abbrev pub IsToldIf : Option Event → Option CoreValue → (number : ℕ) → Option CoreValue → Type 0
 IsToldIf (Some e) old number new = IsTold e old number new
 IsToldIf None old number new = (number ≡ no_network) × (new ≡ old)
 
--- the bytes spell an LSA, which is installed; or the number is that of their first fault, or of want of memory
+-- the bytes spell an LSA, which is installed; or the number is that of their first fault, or of a
+-- lack of memory
 abbrev pub Installs : Scope → (bytes : List ℕ) → Option CoreValue → (number : ℕ) → Option CoreValue → Type 0
 Installs at bytes old number new =
     ((lsa : Lsa) × IsSound bytes × Spells bytes lsa × IsTold (event.Install at lsa) old number new)
     ⊎ (((f : WireFault) × (fault_of bytes ≡ Some f) × (number ≡ wire_number f) × (new ≡ old))
     ⊎ ((fault_of bytes ≡ None) × (number ≡ out_of_memory) × (new ≡ old)))
 
--- table and due summaries are those of the whole journal, or are as behind as they were; all else is as it was
+-- The table and the due summaries reflect the whole journal, or are unchanged. All else is
+-- unchanged.
 pub record IsCaughtUp (old : CoreValue) (told : ℕ) (new : CoreValue) : Type 0 where
   pub status : Status
   pub number : told ≡ status_number status
@@ -57,7 +59,7 @@ CatchesUp (Some old) number (Some new) = IsCaughtUp old number new
 CatchesUp (Some old) number None = ⊥
 CatchesUp None number new = (number ≡ no_core) × (new ≡ None)
 
--- the core is rolled; or it is as it was, and the number is why
+-- the core is rolled; or it is unchanged, and the number is the reason
 abbrev pub IsRolled : CoreValue → (number : ℕ) → CoreValue → Type 0
 IsRolled old number new =
     ((number ≡ 0) × Rolls old new)
@@ -68,7 +70,8 @@ RollsTo (Some old) number (Some new) = IsRolled old number new
 RollsTo (Some old) number None = ⊥
 RollsTo None number new = (number ≡ no_core) × (new ≡ None)
 
--- the number of the first fault of the bytes, 0 if they have none, or that of want of memory, where they have none
+-- the number of the first fault of the bytes, 0 if they have none, or the number for a lack of
+-- memory if they have none
 abbrev pub IsLsaNumber : (bytes : List ℕ) → (number : ℕ) → Type 0
 IsLsaNumber bytes number =
     ((f : WireFault) × (fault_of bytes ≡ Some f) × (number ≡ wire_number f))

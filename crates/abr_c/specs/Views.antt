@@ -79,7 +79,7 @@ change_at c n = option_map prefix_of (slice_get (changes_in c) n)
 abbrev pub entries_in : Option CoreValue → List (Network × Item)
 entries_in = of_core [] (λ core. map.entries core.table.items)
 
--- what C is told of them, from one of them on
+-- the items that C gets, without the first ones
 abbrev pub items_from : Option CoreValue → (first : ℕ) → List CItem
 items_from c first = list_map item_of_entry (drop first (entries_in c))
 
@@ -119,7 +119,8 @@ lsa_at c n = slice_get (lsas_in c) n
 abbrev pub IsNothing : (count : ℕ) → (scope scope' : CScope) → (before after : List ℕ) → Type 0
 IsNothing count scope scope' before after = (count ≡ 0) × (scope' ≡ scope) × (after ≡ before)
 
--- the LSA's scope and bytes are written, the bytes where there is room; where there is none, with 0, nothing is
+-- The LSA's scope is written, and its bytes if there is room. If there is no LSA, nothing is
+-- written, and the result is 0.
 abbrev pub GivesLsa : Option (Scope × Lsa) → (count : ℕ) → (scope scope' : CScope) → (before after : List ℕ) → Type 0
 GivesLsa None count scope scope' before after = IsNothing count scope scope' before after
 GivesLsa (Some x) count scope scope' before after = (count ≡ length (spelling x.1)) × (scope' ≡ c_scope_of x.0) × (after ≡ written (spelling x.1) before)

@@ -1,3 +1,4 @@
+//! The input of a command that a row runs.
 use std::io;
 
 /// The input of a command: bytes, or an input that cannot be read.

@@ -1,4 +1,6 @@
-//! Runs the commands of `abr` on the rows of `data/`, and prints the rows that differ.
+//! Runs the commands of `abr` on the rows of `data/`, and prints the rows that differ. A row is
+//! data: the words of a command line, its input, and the expected output, faults and status. All
+//! that a command line or a recording can say is tested by a row.
 //!
 //! Then it tests recordings that are read and printed, and replays and commands with readers and
 //! writers that fail, because no row can describe these. The first such test that differs ends the

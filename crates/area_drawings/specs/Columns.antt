@@ -18,6 +18,6 @@ column_cmp a b = ordering_then (nat_cmp a.distance b.distance) (bool_cmp a.of_ro
 abbrev pub column_of : ReachedVertex → Column
 column_of r = record { distance = r.distance; of_routers = is_router r.vertex }
 
--- a column for each of the vertices, and none besides
+-- a column for each of the vertices, and no others
 abbrev pub AreColumnsOf : List ReachedVertex → List Column → Type 0
 AreColumnsOf reached columns = (c : Column) → Contains columns c ↔ ((r : ReachedVertex) × Contains reached r × (column_of r ≡ c))

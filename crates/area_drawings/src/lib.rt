@@ -3,11 +3,15 @@
 //! whole numbers, so one drawing always gives the same bytes.
 //!
 //! - `reached` lists the vertices that are reached.
-//! - `columns` makes a column of the networks, and one of the routers, at each distance.
-//! - `branches` and `ordering` put each vertex after the one before it on a shortest path.
+//! - `columns` makes a column of the networks, and one of the routers, at each distance. Networks
+//!   come first, as a link out of a network costs nothing.
+//! - `branches` and `ordering` put each vertex after the one before it on a shortest path. So the
+//!   path goes straight on, its branches go below it, and no two vertices get the same cell.
 //! - `stands` gives each vertex its cell in that order.
 //! - `vertices` and `links` make the parts of the picture.
-//! - `drawing`, `drawn_columns`, `drawn_vertices` and `drawn_links` write it as SVG.
+//! - `drawing`, `drawn_columns`, `drawn_vertices` and `drawn_links` write it as SVG. Every link of
+//!   the graph is drawn, and the links of the tree come last. The two directions of a link are the
+//!   same curve, so the one on the tree hides the other.
 #![tactic(auto)]
 
 mod area;

@@ -1,3 +1,4 @@
+//! The faults in a capture by layer: datagram, OSPF packet, Link State Update and LSA.
 ghost use Rattle.std.specs.Prelude.{Some};
 ghost use Rattle.capture_recording.specs.Notes.{capture_fault_text};
 

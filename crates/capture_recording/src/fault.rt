@@ -1,3 +1,4 @@
+//! The reasons why a capture was not recorded whole, or why not all was printed about it.
 use captures::FaultKind;
 use ospf_types::ConfigFault;
 use ospf_types::memory::Memory;

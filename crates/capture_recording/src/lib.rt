@@ -1,5 +1,23 @@
 //! The conversion of a capture of a network into a recording of its OSPF LSAs: the lines of the
 //! recording, a line for each fault, and a line of counts.
+//!
+//! ```text
+//!  PacketReader ── packet ──> Listener, Recorder ── events ──> lines ──> the recording
+//!                                 │ LSAs
+//!                                 ▼
+//!                             the router's configuration ──> the preamble, if none is given
+//! ```
+//!
+//! - If a preamble is given, the lines of a packet are written as soon as it is taken, or in large
+//!   pieces while more bytes are at hand. LSAs of areas that it does not have are left out, with a
+//!   line for each such area.
+//! - If the capture gives the preamble, all lines wait until its end, as only then all areas and
+//!   interfaces are known. They are packed: hexadecimal digits by two in a byte, repeated
+//!   beginnings once, and seconds as a number.
+//! - Between two packets at most 3600 seconds are recorded. After these each LSA is at MaxAge, and
+//!   ages no further (RFC 2328, 14). A line says how many seconds passed.
+//! - If the time of a packet is before the last one by a whole second or more, a line says so.
+//!   Interfaces that pass on packets in another order differ by less.
 #![tactic(auto)]
 
 mod capture_fault;

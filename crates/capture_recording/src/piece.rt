@@ -1,3 +1,5 @@
+//! The parts of a packed text, and the places of their characters and digits.
+
 /// A part of a packed text.
 #[derive(Clone, Copy)]
 pub(crate) enum Part {

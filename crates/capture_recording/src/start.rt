@@ -1,3 +1,4 @@
+//! The settings that a recording of a capture starts with.
 ghost use Rattle.std.specs.Prelude.{◌≡◌, Some};
 
 use captured_lsas::Options;

@@ -1,3 +1,4 @@
+//! The reasons why the preamble of a recording was not written, and their printed text.
 ghost use Rattle.std.specs.Prelude.{Some};
 ghost use Rattle.captured_config.specs.Faults.{front_fault_text};
 

@@ -1,3 +1,5 @@
+//! The content of a captured packet: the payload of a datagram of OSPF, or the reason why there is
+//! none.
 ghost use Rattle.std.specs.Prelude.{◌≡◌};
 ghost use Rattle.captured_lsas.specs.Payloads.{bytes_of};
 

@@ -1,3 +1,5 @@
+//! The options of a recording of a capture.
+
 /// Options of a recording.
 #[derive(Clone, Copy, Debug, PartialEq, Eq)]
 pub struct Options {

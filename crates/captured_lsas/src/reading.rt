@@ -1,3 +1,4 @@
+//! An LSA of a Link State Update, read from its bytes (RFC 2328, A.4).
 ghost use Rattle.std.specs.Prelude.{◌≡◌, ◌≤◌, length, IfOk, IfErr, Some, None};
 ghost use Rattle.lsa_codec.specs.Faults.{fault_of};
 ghost use Rattle.captured_lsas.specs.Reading.{IsReading};

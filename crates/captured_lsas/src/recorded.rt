@@ -1,3 +1,5 @@
+//! The results for the places in a Link State Update: an LSA that is recorded or left out, or a
+//! fault.
 use lsa_codec::{Checked, WireFault};
 use ospf_types::key::Scope;
 use packets::UpdateFault;

@@ -1,3 +1,4 @@
+//! The result of a datagram's payload: the seconds and LSAs that are recorded, or its fault.
 use crate::recorded::Recorded;
 use packets::{PacketFault, PacketKind};
 

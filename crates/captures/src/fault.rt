@@ -1,3 +1,4 @@
+//! The faults of the bytes of a capture, with their numbers and names.
 ghost use Rattle.std.specs.Prelude.{◌≡◌, Some};
 ghost use Rattle.captures.specs.Text.{fault_text, error_text};
 

@@ -1,15 +1,26 @@
-//! A reader of the packets of a capture, a pcap or a pcapng, part by part. It does no input or
-//! output: a caller reads a file or a pipe, and passes the bytes.
+//! The packets of a capture, a pcap or a pcapng, in bounded memory.
 //!
-//! A caller keeps the unread bytes, and calls `Capture::read_part` with them. For `More` it reads
-//! further input; for a `Skip` or a `Packet` it drops the bytes of the part. Then it calls again.
-//! No call needs more than 1 MiB at once, and blocks that are not read need not be kept.
+//! `Capture::read_part` reads from bytes, and does no input. `PacketReader::next` reads from an
+//! input, packet by packet:
 //!
-//! A reader of the packets of a capture, a pcap or a pcapng, from a file or a pipe. It reads one
-//! packet at a time, in bounded memory.
+//! ```text
+//!  input ── PacketReader::next ──> a packet, and its bytes
+//!             │ a window of at most 1 MiB with the unread bytes
+//!             ▼
+//!           Capture::read_part ──> More | Skip | Packet
+//! ```
 //!
-//! `PacketReader::next` stops reading when the next packet is whole, and keeps at most 1 MiB of the
-//! input.
+//! - For `More`, further bytes are read. No part needs more than 1 MiB at once, so a block that
+//!   claims 4 GB takes no memory.
+//! - For `Skip`, the bytes of the part are dropped. They need not be kept or even read at once:
+//!   only their length counts.
+//! - For `Packet`, the packet is returned, and its bytes are dropped afterwards.
+//!
+//! `next` stops reading when the next packet is whole. So a pipe or a socket can be read while it
+//! is written.
+//!
+//! Times are nanoseconds since the beginning of 1970 in 64 bits, rounded down. A time outside of
+//! that is a fault of its packet. Simple packets of a pcapng have no time.
 #![tactic(auto)]
 
 mod block;

@@ -1,4 +1,4 @@
--- A run whose front was told, and how a run is closed.
+-- A run whose preamble was reported, and how a run is closed.
 use Rattle.std.specs.Prelude.{ℕ, ◌≡◌, ◌+◌, ◌++◌, List, [], length, map, take, Option, Result, Ok, Err, string_bytes}
 use Rattle.std.specs.Io.KnownBytes.{Appends}
 use Rattle.event_core.specs.Cores.{CoreValue, IsCore, IsCurrent}
@@ -20,7 +20,7 @@ use Rattle.change_log.specs.declared.following.End.TheVariants as end
 use Rattle.change_log.specs.declared.following.Run.{Run}
 use Rattle.change_log.specs.declared.printing.ChangeOptions.{ChangeOptions}
 
--- what the base gives was told, and what came of the lines of the recording
+-- the base was reported, and so were the lines of the recording
 pub record IsBegun (t : ChangeOptions) (r : RecordingValue) (run : Run) (from to : Option (List ℕ)) : Type 0 where
   pub version : run.version ≡ r.version
   pub skips_faults : run.skips_faults ≡ t.skips_faults
@@ -45,7 +45,7 @@ pub record StopsAtBase (why : PrintError) (t : ChangeOptions) (r : RecordingValu
   pub beginning : IsBeginning why part whole
   pub written : Appends from to part
 
--- What is left on the buffer is written, and the end is told; or a beginning of it was written.
+-- The rest of the buffer is written, and the end is returned; or a beginning of it was written.
 abbrev pub Closes : Run → End → Result Unit ReplayFault → (from to : Option (List ℕ)) → Type 0
 Closes run e (Ok u) from to = (e ≡ end.Over) × Adds from to (string_bytes run.buffer) [] []
 Closes run e (Err replay_fault.Read) from to = (e ≡ end.Unread) × Adds from to (string_bytes run.buffer) [] []

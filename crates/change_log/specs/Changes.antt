@@ -1,4 +1,4 @@
--- What changed from one core to the next, and what is known of a core by the changes that were told.
+-- The changes from one core to the next, and what the reported changes show of a core.
 use Rattle.std.specs.Prelude.{ℕ, ◌≡◌, ◌==◌, ◌++◌, List, [], ◌∷◌, Contains, Option, Some, None, map, if◌then◌else◌}
 use Rattle.std.specs.FinMap as fin
 use Rattle.std.specs.List.{flat_map}
@@ -42,7 +42,8 @@ due_change area (dest, None) = Undue area dest
 abbrev pub area_changes : ℕ × Metrics → List Change
 area_changes e = map (due_change e.0) e.1
 
--- Told is what differs: the networks whose item does, each once, and then, area by area, the destinations that are due otherwise, each once.
+-- The differences: the networks whose item differs, without duplicates, and then, area by area, the
+-- destinations that are due otherwise, without duplicates.
 pub record AreDifferences (old new : CoreValue) (told : List Change) : Type 0 where
   pub networks : List Prefix
   pub due : List (ℕ × Metrics)
@@ -86,7 +87,7 @@ abbrev pub metrics_from : ℕ → DueMetrics → List Change → DueMetrics
 metrics_from id metrics [] = metrics
 metrics_from id metrics (change ∷ changes) = metrics_from id (metrics_after id metrics change) changes
 
--- the list tells of each destination at its metric here, and of no other
+-- the list has each destination at its metric here, and no other
 abbrev pub AreMetricsOf : List DueSummary → DueMetrics → Type 0
 AreMetricsOf list metrics = (dest : Dest) → IsMetricIn list dest (fin.get metrics dest)
 

@@ -29,7 +29,7 @@ pub record IsSameRun (old new : Run) : Type 0 where
 
 -- ---- one line
 
--- the line that came was taken, and what is told of it stands behind the buffer
+-- the line that was read was taken, and its report was appended to the buffer
 pub record IsTaken (old new : Run) (from to : Option (List ℕ)) : Type 0 where
   pub same : IsSameRun old new
   pub taken : Taken
@@ -39,7 +39,7 @@ pub record IsTaken (old new : Run) (from to : Option (List ℕ)) : Type 0 where
   pub core : IsCore new.core
   pub current : IsCurrent new.core
 
--- the line that came is at fault, and nothing changed
+-- the line that was read has this fault, and nothing changed
 pub record IsLeft (f : Fault) (old new : Run) (from to : Option (List ℕ)) : Type 0 where
   pub same : IsSameRun old new
   pub counted : new.at.number ≡ old.at.number
@@ -56,12 +56,12 @@ abbrev pub Takes : Option Fault → (old new : Run) → (from to : Option (List 
 Takes None old new from to = IsTaken old new from to × (new.at.number ≡ old.at.number + 1)
 Takes (Some f) old new from to = IsLeft f old new from to
 
--- this is what the line that came was taken for, or it was not taken
+-- the line that was read was taken as this, or it was not taken
 abbrev pub IsFirst : Version → List ℕ → List Taken → Type 0
 IsFirst v line [] = Unit {0}
 IsFirst v line (t ∷ taken) = IsReadAs v line t × (taken ≡ [])
 
--- The line that came was taken, and a beginning of what is told of it was written; or it was not.
+-- The line that was read was taken, and a beginning of its report was written; or it was not.
 pub record StopsTaking (why : PrintError) (old : Run) (from to : Option (List ℕ)) : Type 0 where
   pub taken : List Taken
   pub reads : IsFirst old.version old.line.items taken
@@ -70,7 +70,7 @@ pub record StopsTaking (why : PrintError) (old : Run) (from to : Option (List �
 
 -- ---- lines, one after the other
 
--- these bytes were taken, and what is told of their lines stands behind the buffer
+-- these bytes were taken, and the report of their lines was appended to the buffer
 pub record IsFollowed (before : List Change) (bytes : List ℕ) (old new : Run) (from to : Option (List ℕ)) : Type 0 where
   pub same : IsSameRun old new
   pub taken : List Taken
@@ -79,7 +79,7 @@ pub record IsFollowed (before : List Change) (bytes : List ℕ) (old new : Run) 
   pub counted : new.at.number ≡ old.at.number + length taken
   pub told : Told old.at.wanted old.at.answers old.core old.at.number taken before new.core from to (string_bytes old.buffer) (string_bytes new.buffer)
 
--- the next line is at fault, or there is no line feed behind the last
+-- the next line has this fault, or there is no line feed after the last
 pub record IsAtFault (f : Fault) (before : List Change) (old new : Run) (held : List ℕ) (known left : Option (List ℕ)) (from to : Option (List ℕ)) : Type 0 where
   pub bytes : List ℕ
   pub followed : IsFollowed before bytes old new from to
@@ -88,14 +88,14 @@ pub record IsAtFault (f : Fault) (before : List Change) (old new : Run) (held : 
   pub comes : ComesFrom (prepend_known held known) left (bytes ++ raw)
   pub is : IsReadAs old.version (shortened raw) (Fails f) ⊎ ((raw ≢ []) × (f ≡ fault.Truncated) × IsAtEnd left)
 
--- how it ends: the input is over, it could not be read further, or a line is at fault
+-- how it ends: the input is over, it could not be read further, or a line has a fault
 abbrev pub Ends : End → (before : List Change) → (old new : Run) → (held : List ℕ) → (known left : Option (List ℕ)) → (from to : Option (List ℕ)) → Type 0
 Ends end.Over before old new held known left from to =
     (bytes : List ℕ) × IsFollowed before bytes old new from to × Consumes (prepend_known held known) left bytes × IsAtEnd left
 Ends end.Unread before old new held known left from to = (bytes : List ℕ) × IsFollowed before bytes old new from to × ComesFrom (prepend_known held known) left bytes
 Ends (end.AtFault f) before old new held known left from to = IsAtFault f before old new held known left from to
 
--- a beginning of what is told of these bytes was written
+-- a beginning of the report of these bytes was written
 pub record StopsIn (why : PrintError) (before : List Change) (old : Run) (held : List ℕ) (known left : Option (List ℕ)) (from to : Option (List ℕ)) : Type 0 where
   pub bytes : List ℕ
   pub comes : ComesFrom (prepend_known held known) left bytes
@@ -104,15 +104,15 @@ pub record StopsIn (why : PrintError) (before : List Change) (old : Run) (held :
   pub said : old.skips_faults ≡ false → AllSay taken
   pub part : ToldPart why old.at.wanted old.at.answers old.core old.at.number taken before from to (string_bytes old.buffer)
 
--- ---- lines behind the front, of which one came with it
+-- ---- lines after the preamble, one of which ended it
 
--- How it ends behind a front, whichever that is.
+-- How it ends after a preamble, whichever that is.
 abbrev pub EndsBehind : PreambleEnd → End → (old new : Run) → (kept : List ℕ) → (left further : Option (List ℕ)) → (from to : Option (List ℕ)) → Type 0
 EndsBehind front e old new kept left further from to =
     (text held : List ℕ) → (known : Option (List ℕ)) → IsWhole front → Opens front text old.line.items held known kept left → (before : List Change) → Give before old.core
     → (mid : List ℕ) × (rest : Option (List ℕ)) × input.Takes held known mid rest text × Ends e before old new mid rest further from to
 
--- it stops behind a front
+-- it stops after a preamble
 abbrev pub StopsBehind : PreambleEnd → PrintError → (old : Run) → (kept : List ℕ) → (left further : Option (List ℕ)) → (from to : Option (List ℕ)) → Type 0
 StopsBehind front why old kept left further from to =
     (text held : List ℕ) → (known : Option (List ℕ)) → IsWhole front → Opens front text old.line.items held known kept left → (before : List Change) → Give before old.core

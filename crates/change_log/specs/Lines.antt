@@ -1,4 +1,4 @@
--- The lines that tell what an event changed, and what came of a line that changed nothing.
+-- The lines that report the changes of an event, or the outcome of a line that changed nothing.
 use Rattle.std.specs.Prelude.{ℕ, ◌++◌, Bool, true, false, List, Option, Some, None, codes, decimal, if◌then◌else◌}
 use Rattle.std.specs.List.{flat_map}
 use Rattle.ospf_types.specs.declared.key.Dest.{Dest}
@@ -29,7 +29,7 @@ pub data Change : Type 0 where
   Undue : (area : ℕ) → (dest : Dest) → Change  -- it is due there no longer
   Found : (address serial : ℕ) → (found : Match) → Change  -- nothing changed: what the table has for an address that was looked up
   Refused : (refusal : Refusal) → Change  -- nothing changed: the event, or the roll, was refused
-  AtFault : (fault : Fault) → Change  -- nothing changed: the line is at fault
+  AtFault : (fault : Fault) → Change  -- nothing changed: the line has a fault
 
 -- the route, or `discard`
 abbrev pub item_text : Item → List ℕ
@@ -72,7 +72,7 @@ abbrev pub is_asked : Option Prefix → Prefix → Bool
 is_asked None p = true
 is_asked (Some q) p = is_same_prefix p q
 
--- the destination, likewise; an AS boundary router is no network
+-- the destination, likewise; an AS boundary router is not a network
 abbrev pub is_dest_asked : Option Prefix → Dest → Bool
 is_dest_asked only (Net p) = is_asked only p
 is_dest_asked None (Router router) = true

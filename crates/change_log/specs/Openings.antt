@@ -29,7 +29,7 @@ front_with front_end.Cut front line = front
 front_with front_end.LongLine front line = front ++ line
 front_with (front_end.AtFault f) front line = front
 
--- the line that came, and its line feed, was added, where it is one of the front
+-- the line that was read, and its line feed, was added, if it belongs to the preamble
 pub record IsAdded (end : PreambleEnd) (feed : List ℕ) (old new : Opening) : Type 0 where
   pub ends : new.end ≡ end
   pub line : new.line.items ≡ old.line.items
@@ -47,7 +47,8 @@ line_feeds bytes = count_by (λ byte. byte == 10) bytes
 abbrev pub last_line : List ℕ → ℕ
 last_line text = line_feeds (take (length text - 1) text) + 1
 
--- The lines of the front came, and the last of them is too long to be read whole. It stands there cut short.
+-- The lines of the preamble were read, and the last of them is too long to be read whole. The
+-- preamble contains it, cut short.
 pub record IsLongFront (front held : List ℕ) (known : Option (List ℕ)) (kept : List ℕ) (left : Option (List ℕ)) : Type 0 where
   pub before : List ℕ
   pub raw : List ℕ
@@ -66,7 +67,7 @@ Opens front_end.Cut front line held known kept left = (mid : List ℕ) × (rest 
 Opens front_end.LongLine front line held known kept left = IsLongFront front held known kept left
 Opens (front_end.AtFault f) front line held known kept left = Takes held known kept left front × IsFaultOf front f
 
--- each line of the front was taken whole, and none of them is known to be at fault
+-- each line of the preamble was taken whole, and none of them is known to have a fault
 abbrev pub IsWhole : PreambleEnd → Type 0
 IsWhole front_end.Over = Unit {0}
 IsWhole front_end.Line = Unit {0}
@@ -82,11 +83,12 @@ IsFaultUpTo more front f = IsFaultOf front f ⊎ IsFaultOf (front ++ more) f
 abbrev pub IsFaultWith : (more front : List ℕ) → ReplayFault → Type 0
 IsFaultWith more front e = (e ≡ replay_fault.Memory) ⊎ ((f : LineFault) × (e ≡ replay_fault.Line f) × IsFaultUpTo more front f)
 
--- the text is that of a recording, and the fault is that its last line has no form
+-- the text of a recording, and the fault is that its last line has no form
 abbrev pub IsFormless : (text : List ℕ) → (number : ℕ) → LineFault → Type 0
 IsFormless text number f = (r : RecordingValue) × IsText text r × (f ≡ record { line = number; fault = fault.Line })
 
--- Why there is no recording. Where a line that is too long was cut short, and nothing is wrong with the front then, the fault is that this line has no form.
+-- The reason why there is no recording. If a line was too long and cut short, and the preamble then
+-- has no fault, the fault is that this line has no form.
 abbrev pub HasFault : PreambleEnd → (front line : List ℕ) → LineFault → Type 0
 HasFault front_end.Over front line f = IsFaultOf front f
 HasFault front_end.Line front line f = IsFaultUpTo (line ++ 10 ∷ []) front f

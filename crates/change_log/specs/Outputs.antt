@@ -1,4 +1,4 @@
--- What is printed of the lines that came: what each of them changed.
+-- The report of the lines that were read: the changes of each.
 use Rattle.std.specs.Prelude.{ℕ, ◌≡◌, ◌≢◌, ◌-◌, ◌+◌, ◌⊎◌, ◌++◌, false, List, [], length, Option, map, take}
 use Rattle.std.specs.Io.KnownBytes.{Appends, IsAtEnd}
 use Rattle.change_log.specs.declared.printing.ChangeFilter.{ChangeFilter}
@@ -19,12 +19,13 @@ use Rattle.change_log.specs.Runs.{Fails, Says, Taken, TellsLines}
 use Rattle.change_log.specs.Streams.{AllSay, AreTaken, ComesFrom, IsFaultOfFront, IsReadAs, lines_in}
 use Rattle.change_log.specs.declared.printing.ChangeOptions.{ChangeOptions}
 
--- what the base gives is told at its last line
+-- the base is reported at its last line
 abbrev pub base_lines : ChangeFilter → RecordingValue → CoreValue → List ℕ
 base_lines wanted r opened = lines_of (first_number r.version r.base - 1) wanted (all_of opened)
 
--- The text tells what the base of the recording gives, and then what came of each of its lines and of those behind them. From nothing on, the changes give
--- table and due summaries behind each line.
+-- The text reports the base of the recording, and then the outcome of each of its lines and of
+-- those after them. Applied in order, starting with nothing, the changes give the table and the due
+-- summaries after each line.
 pub record IsTelling (t : ChangeOptions) (r : RecordingValue) (taken : List Taken) (text : List ℕ) : Type 0 where
   pub opened : CoreValue
   pub opening : IsOpened r.base opened
@@ -35,7 +36,8 @@ pub record IsTelling (t : ChangeOptions) (r : RecordingValue) (taken : List Take
   pub run : TellsLines t.wanted t.answers opened (first_number r.version r.base) (map Says r.lines ++ taken) (all_of opened) told after closed
   pub is : text ≡ base_lines t.wanted r opened ++ told
 
--- The bytes are the text of a recording, and behind it lines that were taken. Where none may be skipped, none of them is at fault, and all is the text of one.
+-- The bytes are the text of a recording, followed by lines that were taken. If none may be skipped,
+-- none of them has a fault, and all bytes are the text of one.
 pub record AreBytes (t : ChangeOptions) (bytes : List ℕ) (r : RecordingValue) (taken : List Taken) : Type 0 where
   pub front : List ℕ
   pub behind : List ℕ
@@ -45,14 +47,14 @@ pub record AreBytes (t : ChangeOptions) (bytes : List ℕ) (r : RecordingValue) 
   pub said : t.skips_faults ≡ false → AllSay taken
   pub whole : t.skips_faults ≡ false → IsText bytes (record r { lines = r.lines ++ lines_in taken })
 
--- what is told of the bytes
+-- the report of the bytes
 pub record IsTellingOf (t : ChangeOptions) (bytes text : List ℕ) : Type 0 where
   pub recording : RecordingValue
   pub taken : List Taken
   pub are : AreBytes t bytes recording taken
   pub telling : IsTelling t recording taken text
 
--- all the bytes that a reader had were taken, and what is told of them was written
+-- all bytes of the reader were taken, and their report was written
 pub record TellsAll (t : ChangeOptions) (before after : Option (List ℕ)) (old new : Option (List ℕ)) : Type 0 where
   pub bytes : List ℕ
   pub read : ReadsAll before after bytes
@@ -60,14 +62,15 @@ pub record TellsAll (t : ChangeOptions) (before after : Option (List ℕ)) (old 
   pub is : IsTellingOf t bytes text
   pub written : Appends old new text
 
--- these bytes came, and what is told of them was written
+-- these bytes were read, and their report was written
 pub record TellsThese (t : ChangeOptions) (before after : Option (List ℕ)) (bytes : List ℕ) (old new : Option (List ℕ)) : Type 0 where
   pub comes : ComesFrom before after bytes
   pub text : List ℕ
   pub is : IsTellingOf t bytes text
   pub written : Appends old new text
 
--- Bytes came, and of what is told of them, or of so many lines of the recording at their front, the beginning was written that such a stop leaves.
+-- These bytes were read. Of their report, or of the report of the first lines of the recording at
+-- their beginning, the beginning was written that such a stop leaves.
 pub record TellsPart (why : PrintError) (t : ChangeOptions) (before after : Option (List ℕ)) (old new : Option (List ℕ)) : Type 0 where
   pub bytes : List ℕ
   pub comes : ComesFrom before after bytes
@@ -87,8 +90,8 @@ pub record FailsAtFront (before after : Option (List ℕ)) (f : LineFault) : Typ
   pub comes : ComesFrom before after bytes
   pub is : IsFaultOfFront bytes f
 
--- What is told of the lines of before was written, and the next line, of this number, is at fault: one that is not skipped, or one without a line feed, with which
--- the input ends.
+-- The report of the lines before was written, and the next line, of this number, has a fault. It is
+-- one that is not skipped, or one without a line feed, with which the input ends.
 pub record FailsBehind (t : ChangeOptions) (before after : Option (List ℕ)) (f : LineFault) (old new : Option (List ℕ)) : Type 0 where
   pub bytes : List ℕ
   pub text : List ℕ

@@ -1,4 +1,4 @@
--- A run of a recording's lines, and what is told of it.
+-- A run of a recording's lines, and its report.
 use Rattle.std.specs.Prelude.{ℕ, ◌≡◌, ◌≢◌, ◌≤◌, ◌<◌, ◌+◌, ◌⊎◌, ◌++◌, Bool, true, false, List, [], ◌∷◌, length, Option, Result, Ok, Err}
 use Rattle.change_log.specs.declared.printing.ChangeFilter.{ChangeFilter}
 use Rattle.event_state.specs.declared.refusal.Refusal.{Refusal}
@@ -18,18 +18,19 @@ use Rattle.replay.specs.declared.buffer.PrintError.TheVariants as stop
 use Rattle.change_log.specs.Lines.{AtFault, Change, Found, Refused, lines_of}
 use Rattle.change_log.specs.Changes.{AreDifferences, Give}
 
--- ---- what is told of one line; what changed nothing is told where answers are asked for
+-- ---- the report of one line; a line that changed nothing is reported if answers are wanted
 
 abbrev pub answered : Bool → Change → List Change
 answered true change = change ∷ []
 answered false change = []
 
--- a refused event may be passed over: it is told that it was refused, or memory did not run out
+-- a refused event may be skipped: its refusal is reported, or memory did not run out
 abbrev pub MayPass : Bool → Refusal → Type 0
 MayPass true why = Unit {0}
 MayPass false why = why ≢ refusal.Memory
 
--- Of an event that was taken, what it changed is told, and table and due summaries follow it. Of a refused one, that it was.
+-- The changes of an event that was taken are reported, and the table and the due summaries reflect
+-- it. The refusal of a refused one is reported.
 abbrev pub IsToldOf : Bool → CoreValue → Result Reply Refusal → CoreValue → List Change → Type 0
 IsToldOf answers old (Ok reply) new told = IsCurrent new × AreDifferences old new told
 IsToldOf answers old (Err why) new told = MayPass answers why × (told ≡ answered answers (Refused why))
@@ -44,7 +45,8 @@ abbrev pub told_of_roll : Bool → Result ℕ Refusal → List Change
 told_of_roll answers (Ok serial) = []
 told_of_roll answers (Err refusal) = answered answers (Refused refusal)
 
--- The line leads from one core to the other, and this is told of it. A look-up and a roll change nothing of what is told.
+-- The line leads from one core to the other, with this report. A lookup and a roll change nothing
+-- that is reported.
 abbrev pub TellsLine : Bool → CoreValue → Line → CoreValue → List Change → Type 0
 TellsLine answers old (line.Event e) new told = (answer : Result Reply Refusal) × Applies old e answer new × IsToldOf answers old answer new told
 TellsLine answers old (line.Lookup address) new told = IsFoundIn answers old address told × (new ≡ old)
@@ -52,32 +54,35 @@ TellsLine answers old line.Roll new told = (answer : Result ℕ Refusal) × Roll
 
 -- ---- lines, one after the other
 
--- a line as it was taken: what a line of a recording says, or one that comes behind it, or why the latter is at fault
+-- a line as it was taken: a line of a recording, a line that comes after it, or the fault of the
+-- latter
 pub data Taken : Type 0 where
   Says : (line : Line) → Taken
   Comes : (line : Line) → Taken
   Fails : (fault : Fault) → Taken
 
--- so many events are a long journal
+-- the number of events of a long journal
 abbrev pub long_journal : ℕ
 long_journal = 65536
 
--- Before a line that comes, a long journal is rolled, and no other. Where memory runs out for the roll, a journal that is long stays so, but a full one does
--- not: there is room for an event. Nothing that is told changes.
+-- Before a line, a long journal is rolled, and no other. If memory runs out for the roll, a long
+-- journal stays so, but a full one does not: there is room for an event. Nothing that is reported
+-- changes.
 abbrev pub KeepsShort : CoreValue → CoreValue → Type 0
 KeepsShort old new =
     ((length old.journal < long_journal) × (new ≡ old))
     ⊎ (((long_journal ≤ length old.journal) × TakesRoll old new)
     ⊎ ((long_journal ≤ length old.journal) × (length old.journal < standard_limits.events) × (new ≡ old)))
 
--- A line of a recording is run by the core as it is. A line at fault is told of, and changes nothing.
+-- A line of a recording is run by the core. A line with a fault is reported, and changes nothing.
 abbrev pub TellsTaken : Bool → CoreValue → Taken → CoreValue → List Change → Type 0
 TellsTaken answers old (Says l) new told = IsCore old × TellsLine answers old l new told
 TellsTaken answers old (Comes l) new told = (ready : CoreValue) × IsCore ready × KeepsShort old ready × TellsLine answers ready l new told
 TellsTaken answers old (Fails f) new told = (told ≡ AtFault f ∷ []) × (new ≡ old)
 
--- From one core to the other, over lines that are numbered from here on: what came of each of them is printed. Behind each, all the changes that were told
--- give table and due summaries; those of before, and those that were told then.
+-- From one core to the other, over lines with these numbers: the outcome of each of them is
+-- printed. After each, all changes that were reported, before and then, give the table and the due
+-- summaries.
 abbrev pub TellsLines : ChangeFilter → Bool → CoreValue → ℕ → List Taken → (before : List Change) → (text : List ℕ) → (after : List Change) → CoreValue → Type 0
 TellsLines wanted answers old number [] before text after new = (text ≡ []) × (after ≡ before) × (new ≡ old)
 TellsLines wanted answers old number (t ∷ taken) before text after new =
@@ -86,7 +91,7 @@ TellsLines wanted answers old number (t ∷ taken) before text after new =
 
 -- ---- one line, printed
 
--- the line led from one core to the other, and what is told of it stands behind the buffer
+-- the line led from one core to the other, and its report was appended to the buffer
 pub record ToldLine (wanted : ChangeFilter) (answers : Bool) (old : CoreValue) (number : ℕ) (l : Line) (new : CoreValue) (from to : Option (List ℕ)) (buffer put : List ℕ) : Type 0 where
   pub told : List Change
   pub tells : TellsLine answers old l new told
@@ -102,7 +107,8 @@ pub record ToldTaken (wanted : ChangeFilter) (answers : Bool) (old : CoreValue) 
 abbrev pub StopsBefore : PrintError → (from to : Option (List ℕ)) → Type 0
 StopsBefore why from to = (why ≡ stop.Memory) × (to ≡ from)
 
--- the line was run, and a beginning of what is told of it was written; or memory ran out over what follows from its event
+-- the line was run, and a beginning of its report was written; or memory ran out over what follows
+-- from its event
 abbrev pub StopsAtLine : PrintError → ChangeFilter → Bool → CoreValue → ℕ → Line → CoreValue → (from to : Option (List ℕ)) → (buffer : List ℕ) → Type 0
 StopsAtLine why wanted answers old number l new from to buffer =
     ((told : List Change) × TellsLine answers old l new told × AddsPart why from to (buffer ++ lines_of number wanted told)) ⊎ StopsBefore why from to
@@ -114,7 +120,7 @@ StopsAtTaken why wanted answers old number t new from to buffer =
 
 -- ---- all of them, printed
 
--- a beginning of what is told of the lines was written
+-- a beginning of the report of the lines was written
 pub record ToldPart (why : PrintError) (wanted : ChangeFilter) (answers : Bool) (old : CoreValue) (number : ℕ) (taken : List Taken) (before : List Change) (from to : Option (List ℕ)) (buffer : List ℕ) : Type 0 where
   pub text : List ℕ
   pub after : List Change
@@ -122,7 +128,7 @@ pub record ToldPart (why : PrintError) (wanted : ChangeFilter) (answers : Bool) 
   pub run : TellsLines wanted answers old number taken before text after now
   pub part : AddsPart why from to (buffer ++ text)
 
--- the lines were taken, and what is told of them stands behind the buffer
+-- the lines were taken, and their report was appended to the buffer
 pub record Told (wanted : ChangeFilter) (answers : Bool) (old : CoreValue) (number : ℕ) (taken : List Taken) (before : List Change) (new : CoreValue) (from to : Option (List ℕ)) (buffer put : List ℕ) : Type 0 where
   pub text : List ℕ
   pub after : List Change

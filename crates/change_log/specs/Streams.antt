@@ -13,7 +13,8 @@ use Rattle.recording.specs.Progress.{IsFaultBehind, IsLineOf}
 use Rattle.change_log.specs.Openings.{IsFormless, line_feeds}
 use Rattle.change_log.specs.Runs.{Taken, Says, Comes, Fails}
 
--- What the line says behind the base, or its fault. A line that is too long to be read whole has a fault, that of its beginning or that it has no form.
+-- The meaning of the line after the base, or its fault. A line that is too long to be read whole
+-- has a fault: that of its beginning, or that it has no form.
 abbrev pub IsReadAs : Version → (line : List ℕ) → Taken → Type 0
 IsReadAs v line (Says l) = ⊥
 IsReadAs v line (Comes l) = (length line < LONGEST) × IsLineOf v line l
@@ -25,27 +26,29 @@ AreTaken v bytes [] = bytes ≡ []
 AreTaken v bytes (t ∷ taken) =
     (raw : List ℕ) × (rest : List ℕ) × HasNoLineFeed raw × IsReadAs v (shortened raw) t × (bytes ≡ raw ++ 10 ∷ rest) × AreTaken v rest taken
 
--- what they say, but for those at fault
+-- their meaning, without the lines that have a fault
 abbrev pub lines_in : List Taken → List Line
 lines_in [] = []
 lines_in (Says l ∷ taken) = l ∷ lines_in taken
 lines_in (Comes l ∷ taken) = l ∷ lines_in taken
 lines_in (Fails f ∷ taken) = lines_in taken
 
--- none of them is at fault
+-- none of them has a fault
 abbrev pub AllSay : List Taken → Type 0
 AllSay [] = Unit {0}
 AllSay (Says l ∷ taken) = AllSay taken
 AllSay (Comes l ∷ taken) = AllSay taken
 AllSay (Fails f ∷ taken) = ⊥
 
--- The bytes came from a reader whose known bytes were these before and are these now. More may have been read than was taken.
+-- The bytes come from a reader whose known bytes were these before and are these now. More may have
+-- been read than was taken.
 pub record ComesFrom (before after : Option (List ℕ)) (bytes : List ℕ) : Type 0 where
   pub ahead : List ℕ
   pub read : Consumes before after (bytes ++ ahead)
 
--- The bytes have a line that is too long to be read whole. The fault is one of the text with that line cut short; or nothing is wrong with that text, and
--- the fault is that the line, by its number, has no form.
+-- The bytes have a line that is too long to be read whole. The fault is one of the text with that
+-- line cut short; or that text has no fault, and the fault is that the line, by its number, has no
+-- form.
 pub record IsLongFault (bytes : List ℕ) (f : LineFault) : Type 0 where
   pub before : List ℕ
   pub raw : List ℕ

@@ -1,5 +1,8 @@
 //! The command line of the program `abr`: the command that its words select, and the arguments of
 //! the command.
+//!
+//! `--due` takes the area as its value, and the network or router is given where the address would
+//! be: an option has one value.
 #![tactic(auto)]
 
 mod command;

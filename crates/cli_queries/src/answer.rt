@@ -1,3 +1,4 @@
+//! The answer of a command as a value: a text, or the line of a fault with its status.
 ghost use Rattle.std.specs.Prelude.{◌≡◌, ◌⊎◌, IfOk, string_bytes};
 ghost use Rattle.cli_queries.specs.Faults.{command_fault_text, fault_line};
 ghost use Rattle.cli_queries.specs.Answers.{faulty, value_of};

@@ -1,3 +1,4 @@
+//! The faults of commands, with their status and their printed text.
 ghost use Rattle.std.specs.Prelude.{◌≡◌, Some};
 ghost use Rattle.cli_queries.specs.Faults.{command_fault_text, place_words, status_of};
 

@@ -14,7 +14,7 @@ use Rattle.due_explanation.specs.declared.due.DueExplained.{DueExplained}
 abbrev pub IsDueAt : State → ℕ → Dest → ℕ → Type 0
 IsDueAt s id d metric = (a : Area) × Contains (inputs_of s).areas a × (a.id ≡ id) × IsDue (inputs_of s) a d metric
 
--- the metric at which it is due there; none where it is not, or where no area has the Area ID
+-- the metric at which it is due there, or `None` if it is not due or no area has the Area ID
 abbrev pub IsDueMetric : State → ℕ → Dest → Option ℕ → Type 0
 IsDueMetric s id d metric = (m : ℕ) → (metric ≡ Some m) ↔ IsDueAt s id d m
 

@@ -1,4 +1,4 @@
--- Whether a summary is due in an area, and why, line by line, in each form.
+-- The explanation of a summary in an area, line by line, in each form.
 use Rattle.std.specs.Prelude.{ℕ, ◌++◌, List, codes}
 use Rattle.std.specs.List.{flat_map}
 use Rattle.output_lines.specs.declared.format.Format.{Format}

@@ -1,4 +1,5 @@
--- The lines that tell whether a summary is due as JSON objects. The members of an object ascend by name.
+-- The lines of an explanation of a summary as JSON objects. The members of an object ascend by
+-- name.
 use Rattle.std.specs.Prelude.{ℕ, ◌++◌, List, [], ◌∷◌, Option, Some, None, codes, if◌then◌else◌}
 use Rattle.serde_json.specs.Data.{Data, null, string}
 use Rattle.ospf_types.specs.declared.key.Dest.{Dest}

@@ -1,4 +1,5 @@
--- Why a summary is due in an area, or is not (RFC 2328, 12.4.3), and what becomes of what could give it.
+-- The reasons why a summary is due in an area, or is not (RFC 2328, 12.4.3), and the verdicts on
+-- its sources.
 use Rattle.std.specs.Prelude.{ℕ, ◌++◌, Bool, true, false, List, [], ◌∷◌, Option, Some, None, codes}
 use Rattle.ospf_types.specs.Text.{prefix_text}
 use Rattle.due_explanation.specs.declared.due.DueVerdict.{DueVerdict}
@@ -25,12 +26,12 @@ reason_text NoNetwork = codes "no network of the range costs less than LSInfinit
 reason_text Lesser = codes "another one costs more"
 reason_text Given = codes "its cost is the metric"
 
--- where some sources are told, they are the reason
+-- if sources are listed, they are the reason
 abbrev pub reason_of_sources : List DueSource → Option (List ℕ)
 reason_of_sources [] = Some (codes "nothing leads there")
 reason_of_sources (s ∷ ss) = None
 
--- the reason that is told of the summary itself
+-- the reason that is printed for the summary itself
 abbrev pub due_reason_text : DueReason → Option (List ℕ)
 due_reason_text NotConfigured = Some (codes "no area has this Area ID")
 due_reason_text NotBorder = Some (codes "fewer than two areas are active")

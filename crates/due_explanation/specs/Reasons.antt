@@ -23,7 +23,8 @@ area_with (a ∷ areas) id = if a.id == id then Some a else area_with areas id
 abbrev pub AreSeveral : List ℕ → Type 0
 AreSeveral active = (one another : ℕ) × Contains active one × Contains active another × (one ≢ another)
 
--- what could give a summary decides: the area is no stub area, or is sent networks, of which this is one
+-- the sources of a summary decide: the area is not a stub area, or it gets networks, of which this
+-- is one
 abbrev pub MaySend : Option Stub → Dest → Type 0
 MaySend None d = Unit {0}
 MaySend (Some stub) (Net p) = (p ≢ default_route) × IsTrue stub.summaries
@@ -37,7 +38,7 @@ IsStubReason (Some stub) d metric reason.StubDefault = (d ≡ Net default_route)
 IsStubReason (Some stub) d metric reason.StubHides = (p : Prefix) × (d ≡ Net p) × (p ≢ default_route) × (stub.summaries ≡ false) × (metric ≡ None)
 IsStubReason (Some stub) d metric r = ⊥
 
--- all that could give one, and what becomes of each in the area where the summary is due at this metric
+-- all sources, and the verdict on each in the area where the summary is due at this metric
 abbrev pub AreSettled : SummaryInputsValue → AreaConfig → Dest → Option ℕ → List DueSource → Type 0
 AreSettled v a d metric sources = (alone : List DueSource) × AreSources v d alone × (sources ≡ map (settled a.id metric) alone)
 

@@ -1,4 +1,4 @@
--- What could give a summary for a destination, and what becomes of it in an area (RFC 2328, 12.4.3).
+-- The sources of a summary for a destination, and their verdicts in an area (RFC 2328, 12.4.3).
 use Rattle.std.specs.Prelude.{ℕ, ◌≡◌, ◌≢◌, ◌<◌, ◌≤◌, ◌==◌, ◌++◌, eqb, Bool, true, false, List, [], ◌∷◌, Contains, Option, Some, None}
 use Rattle.std.specs.FinMap.{get}
 use Rattle.std.specs.Option.{option_eq}
@@ -21,7 +21,7 @@ use Rattle.due_explanation.specs.declared.due.DueSource.{DueSource}
 use Rattle.due_explanation.specs.declared.due.SourceKind.{SourceKind}
 use Rattle.due_explanation.specs.declared.due.SourceKind.TheVariants as kind
 
--- ---- what becomes of a source by itself, whichever the area: it gives a summary where nothing is against it
+-- ---- the verdict on a source by itself, whatever the area: it gives a summary if nothing prevents it
 
 -- an inter-area route, or the route of an AS boundary router
 abbrev pub IsRouteFate : ℕ → DueVerdict → Type 0
@@ -59,7 +59,8 @@ IsRangeFate a p cost _ = ⊥
 
 -- ---- the sources
 
--- the entry, with the area that it leads through and its cost; none where there is no entry that leads through an area
+-- the entry, with the area that it leads through and its cost; `None` if no entry leads through an
+-- area
 abbrev pub IsEntrySource : SourceKind → (ℕ → ℕ → DueVerdict → Type 0) → Option Entry → Option DueSource → Type 0
 IsEntrySource k IsFate entry None = (e : Entry) (through : ℕ) → entry ≡ Some e → e.area ≡ Some through → ⊥
 IsEntrySource k IsFate entry (Some s) = (e : Entry) × (entry ≡ Some e) × (e.area ≡ Some s.area) × (s.kind ≡ k) × (s.cost ≡ Some e.cost) × IsFate s.area e.cost s.verdict
@@ -69,7 +70,8 @@ abbrev pub IsPreferredSource : Option PreferredValue → Option DueSource → Ty
 IsPreferredSource preferred None = preferred ≡ None
 IsPreferredSource preferred (Some s) = (w : PreferredValue) × (preferred ≡ Some w) × (w.preference.area ≡ s.area) × (s.kind ≡ kind.Preferred) × (s.cost ≡ Some w.preference.cost) × IsRouteFate w.preference.cost s.verdict
 
--- the area's range with this prefix, at the greatest finite cost of its networks; none where it has no such range
+-- the area's range with this prefix, at the greatest finite cost of its networks; `None` if it has
+-- no such range
 abbrev pub IsRangeSource : SummaryInputsValue → AreaConfig → Prefix → Option DueSource → Type 0
 IsRangeSource v a p None = HasRange a p → ⊥
 IsRangeSource v a p (Some s) = HasRange a p × (s.area ≡ a.id) × (s.kind ≡ kind.Range) × IsGreatestBelow LSInfinity (HasCost v.ranges p a.id) s.cost × IsRangeFate a p s.cost s.verdict

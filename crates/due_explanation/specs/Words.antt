@@ -1,4 +1,4 @@
--- The lines that tell whether a summary is due in words, without their line feeds.
+-- The lines of an explanation of a summary in words, without their line feeds.
 use Rattle.std.specs.Prelude.{ℕ, ◌++◌, List, [], Option, Some, None, codes, decimal, if◌then◌else◌}
 use Rattle.ospf_types.specs.declared.key.Dest.{Dest}
 use Rattle.ospf_types.specs.declared.key.Dest.TheVariants.{Net, Router}

@@ -4,6 +4,9 @@
 //! A reason has the sources of a summary for a destination, and the verdict on each in the area.
 //! The first line says if the summary is due, and at which metric. Then the sources follow, each
 //! with its cost and its verdict.
+//!
+//! Sources are not traced link by link: each is a route of its own, which `explanation` traces. The
+//! cost of a range is the cost of its costliest network, as in its summary.
 #![tactic(auto)]
 
 mod active;

@@ -1,4 +1,4 @@
--- What the answers of an engine promise.
+-- The promises of an engine's answers.
 use Rattle.std.specs.Prelude.{ℕ, ◌≡◌, ◌≢◌, ◌↔◌, ◌+◌, false, List, [], ◌∷◌, ◌++◌, length, Contains, Option, Some, None, MatchOption, Result, MatchResult}
 use Rattle.std.specs.List.{AllZip}
 use Rattle.event_state.specs.declared.base.Base.{Base}
@@ -24,20 +24,22 @@ use Rattle.engine.specs.declared.answer.DueList.{DueList}
 abbrev pub after : Base → List Event → State
 after base list = run_of base standard_limits list
 
--- the reply is that of the event after these, which are legal
+-- the reply to the event after these, which are legal
 pub record Replies (base : Base) (before : List Event) (e : Event) (r : Reply) : Type 0 where
   pub legal : IsLegal base before
   pub accepted : lasting_refusal_of (after base before) e ≡ None
   pub serial : r.serial ≡ base.serial + length before + 1
   pub changed : (r.changed ≡ false) ↔ LooksAlike (after base before) (after base (before ++ e ∷ []))
 
--- The reply is that of the event after some legal list. A token is there exactly where the state is Current, and its list is that one and the event
+-- The reply to the event after some legal list. It has a token exactly if the status is Current,
+-- and the token's list is that list and the event
 abbrev pub Answers : Name → Event → Answer → Type 0
 Answers name e a =
     (before : List Event) × Replies name.base before e a.reply
     × MatchOption a.told (a.reply.state ≡ Behind) (λ t. (a.reply.state ≡ Current) × (t.name ≡ name) × (t.list ≡ before ++ e ∷ []) × IsLegal name.base t.list)
 
--- The event is refused after some legal list, which is the token's where there is one. Where there is none something was taken before
+-- The event is refused after some legal list, which is the list of the token if there is one. If
+-- there is none, something was taken before
 abbrev pub Refusals : Name → Event → Refused → Type 0
 Refusals name e r =
     (list : List Event) × IsLegal name.base list × IsLastingRefusalOf (after name.base list) e r.refusal
@@ -47,7 +49,8 @@ Refusals name e r =
 abbrev pub HasArea : Config → ℕ → Type 0
 HasArea config id = (a : AreaConfig) × Contains config.areas a × (a.id ≡ id)
 
--- What is due in the area after some legal list, which is the token's where there is one. Where there is none something was taken before
+-- The summaries due in the area after some legal list, which is the list of the token if there is
+-- one. If there is none, something was taken before
 abbrev pub IsDueListOf : Name → ℕ → DueList → Type 0
 IsDueListOf name area d =
     (list : List Event) × IsLegal name.base list × (d.serial ≡ name.base.serial + length list) × IsDueIn (after name.base list) area (Some d.list.items)

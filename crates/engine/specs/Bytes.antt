@@ -1,4 +1,4 @@
--- What the bytes of an LSA are answered.
+-- The answers to the bytes of an LSA.
 use Rattle.std.specs.Prelude.{ℕ, ◌≡◌, ◌⊎◌, List, Some, None}
 use Rattle.ospf_types.specs.declared.key.Scope.{Scope}
 use Rattle.ospf_types.specs.Lsa.{Lsa}
@@ -16,11 +16,12 @@ use Rattle.engine.specs.declared.bytes_fault.BytesFault.TheVariants as bytes
 abbrev pub AreReadAs : List ℕ → Lsa → Type 0
 AreReadAs given l = (fault_of given ≡ None) × Spells given l
 
--- the answer is that of the install of what is read
+-- the answer to the install of the LSA that is read
 abbrev pub AreInstalled : Name → Scope → List ℕ → Answer → Type 0
 AreInstalled name at given answer = (l : Lsa) × AreReadAs given l × Answers name (event.Install at l) answer
 
--- they have this fault as their first, or memory was refused; or the install of what is read is refused
+-- they have this fault as their first, or memory was refused; or the install of the LSA that is
+-- read is refused
 abbrev pub AreRefused : Name → Scope → List ℕ → BytesFault → Type 0
 AreRefused name at given (bytes.Wire f) = (fault_of given ≡ Some f) ⊎ ((f ≡ wire.Memory) × (fault_of given ≡ None))
 AreRefused name at given (bytes.Refused r) = (l : Lsa) × AreReadAs given l × Refusals name (event.Install at l) r

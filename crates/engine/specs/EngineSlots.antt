@@ -1,4 +1,4 @@
--- What the slot beside the lock keeps: an engine's state that lies there has the slot's name.
+-- The slot next to the lock: an engine's state in it has the slot's name.
 use Rattle.std.specs.Prelude.{◌≡◌, ◌≢◌, ℕ, [], ◌∷◌, Option, IfSome}
 use mathlib.Core.Option.{some}
 use Rattle.atomic_table.specs.Table.{State, Step, Me}

@@ -23,7 +23,8 @@ use Rattle.publication.specs.declared.published_table.Update.{Update}
 abbrev pub AreReaders : ℕ → Type 0
 AreReaders n = (0 < n) × (n ≤ 64)
 
--- an engine's state to its callers: the engine's name, the events since the engine was opened, how many of them table and due summaries are those after, and the published list
+-- An engine's state as its callers see it: the engine's name, the events since the engine was
+-- opened, how many of them the table and the due summaries reflect, and the published list.
 pub record Held : Type 0 where
   pub name : Name
   pub list : List Event
@@ -35,7 +36,8 @@ abbrev pub CatchesUp : Held → Status → Held → Type 0
 CatchesUp old Current new = new.built ≡ length new.list
 CatchesUp old Behind new = (new.built ≡ old.built) × (new.built < length new.list)
 
--- why an engine's state is not rolled: less is published than was taken, or it is not, and memory ran out
+-- the reason why an engine's state is not rolled: less is published than was taken; or otherwise
+-- memory ran out
 abbrev pub IsRollRefusal : Held → Refusal → Type 0
 IsRollRefusal d r = ((r ≡ refusal.NotCurrent) × (length d.published < length d.list)) ⊎ ((r ≡ refusal.Memory) × (d.published ≡ d.list))
 
@@ -49,8 +51,8 @@ pub record IsBegun (rolled : Line) (core : CoreValue) (list : List Event) : Type
   pub begins : IsPrefix list (list_of rolled core)
   pub built : length list ≤ length rolled.list + core.built
 
--- The core, the author of the history, the history at the last roll, what is shown, and what the writer knows. Nothing is said of updates that are
--- pending: a whole table clears.
+-- The core, the author of the history, the history at the last roll, the published table, and what
+-- the writer knows. Nothing is said of updates that are pending: a whole table clears.
 pub record IsKept (core : CoreValue) (history rolled : Line) (shown : PublishedTable) (known : Option Name) : Type 0 where
   pub book : history.book ≡ shown.front.book
   pub base : IsRolled shown.base standard_limits rolled.list core.base
@@ -60,13 +62,15 @@ pub record IsKept (core : CoreValue) (history rolled : Line) (shown : PublishedT
   pub published : IsBegun rolled core shown.front.list
   pub written : IsBegun rolled core history.list
 
--- where it is stale, less is published than was taken; else nothing is pending, and the published list and the author's are the whole list
+-- if it is stale, less is published than was taken; otherwise nothing is pending, and the published
+-- list and the author's are the whole list
 abbrev pub IsFresh : Bool → CoreValue → Line → Line → PublishedTable → List Update → Type 0
 IsFresh stale core history rolled shown pending =
     MatchBool stale (length shown.front.list < length (list_of rolled core))
     ((pending ≡ []) × (shown.front.list ≡ list_of rolled core) × (history.list ≡ list_of rolled core))
 
--- what changed may be published alone: nothing is pending, and the changes lead from what is shown to the table of the whole journal
+-- the changes may be published alone: nothing is pending, and they lead from the published table to
+-- the table of the whole journal
 abbrev pub CanFollow : CoreValue → PublishedTable → List Update → Type 0
 CanFollow core shown pending =
     (pending ≡ []) × (core.built ≡ length core.journal)
@@ -76,7 +80,8 @@ CanFollow core shown pending =
 abbrev pub Tells : Name → List Event → ℕ → TokenValue → Type 0
 Tells name list serial t = (t.name ≡ name) × IsPrefix t.list list × (serial ≡ name.base.serial + length t.list)
 
--- the serial of the last published event, of the last that table and due summaries follow, and of the last that was taken
+-- the serials of the last published event, of the last that the table and the due summaries
+-- reflect, and of the last that was taken
 abbrev pub published_serial : Held → ℕ
 published_serial d = d.name.base.serial + length d.published
 
@@ -86,7 +91,8 @@ built_serial d = d.name.base.serial + d.built
 abbrev pub last_serial : Held → ℕ
 last_serial d = d.name.base.serial + length d.list
 
--- it has this name, the events that were rolled and those of the core's journal, and follows as many as the core
+-- it has this name, the events that were rolled and those of the core's journal, and reflects as
+-- many as the core
 abbrev pub IsStateOf : Name → Line → CoreValue → Held → Type 0
 IsStateOf name rolled core d = (d.name ≡ name) × (d.list ≡ list_of rolled core) × (d.built ≡ length rolled.list + core.built)
 

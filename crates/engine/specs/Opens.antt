@@ -17,7 +17,8 @@ use Rattle.engine.specs.EngineStates.{AreReaders}
 use Rattle.engine.specs.declared.open_fault.OpenFault.{OpenFault}
 use Rattle.engine.specs.declared.open_fault.OpenFault.TheVariants as opens
 
--- a fault of the configuration before all others, then the number of readers, then what only want of memory, or of a place for a reader, can cause
+-- a fault of the configuration before all others, then the number of readers, then the faults that
+-- only a lack of memory, or of a place for a reader, can cause
 abbrev pub IsOpenFaultOf : Config → ℕ → OpenFault → Type 0
 IsOpenFaultOf config readers (opens.Config f) = (config_fault_of config ≡ Some f) ⊎ ((f ≡ Memory) × (config_fault_of config ≡ None) × AreReaders readers)
 IsOpenFaultOf config readers opens.Doubled = ⊥
@@ -30,7 +31,8 @@ open_fault_of (base_fault.Config f) = opens.Config f
 open_fault_of base_fault.Doubled = opens.Doubled
 open_fault_of (base_fault.EntryFault u) = opens.EntryFault u
 
--- the first fault of the base before all others, then the same. Before want of memory only a fault of the configuration is looked for
+-- The first fault of the base before all others, then the same. Before a lack of memory only a
+-- fault of the configuration is tested for.
 abbrev pub IsOpenFaultFrom : Base → ℕ → OpenFault → Type 0
 IsOpenFaultFrom base readers (opens.Config f) = (base_fault_of standard_limits base ≡ Some (base_fault.Config f)) ⊎ ((f ≡ Memory) × (config_fault_of base.config ≡ None))
 IsOpenFaultFrom base readers opens.Doubled = base_fault_of standard_limits base ≡ Some base_fault.Doubled
@@ -38,19 +40,19 @@ IsOpenFaultFrom base readers (opens.EntryFault u) = base_fault_of standard_limit
 IsOpenFaultFrom base readers opens.Readers = (base_fault_of standard_limits base ≡ None) × ((readers ≡ 0) ⊎ (64 < readers))
 IsOpenFaultFrom base readers opens.Place = (base_fault_of standard_limits base ≡ None) × AreReaders readers
 
--- it is that of a legal list
+-- the serial after a legal list
 abbrev pub IsRolledSerial : Base → ℕ → Type 0
 IsRolledSerial base serial = (list : List Event) × IsLegal base list × (serial ≡ base.serial + length list)
 
--- the configuration has no fault, and so many readers may be
+-- the configuration has no fault, and the number of readers is allowed
 abbrev pub CanOpen : Config → ℕ → Type 0
 CanOpen config readers = (config_fault_of config ≡ None) × AreReaders readers
 
--- the base has no fault, and so many readers may be
+-- the base has no fault, and the number of readers is allowed
 abbrev pub CanOpenFrom : Base → ℕ → Type 0
 CanOpenFrom base readers = (base_fault_of standard_limits base ≡ None) × AreReaders readers
 
--- what is found last of all: no place for a reader, or want of memory
+-- the faults that come last: no place for a reader, or a lack of memory
 abbrev pub IsLastFault : OpenFault → Type 0
 IsLastFault fault = (fault ≡ opens.Place) ⊎ (fault ≡ opens.Config Memory)
 

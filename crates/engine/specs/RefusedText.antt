@@ -1,4 +1,4 @@
--- What is printed of a refused event: number and name.
+-- The printed text of a refused event: number and name.
 use Rattle.std.specs.Prelude.{ℕ, List}
 use Rattle.event_state.specs.Texts.{refusal_text}
 use Rattle.engine.specs.declared.answer.Refused.{Refused}

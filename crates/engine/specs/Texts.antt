@@ -1,4 +1,4 @@
--- What is printed of the faults and refusals of an engine: number and name.
+-- The printed texts of the faults and refusals of an engine: number and name.
 use Rattle.std.specs.Prelude.{ℕ, List, codes}
 use Rattle.event_core.specs.Texts.{config_fault_text}
 use Rattle.lsa_codec.specs.Text.{wire_fault_text}

@@ -39,14 +39,14 @@ text_if_of format p c = if is_of p c then candidate_text format c else []
 abbrev pub offers_text : Format → Network → List Candidate → List ℕ
 offers_text format p candidates = flat_map (text_if_of format p) candidates
 
--- what the table has for the network, and what is offered of it; nothing where the table has nothing and nothing is offered
+-- the item of the network and its offers; nothing if there is neither
 abbrev pub network_text : Format → map.FinMap network_cmp Item → List Candidate → Network → List ℕ
 network_text format items candidates p =
     if is_some (map.get items p) || list_any (is_of p) candidates
     then network_line format p (map.get items p) ++ offers_text format p candidates
     else []
 
--- the match of the address, and then each network that contains the address, from 32 bits down to none
+-- the match of the address, and then each network that contains the address, from 32 bits down to 0
 abbrev pub explanation_text : Format → (address : ℕ) → TableValue → List Candidate → Match → List ℕ
 explanation_text format address t candidates found =
     lookup_line format address t.serial found ++ flat_map (network_text format t.items candidates) (networks_below address 33)

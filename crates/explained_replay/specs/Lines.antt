@@ -12,7 +12,7 @@ use Rattle.output_lines.specs.Members.{json_line}
 use Rattle.explained_replay.specs.Words as words
 use Rattle.explained_replay.specs.Objects as objects
 
--- what the table, which follows so many events, has for the address
+-- the match of the address in the table of this serial
 abbrev pub lookup_line : Format → (address serial : ℕ) → Match → List ℕ
 lookup_line Text address serial found = words.lookup_words address serial found ++ codes "\n"
 lookup_line Json address serial found = json_line (objects.lookup_data address serial found)

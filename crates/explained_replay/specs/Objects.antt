@@ -24,7 +24,7 @@ use Rattle.explanation.specs.declared.trace.Step.{Step}
 use Rattle.explained_replay.specs.Reasons.{is_taken, step_text, reason_text}
 use Rattle.explained_replay.specs.Words.{external_type}
 
--- what the table, which follows so many events, has for the address
+-- the match of the address in the table of this serial
 abbrev pub lookup_data : (address serial : ℕ) → Match → Data
 lookup_data address serial (found.Route p e) = object_of (
     (codes "address", address_data address)

@@ -1,4 +1,4 @@
--- What is answered behind the run of a recording.
+-- The answer after the run of a recording.
 use Rattle.std.specs.Prelude.{ℕ, ◌≡◌, List, Option}
 use Rattle.std.specs.Io.KnownBytes.{Appends}
 use Rattle.output_lines.specs.declared.format.Format.{Format}
@@ -56,7 +56,8 @@ pub record Explains (e : Explaining) (before after old new : Option (List ℕ)) 
   pub is : IsAnswered e recording answer
   pub written : Appends old new answer
 
--- all the bytes that a reader had were a recording, and a writer's known bytes grew by a beginning of the answer, and not by all of it
+-- all bytes of the reader were a recording, and the writer's known bytes grew by a beginning of the
+-- answer, and not by all of it
 pub record ExplainsPart (e : Explaining) (before after old new : Option (List ℕ)) : Type 0 where
   pub bytes : List ℕ
   pub read : ReadsAll before after bytes

@@ -23,7 +23,7 @@ use Rattle.explanation.specs.declared.trace.TraceNode.TheVariants as place
 use Rattle.explanation.specs.declared.trace.Step.{Step}
 use Rattle.explained_replay.specs.Reasons.{is_taken, step_text, reason_text}
 
--- what the table, which follows so many events, has for the address
+-- the match of the address in the table of this serial
 abbrev pub lookup_words : (address serial : ℕ) → Match → List ℕ
 lookup_words address serial found = codes "lookup " ++ address_text address ++ codes " " ++ decimal serial ++ codes " " ++ match_text found
 

@@ -1,4 +1,4 @@
--- What is explained of an address (RFC 2328, 11.1 and 16).
+-- The explanation of an address (RFC 2328, 11.1 and 16).
 use Rattle.std.specs.Prelude.{ℕ, ◌≡◌, ◌≢◌, List, [], ◌∷◌, ◌++◌, Contains, Option, Some, None, map}
 use Rattle.std.specs.List.Sorted.{IsStrictlySortedBy}
 use Rattle.ospf_types.specs.declared.entry.Entry.{Entry}
@@ -20,13 +20,14 @@ use Rattle.explanation.specs.Groups.{offers_for}
 use Rattle.explanation.specs.Networks.{IsJudgedAmong, all_offers, by_networks}
 use Rattle.explanation.specs.Outside.{AreTraces}
 
--- Of an offer that is taken, a trace for each of the paths that it gives to its network's route. Of others there is none.
+-- An offer that is taken has a trace for each of the paths that it gives to its network's route.
+-- Other offers have none.
 pub record AreTracesFor (w : Layers) (o : Offer) (f : Verdict) (traces : List Trace) : Type 0 where
   pub taken : f ≡ Taken → (e : Entry) → entry_at w.calculation.now o.network ≡ Some e → AreTraces w o e.paths traces
   pub no_route : entry_at w.calculation.now o.network ≡ None → traces ≡ []
   pub lost : f ≢ Taken → traces ≡ []
 
--- what became of the offer, beside just those of all for its network
+-- the verdict on the offer, among exactly the offers of all for its network
 pub record IsCandidate (w : Layers) (all : List Offer) (c : Candidate) : Type 0 where
   pub judged : IsJudgedAmong w all c.offer (record { cost = c.cost; verdict = c.verdict })
   pub traces : AreTracesFor w c.offer c.verdict c.traces.items
@@ -39,7 +40,8 @@ pub record AreCandidates (w : Layers) (all offers : List Offer) (candidates : Li
 abbrev pub offers_of : List Candidate → List Offer
 offers_of candidates = map (λ (c : Candidate). c.offer) candidates
 
--- They stand network by network, by addresses and then by lengths, and those of a network in the order of all offers.
+-- The candidates are in the order of their networks: by address, then by length. Those of one
+-- network are in the order of all offers.
 pub record AreInOrder (all : List Offer) (candidates : List Candidate) : Type 0 where
   pub networks : List Prefix
   pub ascend : IsStrictlySortedBy network_cmp networks
@@ -54,7 +56,7 @@ pub record IsExplained (s : State) (address : ℕ) (candidates : List Candidate)
   pub candidates_are : AreCandidates layers (all_offers layers address) (all_offers layers address) candidates
   pub in_order : AreInOrder (all_offers layers address) candidates
 
--- what became of this offer beside these rivals is added
+-- the verdict on this offer among these rivals is added
 abbrev pub AddsJudged : Layers → Option Entry → Option ℕ → Option ExternalKey → Offer → List Candidate → List Candidate → Type 0
 AddsJudged w internal greatest least o before after = (c : Candidate) × (c.offer ≡ o)
     × IsJudged w internal greatest least o (record { cost = c.cost; verdict = c.verdict }) × AreTracesFor w o c.verdict c.traces.items × (after ≡ before ++ c ∷ [])
@@ -63,7 +65,7 @@ AddsJudged w internal greatest least o before after = (c : Candidate) × (c.offe
 abbrev pub AddsCandidate : Layers → List Offer → Offer → List Candidate → List Candidate → Type 0
 AddsCandidate w all o before after = (c : Candidate) × IsCandidate w all c × (c.offer ≡ o) × (after ≡ before ++ c ∷ [])
 
--- what became of these offers is there too, beside that of others
+-- the verdicts on these offers are added to those on the others
 abbrev pub MakesMore : Layers → List Offer → List Offer → List Candidate → List Candidate → Type 0
 MakesMore w all group before after = (others : List Offer) → AreCandidates w all others before → AreCandidates w all (others ++ group) after
 

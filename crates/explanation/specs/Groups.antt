@@ -1,4 +1,4 @@
--- What is offered of some networks, network by network.
+-- The offers of some networks, network by network.
 use Rattle.std.specs.Prelude.{ℕ, ◌≡◌, ◌↔◌, Contains, List, [], ◌∷◌, ◌++◌, get_or, map, filter, slice_set}
 use Rattle.std.specs.List.{All}
 use Rattle.ospf_types.specs.declared.prefix.Prefix.{Prefix}

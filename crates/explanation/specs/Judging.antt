@@ -1,4 +1,4 @@
--- What becomes of an offer beside others for its network (RFC 2328, 16.1, 16.2 and 16.4).
+-- The verdict on an offer among others for its network (RFC 2328, 16.1, 16.2 and 16.4).
 use Rattle.std.specs.Prelude.{ℕ, ◌+◌, ◌*◌, ◌^◌, ◌≡◌, ◌≢◌, ◌<◌, ◌≤◌, ◌⊎◌, Bool, true, false, List, Contains, Option, Some, None}
 use Rattle.std.specs.declared.result.Result.{Result}
 use Rattle.std.specs.declared.result.Result.TheVariants.{Ok, Err}
@@ -20,7 +20,8 @@ use Rattle.explanation.specs.Offered.{IsExternalKey, IsStubCost, IsSummaryCost, 
 
 -- ---- AS-external-LSAs
 
--- a number that is less for what is preferred: type 1, then the metric of type 2, the class, and the cost
+-- a number that is less for the preferred one: type 1, then the metric of type 2, the class, and
+-- the cost
 abbrev pub type_rank : Bool → ℕ
 type_rank true = 1
 type_rank false = 0
@@ -71,7 +72,7 @@ pub record IsLeastKey (w : Layers) (offers : List Offer) (least : Option Externa
 abbrev pub IsTransitAt : Layers → Entry → Offer → Type 0
 IsTransitAt w e o = (o.kind ≡ kind.Transit) × ((area : ℕ) × (e.area ≡ Some area) × (o.source.scope ≡ Area area) × IsTransitCost w area o e.cost)
 
--- the greatest Link State ID of such a transit network among the offers; none where there is none
+-- the greatest Link State ID of such a transit network among the offers, or `None` if there is none
 pub record IsGreatestId (w : Layers) (e : Entry) (offers : List Offer) (greatest : Option ℕ) : Type 0 where
   pub no_greater : (o : Offer) → Contains offers o → IsTransitAt w e o → (id : ℕ) × (greatest ≡ Some id) × (o.source.key.id ≤ id)
   pub one : (id : ℕ) → greatest ≡ Some id → (o : Offer) × Contains offers o × IsTransitAt w e o × (o.source.key.id ≡ id)
@@ -88,11 +89,12 @@ abbrev pub IsSummary : OfferKind → Type 0
 IsSummary (kind.Summary metric) = Unit {0}
 IsSummary _ = ⊥
 
--- no summary beside an intra-area route (16.2 (6))
+-- a summary does not compete with an intra-area route (16.2 (6))
 abbrev pub IsComparable : Entry → Offer → Type 0
 IsComparable e o = IsSummary o.kind → e.kind ≢ Intra
 
--- within the AS, beside the route and such a transit network (16.1, 16.2), the first step that decides; where an offer has paths, there is a route
+-- within the AS, compared with the route and such a transit network (16.1, 16.2): the first step
+-- that decides. If an offer has paths, there is a route.
 abbrev pub IsFateWithin : Option Entry → Option ℕ → Offer → ℕ → ℕ → Verdict → Type 0
 IsFateWithin (Some e) greatest o area cost verdict.IntraArea = (e.kind ≡ Intra) × IsSummary o.kind
 IsFateWithin (Some e) greatest o area cost verdict.Costlier = (e.cost < cost) × IsComparable e o
@@ -102,7 +104,7 @@ IsFateWithin (Some e) greatest o area cost verdict.Taken = (cost ≤ e.cost) × 
 IsFateWithin None greatest o area cost verdict.Unreached = Unit {0}
 IsFateWithin _ greatest o area cost _ = ⊥
 
--- outside, beside a route within the AS and the least key (16.4 (6))
+-- outside, compared with a route within the AS and the least key (16.4 (6))
 abbrev pub IsFateOutside : Option Entry → Option ExternalKey → ExternalKey → Verdict → Type 0
 IsFateOutside (Some e) least key f = f ≡ verdict.Internal
 IsFateOutside None (Some other) key f = fate_beside key other f

@@ -1,4 +1,5 @@
--- What explanations rest on: a state, what is calculated from it, and its areas with their databases and trees.
+-- The inputs of explanations: a state, the results calculated from it, and its areas with their
+-- databases and trees.
 use Rattle.std.specs.Prelude.{ℕ, ◌≡◌, ◌⊎◌, ◌==◌, Bool, false, List, [], ◌∷◌, Contains, Option, Some, None}
 use Rattle.std.specs.FinMap.{get}
 use Rattle.ospf_types.specs.declared.entry.Vertex.{Vertex}
@@ -13,7 +14,7 @@ use Rattle.event_state.specs.States.{State}
 use Rattle.route_layers.specs.Trees.{areas_with}
 use Rattle.calculation.specs.Calculations.{CalculationValue, IsCalculationOf, entry_else}
 
--- what is calculated is that of the state, and so are the areas
+-- the results and the areas are those of the state
 pub record AreLayers (s : State) (c : CalculationValue) (areas : List AreaValue) : Type 0 where
   pub right : IsCalculationOf s c
   pub areas_are : areas ≡ areas_with s s.config.areas c.trees
@@ -34,11 +35,12 @@ HasArea areas id a = Contains areas a × (a.id ≡ id)
 abbrev pub LacksArea : List AreaValue → ℕ → Type 0
 LacksArea areas id = (a : AreaValue) → Contains areas a → a.id ≡ id → ⊥
 
--- the distance of the vertex in the area with this Area ID; none where there is no such area
+-- the distance of the vertex in the area with this Area ID, or `None` if there is no such area
 abbrev pub IsDistanceOf : List AreaValue → ℕ → Vertex → Option ℕ → Type 0
 IsDistanceOf areas id v distance = ((a : AreaValue) × HasArea areas id a × (distance ≡ distance_at a v)) ⊎ (LacksArea areas id × (distance ≡ None))
 
--- it is the key of the LSA that stands for the vertex in the area with this Area ID; none where none does
+-- the key of the LSA that describes the vertex in the area with this Area ID, or `None` if no LSA
+-- does
 abbrev pub IsKeyIn : AreaValue → Vertex → Option Key → Type 0
 IsKeyIn a v None = IsStanding a.lsas v None
 IsKeyIn a v (Some key) = IsStandingKey a.lsas v key × ((body : Body) × IsStanding a.lsas v (Some body))
@@ -50,7 +52,8 @@ IsKeyStanding areas id v key = ((a : AreaValue) × HasArea areas id a × IsKeyIn
 abbrev pub internal_at : CalculationValue → Prefix → Option Entry
 internal_at c p = entry_else (get c.intra.entries p) (get c.inter.entries (Net p))
 
--- Where these areas are active, the summary-LSAs of this one are examined: the only one, or the backbone (16.2).
+-- True if the summary-LSAs of this area are examined, with these areas active: the only one, or the
+-- backbone (16.2).
 abbrev pub is_examined : List ℕ → ℕ → Bool
 is_examined [] area = false
 is_examined (only ∷ []) area = only == area

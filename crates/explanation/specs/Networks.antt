@@ -1,4 +1,5 @@
--- What all databases offer of networks that contain an address, and what becomes of an offer beside the others for its network (RFC 2328, 11.1 and 16).
+-- The offers of all databases for networks that contain an address, and the verdict on an offer
+-- among the others for its network (RFC 2328, 11.1 and 16).
 use Rattle.std.specs.Prelude.{ℕ, Bool, List, ◌++◌, Option}
 use Rattle.std.specs.FinMap.{values}
 use Rattle.std.specs.List.{flat_map}
@@ -32,7 +33,7 @@ all_offers w address = all_wanted (is_around address) w
 abbrev pub by_networks : List Offer → List Prefix → List Offer
 by_networks all networks = flat_map (λ (p : Prefix). offers_for p all) networks
 
--- what the offer comes to, beside just those of all that are for its network
+-- the verdict on the offer among exactly the offers of all for its network
 pub record IsJudgedAmong (w : Layers) (all : List Offer) (o : Offer) (judged : Judged) : Type 0 where
   pub among : List Offer
   pub among_are : AreOfNetwork o.network all among

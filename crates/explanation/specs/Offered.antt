@@ -1,4 +1,5 @@
--- What an offer comes to by itself, whatever others offer (RFC 2328, 16.1, 16.2 and 16.4).
+-- The cost of an offer by itself, without other offers, or the reason why it has none (RFC 2328,
+-- 16.1, 16.2 and 16.4).
 use Rattle.std.specs.Prelude.{ℕ, ◌+◌, ◌≡◌, ◌≢◌, ◌<◌, ◌≤◌, ◌⊎◌, Bool, false, true, IsTrue, Contains, Option, Some, None, bit_and, if◌then◌else◌}
 use Rattle.std.specs.FinMap.{get, entries}
 use Rattle.ospf_types.specs.declared.config.Interface.{Interface}
@@ -34,7 +35,8 @@ IsOn area p i = (i.area ≡ area) × IsTrue i.up × LiesIn i p
 abbrev pub HasInterfaceOn : Layers → ℕ → Prefix → Type 0
 HasInterfaceOn w area p = (e : ℕ × Interface) × Contains (entries w.state.now.interfaces) e × IsOn area p e.1
 
--- the cost of a stub network: the distance of its router and the metric, or, of the root's own, the metric
+-- the cost of a stub network: the distance of its router and the metric, or only the metric for the
+-- root's own
 abbrev pub IsStubCost : Layers → ℕ → Offer → ℕ → ℕ → Type 0
 IsStubCost w area o metric cost = (o.age < MaxAge) × (
     ((o.source.key.router ≡ root_of w) × HasInterfaceOn w area o.network × (cost ≡ metric))
@@ -66,7 +68,8 @@ LacksTransitCost w area o _ = ⊥
 abbrev pub IsBorderReached : Layers → ℕ → ℕ → ReachedValue → Type 0
 IsBorderReached w area router r = (reached_at w.calculation.now.intra.areas area router ≡ Some r) × (0 < bit_and r.flags B)
 
--- an LSA that is passed over at once, and the first reason that holds: at LSInfinity, at MaxAge (1), or the router's own (2)
+-- an LSA that is skipped, and the first reason that holds: LSInfinity, MaxAge (1), or the router's
+-- own (2)
 abbrev pub IsUnfit : Layers → Offer → ℕ → Verdict → Type 0
 IsUnfit w o metric verdict.Infinity = LSInfinity ≤ metric
 IsUnfit w o metric verdict.MaxAge = (metric < LSInfinity) × (MaxAge ≤ o.age)
@@ -95,7 +98,7 @@ LacksSummaryCost w area o metric f = (is_examined w.active.now area ≡ true) ×
 
 -- ---- AS-external-LSAs (16.4)
 
--- the class and the distance of the AS boundary router, or of the forwarding address if there is one
+-- the class and the distance of the AS boundary router, or of the forwarding address if it has one
 abbrev pub LeadsAt : Layers → ℕ → ℕ → ℕ → ℕ → Type 0
 LeadsAt w router address class distance =
     ((address ≡ 0) × ((p : PreferredValue) × (get w.calculation.now.external.preferred router ≡ Some p) × (class ≡ p.preference.class) × (distance ≡ p.preference.cost)))

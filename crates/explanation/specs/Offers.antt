@@ -33,7 +33,7 @@ is_around address p = masked address p.length == p.address
 abbrev pub is_one_of : List Prefix → Prefix → Bool
 is_one_of networks p = list_any (λ q. is_same_prefix q p) networks
 
--- it stands at this place among these
+-- the index of the network in this list
 abbrev pub IsPlaceOf : List Prefix → Prefix → ℕ → Type 0
 IsPlaceOf networks p place = (place < length networks) × ((d : Prefix) → get_or networks place d ≡ p)
 
@@ -43,7 +43,7 @@ is_wanted (Among networks) p = is_one_of networks.now p
 
 -- ---- what LSAs offer of the networks at which a test gives true
 
--- the LSA offers the network in this trace, if it is asked for
+-- the LSA offers the network in this trace, if the network is wanted
 abbrev pub offer_if : (Prefix → Bool) → Scope → Lsa → Prefix → OfferKind → Option Offer
 offer_if wanted scope l p kind = if wanted p then Some (record { network = p; source = source_of scope l; age = l.header.age; kind = kind }) else None
 

@@ -1,4 +1,5 @@
--- The paths that an offer gives and their traces, inside an area and outside the AS (RFC 2328, 16.1, 16.2 and 16.4).
+-- The paths that an offer gives and their traces, inside an area and outside the AS (RFC 2328,
+-- 16.1, 16.2 and 16.4).
 use Rattle.std.specs.Prelude.{ℕ, ◌≡◌, ◌⊎◌, ◌<◌, List, [], ◌∷◌, ◌++◌, Contains, Option, Some, None, bit_and, map}
 use Rattle.std.specs.List.{All}
 use Rattle.std.specs.FinMap.{get}
@@ -42,8 +43,9 @@ use Rattle.explanation.specs.Traces.{AreOwnTraces, AreSteps, AreTracesBy, last_f
 abbrev pub IsOwnStub : Layers → Offer → Type 0
 IsOwnStub w o = ((metric : ℕ) × (o.kind ≡ kind.Stub metric)) × (o.source.key.router ≡ root_of w)
 
--- The traces of the paths that the offer gives in the area, in their order. The root's own stub network gives those over an interface on it. Any other offer gives those by
--- which the area's tree leads to the router or the transit network that it is of; those of a summary name its border router.
+-- The traces of the paths that the offer gives in the area, in their order. The root's own stub
+-- network gives those over an interface on it. Any other offer gives those by which the area's tree
+-- leads to its router or transit network. Those of a summary name its border router.
 abbrev pub AreWithin : Layers → ℕ → Offer → List Path → List Trace → Type 0
 AreWithin w area o paths traces = (IsOwnStub w o × AreOwnTraces w area o paths traces) ⊎ ((IsOwnStub w o → ⊥) × AreTracesBy w.areas.now area o paths traces)
 
@@ -58,12 +60,14 @@ IsBoundaryIn w router area = (p : PreferredValue) × (r : ReachedValue) × (get 
 abbrev pub external_path : Offer → NextHop → Path
 external_path o hop = record { hop = hop; advertiser = Some o.source.key.router }
 
--- the step from a border router to the AS boundary router, as the summary-LSA of the border router tells it
+-- the step from a border router to the AS boundary router, as the summary-LSA of the border router
+-- states it
 abbrev pub IsToldStep : Layers → ℕ → ℕ → ℕ → Step → Type 0
 IsToldStep w area border router step = (a : AreaValue) × (l : Lsa) × HasArea w.areas.now area a × (get a.lsas (record { kind = 4; id = router; router = border }) ≡ Some l) × (l.header.age < MaxAge)
     × (metric_of l.body ≡ Some step.cost) × (step.source ≡ source_of (Area area) l) × (step.from ≡ place.Vertex (Router border)) × (step.to ≡ place.Vertex (Router router))
 
--- the path names a border router of the area whose summary-LSA tells of the AS boundary router (16.2)
+-- the path names a border router of the area whose summary-LSA leads to the AS boundary router
+-- (16.2)
 abbrev pub IsToldOver : Layers → ℕ → Offer → Path → Type 0
 IsToldOver w area o within = (border : ℕ) × (told : Step) × (within.advertiser ≡ Some border) × IsToldStep w area border o.source.key.router told
 
@@ -118,7 +122,8 @@ GivesTaken w by traces =
     ((area : ℕ) × (e : Entry) × IsInRoute w by area e × IsTakenAmong w (all_offers w by.network.address) by × AreWithin w area by e.paths traces)
     ⊎ (((area : ℕ) (e : Entry) → IsInRoute w by area e → IsTakenAmong w (all_offers w by.network.address) by → ⊥) × (traces ≡ []))
 
--- the traces to the network: of each offer of it that is taken one for each of the paths that it gives to the route within the AS, in the order of the offers and of the paths
+-- The traces to the network. Each offer of it that is taken has one for each of the paths that it
+-- gives to the route within the AS. They are in the order of the offers and of the paths.
 abbrev pub AreNetworkTraces : Layers → Prefix → List Trace → Type 0
 AreNetworkTraces w p traces = AreOfEach (GivesTaken w) (offers_for p (all_offers w p.address)) traces
 
@@ -138,7 +143,8 @@ AreForwarded w address o paths traces =
 
 -- ---- of any offer
 
--- By its forwarding address, if it has one. Else in the area where the AS boundary router is reached, or, where it is in none, by way of border routers that tell of it.
+-- By its forwarding address, if it has one. Otherwise in the area where the AS boundary router is
+-- reached. If it is reached in none, over border routers that advertise it.
 abbrev pub AreOutside : Layers → ℕ → Offer → List Path → List Trace → Type 0
 AreOutside w address o paths traces =
     ((address ≡ 0) × ((area : ℕ) × IsBoundaryIn w o.source.key.router area × AreTracesBy w.areas.now area o paths traces))

@@ -55,15 +55,17 @@ IsOneMore a l before after = (step : Step) × IsLinkStep a l step × (after ≡ 
 abbrev pub AreLinksIn : AreaValue → List (Bor Link) → Type 0
 AreLinksIn a links = (l : Bor Link) → Contains links l → LinksOf a.tree.area.graph l.now.from l.now.to l.now.cost l.now.label
 
--- the steps of a path of least cost to the vertex, by which it has this next hop; none just where it has it not
+-- the steps of a path of least cost to the vertex by this next hop, or no steps exactly if it has
+-- not this next hop
 abbrev pub AreStepsIn : AreaValue → Vertex → NextHop → List Step → Type 0
 AreStepsIn a v h steps = (links : List Link) × IsPathOver a.tree.area.graph v h links × AreLinkSteps a links steps
 
--- in the area with this Area ID; none where there is no such area
+-- in the area with this Area ID, or none if there is no such area
 abbrev pub AreSteps : List AreaValue → ℕ → Vertex → NextHop → List Step → Type 0
 AreSteps areas id v h steps = ((a : AreaValue) × HasArea areas id a × AreStepsIn a v h steps) ⊎ (LacksArea areas id × (steps ≡ []))
 
--- A trace to the vertex in the area with this Area ID, and on: the steps of a path there by the next hop, and then these. Its path names the advertiser.
+-- A trace to the vertex in the area with this Area ID, and on: the steps of a path there by the
+-- next hop, and then these. Its path names the advertiser.
 pub record IsTraceTo (areas : List AreaValue) (id : ℕ) (v : Vertex) (advertiser : Option ℕ) (on : List Step) (w : Trace) : Type 0 where
   pub names : w.path.advertiser ≡ advertiser
   pub steps : List Step
@@ -71,7 +73,8 @@ pub record IsTraceTo (areas : List AreaValue) (id : ℕ) (v : Vertex) (advertise
   pub some : steps ≢ []
   pub whole : w.steps.items ≡ steps ++ on
 
--- The path leads to the vertex in that area: it names the advertiser, and its next hop is one of the vertex.
+-- The path leads to the vertex in that area: it names the advertiser, and its next hop is one of
+-- the vertex.
 abbrev pub LeadsTo : List AreaValue → ℕ → Vertex → Option ℕ → Path → Type 0
 LeadsTo areas id v advertiser path = (path.advertiser ≡ advertiser) × ((a : AreaValue) × HasArea areas id a × HasHop a.tree.area.graph v path.hop)
 

@@ -1,3 +1,5 @@
+//! The verdicts on offers, each with the step of RFC 2328 that decides it (16.1 to 16.4, 16.8).
+
 /// The verdict on an offer, with the step of RFC 2328 that decides it.
 #[derive(Clone, Copy, Debug, PartialEq, Eq)]
 pub enum Verdict {

@@ -1,4 +1,5 @@
--- What is taken of an input. Its bytes are those that are pending, and behind them those that the reader has left.
+-- The bytes that are taken of an input: first the pending bytes, then those that the reader has
+-- left.
 use Rattle.std.specs.Prelude.{ℕ, ◌≡◌, ◌≢◌, List, [], ◌∷◌, ◌++◌, Option, Result, MatchResult}
 use Rattle.std.specs.Io.KnownBytes.{Consumes, IsAtEnd, prepend_known}
 use Rattle.input_reading.specs.Shortened.{shortened}
@@ -48,11 +49,12 @@ TakesNext old before new after line End = TakesNone old before new after line
 abbrev pub Loses : (old : List ℕ) (before : Option (List ℕ)) (new : List ℕ) (after : Option (List ℕ)) → Type 0
 Loses old before new after = (lost : List ℕ) × Takes old before new after lost
 
--- what a call of `next` takes of the input, and the line that it hands on; if it fails, some bytes are lost
+-- the bytes that a call of `next` takes of the input, and the line that it returns; if it fails,
+-- some bytes are lost
 abbrev pub TakesLine : (old : List ℕ) (before : Option (List ℕ)) (new : List ℕ) (after : Option (List ℕ)) (line : List ℕ) → Result Next ReadFault → Type 0
 TakesLine old before new after line result = MatchResult result (TakesNext old before new after line) (λ _. Loses old before new after)
 
--- what is taken of an input that ends behind these bytes, which have no line feed
+-- the result for an input that ends after these bytes, which have no line feed
 abbrev pub EndsAs : (raw line : List ℕ) → Next → Type 0
 EndsAs raw line Line = ⊥
 EndsAs raw line Cut = (raw ≢ []) × (line ≡ shortened raw)

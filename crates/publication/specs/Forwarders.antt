@@ -1,4 +1,4 @@
--- What a forwarder knows, and what it sees.
+-- The knowledge of a forwarder, and its lookups.
 use Rattle.std.specs.Prelude.{ℕ, ◌≡◌, List}
 use mathlib.Core.List.{IsPrefix}
 use Rattle.event_state.specs.declared.event.Event.{Event}
@@ -17,6 +17,7 @@ pub record SeenValue : Type 0 where
   pub address : ℕ
   pub table : TableValue
 
--- the table is right for a legal list, which begins with all that the forwarder saw or learned before
+-- the table is right for a legal list, which begins with all that the forwarder saw or learned
+-- before
 abbrev pub IsLookup : ForwarderValue → ℕ → SeenValue → Type 0
 IsLookup f address s = (s.name ≡ f.name) × (s.address ≡ address) × IsPrefix f.known s.list × IsTableFor s.name.base s.list s.table

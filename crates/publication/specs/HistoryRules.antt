@@ -10,7 +10,7 @@ use Rattle.publication.specs.Lines.{Line}
 abbrev pub IsHome : List Cell → ℕ → Type 0
 IsHome cells key = (cell cells key).1 ≡ true
 
--- The first word is at home, and so is that of each pen that wrote
+-- The first word is at home, and so is the word of each pen that wrote
 pub record IsKept (cells : List Cell) (log : List Page) : Type 0 where
   pub some : 0 < length cells
   pub head : IsHome cells 0
@@ -50,11 +50,11 @@ Makes s v found w = w.1.0.right ≡ may_make
 abbrev pub AreOthers : ℕ → List Page → Type 0
 AreOthers key = AllByRecursion (λ p. p.pen ≢ key)
 
--- this is the first page of its pen, behind all that had been seen
+-- this is the first page of its pen, after all that had been seen
 abbrev pub IsWritten : List Page → Page → List Page → Type 0
 IsWritten seen page now = (log : List Page) × (now ≡ log ++ page ∷ []) × IsPrefix seen log × AreOthers page.pen log
 
--- the pen wrote nothing of what is seen then, and is as it was
+-- the pen wrote nothing of the pages that are seen then, and it is unchanged
 abbrev pub Looks : Step Page → View Page ℕ → ℕ → View Page ℕ → Type 0
 Looks s v found w = AreOthers v.1.0.key w.0 × (w.1.0 ≡ v.1.0)
 

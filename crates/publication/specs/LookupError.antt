@@ -9,7 +9,8 @@ abbrev pub forwarder_in : LookupError → ForwarderValue
 forwarder_in (NoEntry f) = f
 forwarder_in (Shorter f told) = f
 
--- The forwarder comes back as it was. Where a table was shown, its list is shorter than what the forwarder knows
+-- The forwarder comes back unchanged. If a table was entered, its list is shorter than the list
+-- that the forwarder knows
 abbrev pub IsLookupError : ForwarderValue → LookupError → Type 0
 IsLookupError f (NoEntry g) = g ≡ f
 IsLookupError f (Shorter g told) = (g ≡ f) × (told.name ≡ f.name) × (length told.list < length f.known)

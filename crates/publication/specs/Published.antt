@@ -17,7 +17,8 @@ use Rattle.publication.specs.Names.{Name}
 abbrev pub IsLegal : Base → List Event → Type 0
 IsLegal base list = IsLegalList base standard_limits list
 
--- the table is right after these events, and has the serial of the last; and each of them could be taken where it stands
+-- the table is right after these events, and has the serial of the last; and each of them could be
+-- taken at its place
 abbrev pub IsTableFor : Base → List Event → TableValue → Type 0
 IsTableFor base list table = IsLegal base list × IsRoutingTable (inputs_of (run_of base standard_limits list)) (base.serial + length list) table
 
@@ -32,11 +33,13 @@ name_of x = record { book = x.front.book; base = x.base }
 abbrev pub Holds : PublishedTable → List (Option Name) → Type 0
 Holds x views = IsShownRight x × ((seat : ℕ) (n : Name) → get_elem? views seat ≡ some (Some n) → n ≡ name_of x)
 
--- what is shown after the step is right, and its name is known, and was the name before; its list begins with that of before
+-- the published table after the step is right, and its name is known, and was the name before; its
+-- list begins with the list of before
 abbrev pub Saw : Option Name → PublishedTable → PublishedTable → Option Name → Type 0
 Saw v x y w = (w ≡ Some (name_of y)) × IsShownRight y × ((n : Name) → v ≡ Some n → n ≡ name_of y) × IsPrefix x.front.list y.front.list
 
--- where it is done, this list is shown with a table that is right for it; else what was shown before
+-- if it is done, this list is published with a table that is right for it; otherwise nothing has
+-- changed
 abbrev pub IsPublished : Bool → Line → PublishedTable → PublishedTable → Type 0
 IsPublished done list before after = MatchBool done ((after.front ≡ list) × IsShownRight after) (after ≡ before)
 

@@ -1,4 +1,4 @@
--- What an update does to what readers are shown.
+-- The effect of an update on the table that readers see.
 use Rattle.std.specs.Prelude.{◌≡◌, ℕ, List, [], ◌∷◌, ◌++◌, map, Option, Some}
 use Rattle.std.specs.FinMap.{FinMap, get, entries}
 use Rattle.event_state.specs.declared.base.Base.{Base}
@@ -31,7 +31,7 @@ pub record IsRightState (line : Line) (base : Base) (f : PublishedState) : Type 
 abbrev pub ends : ℕ → Line → List Update
 ends serial line = update.Change (Serial serial) ∷ update.List line ∷ []
 
--- those that give each of these networks what stands beside it
+-- those that give each of these networks the item that is paired with it
 abbrev pub gifts : List (Network × Option Item) → List Update
 gifts items = map (λ c. update.Change c) (changes_to items)
 
@@ -43,7 +43,8 @@ all_of items = map (λ e. (e.0, Some e.1)) (entries items)
 abbrev pub those_of : FinMap network_cmp Item → List Network → List (Network × Option Item)
 those_of items networks = map (λ p. (p, get items p)) networks
 
--- the updates that carry a whole table: the first clears, so what they give rests on nothing before them
+-- the updates that carry a whole table: the first clears, so their result depends on nothing before
+-- them
 abbrev pub whole : TableValue → Line → List Update
 whole table line = update.Change Clear ∷ (gifts (all_of table.items) ++ ends table.serial line)
 
@@ -51,6 +52,6 @@ whole table line = update.Change Clear ∷ (gifts (all_of table.items) ++ ends t
 abbrev pub deltas : List Network → TableValue → Line → List Update
 deltas networks table line = gifts (those_of table.items networks) ++ ends table.serial line
 
--- these updates have come behind those that were pending
+-- these updates were appended to those that were pending
 abbrev pub AreAppended : List Update → List Update → List Update → Type 0
 AreAppended more before after = after ≡ before ++ more

@@ -18,12 +18,23 @@
 //!
 //! `publish_table_changes` makes one change for each network that changed: set, drop or discard.
 //! Its cost follows the changes. `publish_table` clears the table and publishes all of it, so its
-//! result does not depend on updates that were pending.
+//! result does not depend on updates that were pending. An engine that always published all of it
+//! would meet every clause. So `Seen::changes` counts the changes, and tests compare the counts.
 //!
 //! A token (`Told`) stands for a published history, of which only the length and the serial are
 //! stored. A forwarder keeps the longest history that it has seen or learned of. It never accepts a
 //! table with a shorter one. All of these histories are prefixes of one, which exists only in the
 //! proofs.
+//!
+//! The published history only grows. It is never longer than the history that the core's table
+//! reflects: a publication follows the core.
+//!
+//! The name of an engine is its history and the base that it was opened with. It has no bytes.
+//! Tokens and forwarders carry it, and `learn` requires that the two names are equal.
+//!
+//! A token is given only after its publication. So a published table never lacks events that its
+//! forwarder knows, but no clause of the two copies says so: `LookupError` has that case too. Tests
+//! show that `NoEntry` comes only after the writer has gone.
 #![tactic(auto)]
 
 mod forwarder;

@@ -1,4 +1,7 @@
 //! Tokens of an engine's published history.
+//!
+//! A token holds a prefix of the history, a book that only grows (`logbook`). Two tokens of one
+//! book are prefixes of one history: that is the rule of the book, and takes no step.
 ghost use Rattle.std.specs.Prelude.{◌≡◌, ◌+◌, length};
 ghost use Rattle.publication.specs.Published.{IsLegal};
 ghost use Rattle.publication.specs.Told.{TokenValue};

@@ -1,9 +1,10 @@
--- What is shown of how much is done.
+-- The progress of a run, as it is shown.
 use Rattle.std.specs.Prelude.{ℕ, ◌≡◌, ◌++◌, ◌%◌, ◌==◌, ◌&&◌, ◌||◌, Bool, false, ◌+◌, zero, suc, List, [], ◌∷◌, Option, Some, None, codes, decimal, if◌then◌else◌}
 use Rattle.std.specs.Io.KnownBytes.{Appends}
 use Rattle.replay.specs.declared.progress.Progress.{Progress}
 
--- on a line that is written over: so many lines are done, of how many where that is known
+-- on a line that is overwritten: the number of lines done, and the number of all lines if it is
+-- known
 abbrev pub progress_text : Option ℕ → ℕ → List ℕ
 progress_text (Some all) done = codes "\r" ++ decimal done ++ codes " of " ++ decimal all ++ codes " lines"
 progress_text None done = codes "\r" ++ decimal done ++ codes " lines"
@@ -12,7 +13,7 @@ abbrev pub is_all : Option ℕ → ℕ → Bool
 is_all (Some all) done = done == all
 is_all None done = false
 
--- it is shown behind each thousand lines, and behind the last
+-- it is shown after each thousand lines, and after the last
 abbrev pub is_due : Progress → ℕ → Bool
 is_due p done = p.is_shown && (done % 1000 == 0 || is_all p.all done)
 
@@ -23,7 +24,7 @@ pub record AppendsSome (old new : Option (List ℕ)) (text : List ℕ) : Type 0 
   pub joined : text ≡ part ++ rest
   pub written : Appends old new part
 
--- It is shown that so many lines are done. Where it is not to be shown, nothing is written.
+-- The number of lines done is shown. If it is not to be shown, nothing is written.
 pub record Shows (p : Progress) (done : ℕ) (old new : Option (List ℕ)) : Type 0 where
   pub shown : AppendsSome old new (if is_due p done then progress_text p.all done else [])
   pub silent : p.is_shown ≡ false → new ≡ old
@@ -38,16 +39,17 @@ abbrev pub ShowsEach : Progress → List ℕ → (old new : Option (List ℕ)) �
 ShowsEach p [] old new = new ≡ old
 ShowsEach p (done ∷ numbers) old new = (mid : Option (List ℕ)) × Shows p done old mid × ShowsEach p numbers mid new
 
--- it is shown how much is done, at some places
+-- the progress is shown at some numbers
 abbrev pub IsProgress : Progress → (old new : Option (List ℕ)) → Type 0
 IsProgress p old new = (numbers : List ℕ) × ShowsEach p numbers old new
 
--- so many lines are run, the first of this number, and behind each it is shown how many are done
+-- this number of lines is run, the first of which has the given number; after each the progress is
+-- shown if it is due
 abbrev pub ShowsFrom : Progress → (number count : ℕ) → (old new : Option (List ℕ)) → Type 0
 ShowsFrom p number zero old new = new ≡ old
 ShowsFrom p number (suc count) old new = (mid : Option (List ℕ)) × Shows p number old mid × ShowsFrom p (number + 1) count mid new
 
--- it is shown, or not, how much is done, line by line
+-- the progress is shown, or not, line by line
 pub record ShowsProgress (is_shown : Bool) (old new : Option (List ℕ)) : Type 0 where
   pub progress : Progress
   pub same : progress.is_shown ≡ is_shown

@@ -1,4 +1,4 @@
--- What a replay reads.
+-- The input of a replay.
 use Rattle.std.specs.Prelude.{ℕ, List, Option}
 use Rattle.std.specs.Io.KnownBytes.{Consumes, IsAtEnd}
 

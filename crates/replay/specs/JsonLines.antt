@@ -118,7 +118,7 @@ fault_data l = object_of (
 
 -- ---- what is shown at the end
 
--- so many events were taken, and so many of them the table follows
+-- the number of events taken, and the number of those that the table reflects
 abbrev pub serial_data : (serial built : ℕ) → Data
 serial_data serial built = object_of (
     (codes "built", number_data built)

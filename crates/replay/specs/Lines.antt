@@ -31,11 +31,11 @@ use Rattle.recording.specs.declared.version.Version.{Version}
 use Rattle.output_lines.specs.Members.{json_line}
 use Rattle.replay.specs.JsonLines.{lookup_data, refused_data, behind_data, serial_data, item_data, shown_due_data, lsa_data, recorded_data}
 
--- the number, in its recording, of the first line behind the base
+-- the number, in its recording, of the first line after the base
 abbrev pub first_number : Version → Base → ℕ
 first_number v base = length (front_forms v base) + 1
 
--- the match of the address in the table that follows so many events
+-- the match of the address in the table of this serial
 abbrev pub lookup_line : Format → (number address serial : ℕ) → Match → List ℕ
 lookup_line Text number address serial found =
     decimal number ++ codes " lookup " ++ address_text address ++ codes " " ++ decimal serial ++ codes " " ++ match_text found ++ codes "\n"
@@ -49,7 +49,7 @@ abbrev pub behind_line : Format → ℕ → List ℕ
 behind_line Text number = decimal number ++ codes " behind\n"
 behind_line Json number = json_line (behind_data number)
 
--- nothing where the table is that of the state now
+-- nothing if the table is that of the present state
 abbrev pub standing_line : Format → ℕ → Status → List ℕ
 standing_line format number Current = codes ""
 standing_line format number Behind = behind_line format number
@@ -64,7 +64,7 @@ abbrev pub roll_line : Format → ℕ → Result ℕ Refusal → List ℕ
 roll_line format number (Ok serial) = codes ""
 roll_line format number (Err refusal) = refused_line format number refusal
 
--- so many events were taken, and so many of them the table follows
+-- the number of events taken, and the number of those that the table reflects
 abbrev pub counts_line : Format → (serial built : ℕ) → List ℕ
 counts_line Text serial built = codes "serial " ++ decimal serial ++ codes " built " ++ decimal built ++ codes "\n"
 counts_line Json serial built = json_line (serial_data serial built)
@@ -114,7 +114,7 @@ abbrev pub event_line : Format → Event → List ℕ
 event_line Text e = ended (event_form e)
 event_line Json e = recorded_line (event_form e)
 
--- lines of a recording, one behind the other
+-- lines of a recording, one after the other
 abbrev pub forms_text : Format → List Form → List ℕ
 forms_text Text forms = text_of_forms forms
 forms_text Json forms = flat_map recorded_line forms
@@ -123,7 +123,7 @@ forms_text Json forms = flat_map recorded_line forms
 abbrev pub recorded_text : Format → RecordingValue → List ℕ
 recorded_text format r = forms_text format (forms_of r)
 
--- the text is that of lines of a recording
+-- the text of lines of a recording
 pub record IsTextOf (text : List ℕ) (forms : List Form) : Type 0 where
   pub spelled : text ≡ text_of_forms forms
   pub legal : All IsForm forms

@@ -1,4 +1,4 @@
--- What a replay prints.
+-- The output of a replay.
 use Rattle.std.specs.Prelude.{ℕ, ◌≡◌, ◌++◌, List, All, Option, map}
 use Rattle.std.specs.List.{flat_map}
 use Rattle.std.specs.FinMap.{entries}
@@ -37,8 +37,9 @@ recording_of v base lines = record { version = v; base = base; lines = lines }
 abbrev pub journal_of : Version → CoreValue → RecordingValue
 journal_of v c = record { version = v; base = c.base; lines = map line.Event c.journal }
 
--- The text after the run: the lines of the run, how far it came, and what is shown. What is due is shown in the order of the areas, which ascend in a
--- recording. The journal is shown alone, behind its base, in the version of the recording.
+-- The text after the run: the lines of the run, the serials, and the state that is shown. Due
+-- summaries are shown in the order of the areas, which ascend in a recording. The journal is shown
+-- alone, after its base, in the version of the recording.
 abbrev pub IsShown : Version → Show → Format → (printed : List ℕ) → CoreValue → (text : List ℕ) → Type 0
 IsShown v show.Routes format printed c text = text ≡ printed ++ serial_line format c ++ flat_map (item_line format) (entries c.table.items)
 IsShown v show.Due format printed c text = text ≡ printed ++ serial_line format c ++ flat_map (area_lines format) c.summaries
@@ -46,8 +47,10 @@ IsShown v show.Lsdb format printed c text =
     (lsas : List (Scope × Lsa)) × AreLsas (state_of c) lsas × (text ≡ printed ++ serial_line format c ++ flat_map (lsa_line format) lsas)
 IsShown v show.Journal format printed c text = text ≡ recorded_text format (journal_of v c)
 
--- The output of a recording, printed so, where its events and rolls had these answers: of the events that the databases take, some may have been refused for
--- want of memory, and some answered Behind; a roll may have been refused for want of memory. Each of these is one of the answers.
+-- The output of a recording with these options, if its events and rolls had these answers. Some of
+-- the events that the databases take may have been refused because memory ran out, and some
+-- answered Behind. A roll may have been refused because memory ran out. Each of these is one of the
+-- answers.
 pub record IsOutput (r : RecordingValue) (p : PrintOptions) (answers : Answers) (text : List ℕ) : Type 0 where
   pub printed : List ℕ
   pub closed : CoreValue
@@ -61,8 +64,8 @@ pub record IsCutOutput (why : PrintError) (r : RecordingValue) (p : PrintOptions
   pub output : IsOutput r p answers whole
   pub part : IsBeginning why text whole
 
--- A journal that is shown lacks no event for want of memory: memory ran out over none of the lines. The other shows print at its line why an event was
--- refused; the journal is shown alone, and nothing else would tell.
+-- A journal that is shown lacks no event for which memory ran out. The other shows print at its
+-- line why an event was refused; the journal is shown alone, without such lines.
 abbrev pub LosesNoEvent : Show → Answers → Type 0
 LosesNoEvent show.Routes answers = Unit {0}
 LosesNoEvent show.Due answers = Unit {0}
@@ -81,7 +84,8 @@ pub record Replays (p : PrintOptions) (before after : Option (List ℕ)) (old ne
   pub is : IsOutput recording p answers output
   pub written : Appends old new output
 
--- all the bytes that a reader had were a recording, and a writer's known bytes grew by the beginning of its output that such a stop leaves
+-- all bytes of the reader were a recording, and the writer's known bytes grew by the beginning of
+-- its output that such a stop leaves
 pub record ReplaysPart (why : PrintError) (p : PrintOptions) (before after : Option (List ℕ)) (old new : Option (List ℕ)) : Type 0 where
   pub bytes : List ℕ
   pub read : ReadsAll before after bytes

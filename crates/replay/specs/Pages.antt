@@ -12,8 +12,9 @@ use Rattle.replay.specs.Runs.{Answer, Answers, OfEvent, OfRoll, Prints, RollsBy}
 use Rattle.replay.specs.Stops.{AreWhole, IsBeginning}
 use Rattle.replay.specs.declared.buffer.PrintError.{PrintError}
 
--- The text, which is whole lines, was printed: what a writer's known bytes grew by, and behind it the buffer now, is the buffer of before with the text
--- behind it. Where the buffer of before was whole lines, so is what was written.
+-- The text, which is whole lines, was printed. The growth of the writer's known bytes, followed by
+-- the buffer now, is the buffer before, followed by the text. If the buffer before was whole lines,
+-- so is the written part.
 pub record Adds (old new : Option (List ℕ)) (before buffer text : List ℕ) : Type 0 where
   pub written : List ℕ
   pub appended : Appends old new written
@@ -29,7 +30,7 @@ pub record AddsPart (why : PrintError) (old new : Option (List ℕ)) (whole : Li
 
 -- ---- runs
 
--- the line of this number was run, and what it printed stands behind the text of before
+-- the line of this number was run, and its output was appended to the text
 pub record RanLine (format : Format) (old : CoreValue) (number : ℕ) (line : Line) (new : CoreValue) (before after : List ℕ) : Type 0 where
   pub answers : Answers
   pub text : List ℕ
@@ -44,7 +45,7 @@ pub record Ran (format : Format) (old : CoreValue) (number : ℕ) (lines : List 
   pub run : Prints format old number lines answers text new
   pub printed : Adds from to before buffer text
 
--- so many of the lines were run, and a beginning of what they printed was written
+-- this number of lines was run, and a beginning of their output was written
 pub record RanPart (why : PrintError) (format : Format) (old : CoreValue) (number : ℕ) (lines : List Line) (from to : Option (List ℕ)) (before : List ℕ) : Type 0 where
   pub count : ℕ
   pub answers : Answers
@@ -53,14 +54,15 @@ pub record RanPart (why : PrintError) (format : Format) (old : CoreValue) (numbe
   pub run : Prints format old number (take count lines) answers text now
   pub part : AddsPart why from to (before ++ text)
 
--- memory did not run out over this line: an event was taken, or refused for another reason, and a roll was done (it is refused for nothing else)
+-- memory did not run out over this line: an event was taken, or refused for another reason, and a
+-- roll was done (a refusal has no other reason)
 abbrev pub HadMemory : Answer → Type 0
 HadMemory (OfEvent (Ok reply)) = Unit {0}
 HadMemory (OfEvent (Err why)) = why ≢ refusal.Memory
 HadMemory (OfRoll (Ok serial)) = Unit {0}
 HadMemory (OfRoll (Err why)) = ⊥
 
--- the event was applied, and was not refused for want of memory
+-- the event was applied, and was not refused because memory ran out
 abbrev pub TakesEvent : CoreValue → Event → CoreValue → Type 0
 TakesEvent old e new = (answer : Result Reply Refusal) × Applies old e answer new × HadMemory (OfEvent answer)
 
@@ -68,6 +70,7 @@ TakesEvent old e new = (answer : Result Reply Refusal) × Applies old e answer n
 abbrev pub TakesRoll : CoreValue → CoreValue → Type 0
 TakesRoll old new = (serial : ℕ) × RollsBy old (Ok serial) new
 
--- the lines lead from one core to the other, whatever their numbers and in whatever form they are printed, and memory ran out over none of them
+-- the lines lead from one core to the other, whatever their numbers and their printed form, and
+-- memory ran out over none of them
 abbrev pub IsRunTo : CoreValue → List Line → CoreValue → Type 0
 IsRunTo old lines new = (format : Format) (number : ℕ) → (answers : Answers) × (text : List ℕ) × Prints format old number lines answers text new × All HadMemory answers

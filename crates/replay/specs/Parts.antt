@@ -17,7 +17,7 @@ use Rattle.replay.specs.Inputs.{ReadsAll}
 use Rattle.replay.specs.Stops.{IsBeginning}
 use Rattle.replay.specs.Outputs.{IsRun, IsOutput, IsCutOutput, LosesNoEvent}
 
--- all the bytes that a reader had were the recording's text; its lines are few enough to be numbered
+-- all bytes of the reader were the recording's text, and its lines are few enough to be numbered
 pub record IsRead (before after : Option (List ℕ)) (r : RecordingValue) : Type 0 where
   pub bytes : List ℕ
   pub read : ReadsAll before after bytes
@@ -61,7 +61,8 @@ PrintsRun show.Due = Unit {0}
 PrintsRun show.Lsdb = Unit {0}
 PrintsRun show.Journal = ⊥
 
--- the run came so far, where its lines are printed, and the text is the beginning of what these printed
+-- the run came this far, with a show that prints its lines, and the text is the beginning of their
+-- output
 pub record IsCutRun (why : PrintError) (r : RecordingValue) (p : PrintOptions) (text : List ℕ) : Type 0 where
   pub prints : PrintsRun p.show
   pub count : ℕ

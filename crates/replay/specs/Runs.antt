@@ -22,7 +22,8 @@ pub data Answer : Type 0 where
 abbrev pub Answers : Type 0
 Answers = List Answer
 
--- A core whose table and due summaries are those of the whole journal is rolled, and answers its serial. A refusal leaves everything as it was.
+-- A core whose table and due summaries reflect the whole journal is rolled, and returns its serial.
+-- A refusal changes nothing.
 abbrev pub RollsBy : CoreValue → Result ℕ Refusal → CoreValue → Type 0
 RollsBy old (Ok serial) new = IsCurrent old × Rolls old new × (serial ≡ serial_of (state_of old))
 RollsBy old (Err refusal) new = IsRollRefusal old refusal × (new ≡ old)
@@ -40,7 +41,8 @@ abbrev pub text_of_answer : Format → ℕ → Answer → List ℕ
 text_of_answer format number (OfEvent given) = answer_line format number given
 text_of_answer format number (OfRoll given) = roll_line format number given
 
--- From one core to the other, over lines that are numbered from here on: each event and each roll has its answer, and this is printed.
+-- From one core to the other, over lines with these numbers: each event and each roll has its
+-- answer, and this is printed.
 abbrev pub Prints : Format → CoreValue → ℕ → List Line → Answers → List ℕ → CoreValue → Type 0
 Prints format old number [] [] text new = (text ≡ []) × (new ≡ old)
 Prints format old number [] (answer ∷ answers) text new = ⊥

@@ -27,8 +27,8 @@ pub record IsEnded (text : List ℕ) : Type 0 where
 abbrev pub AreWhole : List ℕ → Type 0
 AreWhole text = (text ≡ []) ⊎ IsEnded text
 
--- What a stop leaves of a text, of which this was written and that was not. A failed write leaves something unwritten, to a closed pipe or
--- elsewhere; and where memory runs out, no line was written in part.
+-- The parts of a text that a stop leaves written and unwritten. After a failed write, to a closed
+-- pipe or elsewhere, something is unwritten. If memory runs out, no line was written in part.
 abbrev pub IsLeft : PrintError → (written unwritten : List ℕ) → Type 0
 IsLeft stop.Write written unwritten = unwritten ≢ []
 IsLeft stop.Closed written unwritten = unwritten ≢ []

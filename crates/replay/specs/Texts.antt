@@ -1,4 +1,4 @@
--- What is printed of the fault of a replay.
+-- The printed text of the fault of a replay.
 use Rattle.std.specs.Prelude.{ℕ, List, codes}
 use Rattle.ospf_types.specs.Text.{memory_text}
 use Rattle.recording.specs.Texts.{line_fault_text}

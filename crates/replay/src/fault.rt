@@ -1,3 +1,4 @@
+//! The reasons why a replay ended early, and their printed text.
 ghost use Rattle.std.specs.Prelude.{Some};
 ghost use Rattle.replay.specs.Texts.{replay_fault_text};
 

@@ -20,10 +20,19 @@
 //!   event leaves the core behind.
 //! - Printed lines are collected in a buffer of some KiB, which is written whenever it is full.
 //! - After the run the state is shown that `PrintOptions` names. A journal is shown alone: its run
-//!   prints nothing.
+//!   prints nothing. If memory runs out over an event, it ends with 30 Memory, as its text would
+//!   lack that event.
+//!
+//! The contract states the output by the recording, the options and the answers to events and
+//! rolls. If a replay ends early, the written part is a prefix of such an output. `replay_one`
+//! borrows the reader and the writer, so that its contract can state their contents afterwards.
+//!
+//! If memory runs out, no line is cut: the buffer is whole lines. A failed write leaves a part of
+//! the output unwritten. A contract over any writer sees only its bytes, so these two are all that
+//! it states of an error.
 //!
 //! The functions that print lines and show states are public for other replays: over several
-//! workers (`worker_replay`), and with the changes of each event (`changes`).
+//! workers (`worker_replay`), and with the changes of each event (`change_log`).
 #![tactic(auto)]
 
 mod buffer;

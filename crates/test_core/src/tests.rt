@@ -1,3 +1,5 @@
+//! Tests of a core on recordings (RFC 2328, 16): the changes and the work of the last event, and a
+//! core for which one request for memory is refused.
 use super::*;
 use event_core::{Core, Event, Refusal, Reply, Status};
 use ospf_types::key::Dest;

@@ -1,3 +1,4 @@
+//! The recording of a small network, events, and cores with their printed items, for the tests.
 use event_core::table::{Item, Table};
 use event_core::{Core, DueSummaries, DueSummary, Event};
 use lsa_codec::{read, sum_of};

@@ -8,7 +8,8 @@ use Rattle.engine.specs.declared.answer.Answer.{Answer}
 use Rattle.engine.specs.declared.answer.Refused.{Refused}
 use Rattle.worker_replay.specs.Runs.{Answers}
 
--- The first event is the first of the first list. The others were dealt from the second list on, so that what is left of the first is the last of these.
+-- The first event is the first of the first list. The others were dealt from the second list on, so
+-- that the rest of the first is the last of these.
 abbrev pub IsDealt : List Event → List (List Event) → Type 0
 IsDealt [] lists = All (λ list. list ≡ []) lists
 IsDealt (e ∷ events) lists = (first : List Event) × (others : List (List Event)) × (lists ≡ (e ∷ first) ∷ others) × IsDealt events (others ++ first ∷ [])

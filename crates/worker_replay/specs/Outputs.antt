@@ -1,4 +1,4 @@
--- What a replay over several workers writes.
+-- The output of a replay over several workers.
 use Rattle.std.specs.Prelude.{ℕ, List, Option}
 use Rattle.std.specs.Io.KnownBytes.{Appends}
 use Rattle.engine.specs.Cores.{CoreValue}
@@ -10,8 +10,10 @@ use Rattle.replay.specs.Stops.{IsBeginning}
 use Rattle.replay.specs.Outputs.{IsShown}
 use Rattle.worker_replay.specs.Runs.{Answers, IsRun}
 
--- The output of a recording for a show, where its events had these answers: they may have been taken in any order that keeps that of each worker's, some may have
--- been refused for want of memory, and some answered Behind; each of these is one of the answers. All `roll` lines together are one roll behind the last event.
+-- The output of a recording for a show, if its events had these answers. They may have been taken
+-- in any order that keeps the order of each worker. Some may have been refused because memory ran
+-- out, and some answered Behind; each of these is one of the answers. All `roll` lines together are
+-- one roll after the last event.
 pub record IsOutput (r : RecordingValue) (p : PrintOptions) (answers : Answers) (text : List ℕ) : Type 0 where
   pub printed : List ℕ
   pub closed : CoreValue
@@ -36,7 +38,8 @@ pub record Replays (p : PrintOptions) (before after : Option (List ℕ)) (old ne
   pub is : IsOutput recording p answers output
   pub written : Appends old new output
 
--- all the bytes that a reader had were a recording, and a writer's known bytes grew by the beginning of its output that such a stop leaves
+-- all bytes of the reader were a recording, and the writer's known bytes grew by the beginning of
+-- its output that such a stop leaves
 pub record ReplaysPart (why : PrintError) (p : PrintOptions) (before after : Option (List ℕ)) (old new : Option (List ℕ)) : Type 0 where
   pub bytes : List ℕ
   pub read : ReadsAll before after bytes

@@ -1,4 +1,5 @@
--- The parts of a replay over several workers: a recording is run over an engine, and the output is written.
+-- The parts of a replay over several workers: a recording is run over an engine, and the output is
+-- written.
 use Rattle.std.specs.Prelude.{ℕ, ◌≡◌, ◌≤◌, ◌+◌, ◌++◌, Bool, true, false, not, List, [], ◌∷◌, Option, IfSome, Result}
 use mathlib.Core.List.{IsPrefix}
 use Rattle.std.specs.Io.KnownBytes.{Appends}
@@ -41,7 +42,7 @@ IsRunFault fault.Spawn = Unit {0}
 IsRunFault fault.Place = Unit {0}
 IsRunFault fault.NoEntry = Unit {0}
 
--- the token that came with an answer is one of the engine of this name
+-- the token of an answer is one of the engine of this name
 abbrev pub IsOf : Name → Result Answer Refused → Type 0
 IsOf name answer = IfSome (told_of answer) (λ t. t.name ≡ name)
 
@@ -52,7 +53,7 @@ is_roll (line.Event e) = false
 is_roll (line.Lookup address) = false
 is_roll line.Roll = true
 
--- what a line asks, by whether a roll stands behind it
+-- the output that a line asks for; it depends on a roll in a later line
 abbrev pub ask_of : Line → (rolls_later : Bool) → Ask
 ask_of (line.Event e) rolls_later = ask.Event
 ask_of (line.Lookup address) rolls_later = ask.Lookup address
@@ -81,13 +82,13 @@ PrintsAll format table serial number (ask.Event ∷ asks) [] roll text = ⊥
 PrintsAll format table serial number (ask.Event ∷ asks) (reply ∷ replies) roll text =
     (rest : List ℕ) × (text ≡ answer_line format number reply ++ rest) × PrintsAll format table serial (number + 1) asks replies roll rest
 
--- what they print stands behind the text of before
+-- their output was appended to the text
 pub record AppendsAll (format : Format) (table : TableValue) (serial number : ℕ) (asks : List Ask) (replies : List (Result Reply Refusal)) (roll : Option (Result ℕ Refusal)) (old new : List ℕ) : Type 0 where
   pub text : List ℕ
   pub prints : PrintsAll format table serial number asks replies roll text
   pub appended : new ≡ old ++ text
 
--- what the line prints stands behind the text of before, and these replies are left
+-- the output of the line was appended to the text, and these replies are left
 abbrev pub AppendsLine : Format → TableValue → (serial number : ℕ) → Ask → (replies left : List (Result Reply Refusal)) → Option (Result ℕ Refusal) → (old new : List ℕ) → Type 0
 AppendsLine format table serial number (ask.Lookup address) replies left roll old new =
     (found : Match) × IsMatch table.items address found × (new ≡ old ++ lookup_line format number address serial found) × (left ≡ replies)

@@ -51,7 +51,7 @@ abbrev pub reply_of : Result Answer Refused → Result Reply Refusal
 reply_of (Ok answer) = Ok answer.reply
 reply_of (Err refused) = Err refused.refusal
 
--- the token that came with an answer
+-- the token of an answer
 abbrev pub told_of : Result Answer Refused → Option TokenValue
 told_of (Ok answer) = answer.told
 told_of (Err refused) = refused.told
@@ -66,12 +66,14 @@ IsAfter seen answer = IfSome (told_of answer) (λ t. IsPrefix t.list seen)
 abbrev pub IsNotRolled : Refusal → Type 0
 IsNotRolled r = (r ≡ refusal.NotCurrent) ⊎ (r ≡ refusal.Memory)
 
--- The answer of an engine to the one roll that its `roll` lines together are: its serial, or why it is refused. There is none where no line is a roll.
+-- The answer of an engine to the one roll that its `roll` lines together are: its serial, or the
+-- reason why it is refused. There is none if no line is a roll.
 abbrev pub IsRollAnswer : Name → List Line → Option (Result ℕ Refusal) → Type 0
 IsRollAnswer name lines None = has_roll lines ≡ false
 IsRollAnswer name lines (Some answer) = (has_roll lines ≡ true) × MatchResult answer (IsRolledSerial name.base) IsNotRolled
 
--- what a `roll` line prints: the last one why the roll was refused, if it was, and the others nothing
+-- the output of a `roll` line: the last one prints why the roll was refused, if it was, and the
+-- others nothing
 abbrev pub rolled_line : Format → (last : Bool) (number : ℕ) → Option (Result ℕ Refusal) → List ℕ
 rolled_line format false number answer = []
 rolled_line format true number None = []
@@ -79,8 +81,9 @@ rolled_line format true number (Some answer) = roll_line format number answer
 
 -- ---- what is printed
 
--- Lines that are numbered from here on print this: each event what its answer says, the answers in the order of the lines; each look-up its match in the one
--- table, with the one serial; and the last `roll` line why the roll was refused, if it was.
+-- The output of lines with these numbers. An event prints its answer, in the order of the lines. A
+-- lookup prints its match in the one table, with the one serial. The last `roll` line prints why
+-- the roll was refused, if it was.
 abbrev pub Prints : Format → TableValue → (serial number : ℕ) → List Line → Answers → Option (Result ℕ Refusal) → List ℕ → Type 0
 Prints format table serial number [] [] roll text = text ≡ []
 Prints format table serial number [] (answer ∷ answers) roll text = ⊥
@@ -92,8 +95,10 @@ Prints format table serial number (line.Event e ∷ lines) [] roll text = ⊥
 Prints format table serial number (line.Event e ∷ lines) (answer ∷ answers) roll text =
     (rest : List ℕ) × (text ≡ answer_line format number (reply_of answer) ++ rest) × Prints format table serial (number + 1) lines answers roll rest
 
--- The events of a recording have these answers of the engine of a name, which is rolled behind them if a line asks for it, and its lines print this. The table of
--- all look-ups is right for a list of events that begins with the list of each token among the answers, so it has each event that was answered Current.
+-- The events of a recording have these answers of the engine of a name, which is rolled after them
+-- if a line asks for it, and its lines print this. The table of all lookups is right for a list of
+-- events that begins with the list of each token among the answers. So it has each event that was
+-- answered Current.
 pub record IsPrinted (format : Format) (name : Name) (lines : List Line) (number : ℕ) (answers : Answers) (printed : List ℕ) : Type 0 where
   pub answered : AreAnswered name (events_of lines) answers
   pub seen : List Event
@@ -104,14 +109,16 @@ pub record IsPrinted (format : Format) (name : Name) (lines : List Line) (number
   pub rolled : IsRollAnswer name lines roll
   pub prints : Prints format table table.serial number lines answers roll printed
 
--- What an engine leaves that began with a base: its own is the state after some events, and the journal has those since.
+-- The core that an engine leaves that began with a base: its own base is the state after some
+-- events, and the journal has those since.
 pub record IsClosed (base : Base) (c : CoreValue) : Type 0 where
   pub events : List Event
   pub rolled : IsRolled base standard_limits events c.base
   pub limits : c.limits ≡ standard_limits
   pub core : IsCore c
 
--- the recording was run with these answers to its events, its lines printed this, and a core was left
+-- the recording was run with these answers to its events, its lines printed this, and a core was
+-- left
 pub record IsRun (format : Format) (r : RecordingValue) (answers : Answers) (printed : List ℕ) (closed : CoreValue) : Type 0 where
   pub name : Name
   pub named : name.base ≡ r.base

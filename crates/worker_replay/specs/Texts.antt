@@ -1,4 +1,4 @@
--- What is printed of the fault of a replay over several workers.
+-- The printed text of the fault of a replay over several workers.
 use Rattle.std.specs.Prelude.{ℕ, List, codes}
 use Rattle.replay.specs.Texts.{replay_fault_text}
 use Rattle.worker_replay.specs.declared.fault.WorkerReplayFault.{WorkerReplayFault}

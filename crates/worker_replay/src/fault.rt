@@ -1,3 +1,4 @@
+//! The reasons why a replay over several workers ended early, and their printed text.
 ghost use Rattle.std.specs.Prelude.{Some};
 ghost use Rattle.worker_replay.specs.Texts.{many_fault_text};
 
