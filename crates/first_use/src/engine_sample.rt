@@ -1,7 +1,7 @@
 //! An engine with two threads that submit events, and one forwarder.
 //!
 //! Each thread submits a router-LSA. Then the forwarder looks an address up in a table that
-//! reflects both. docs/LINKING.md quotes `run`.
+//! reflects both. docs/LIBRARY.md quotes `run`.
 ghost use Rattle.std.specs.Prelude.{◌≡◌, IfOk, IfSome};
 
 use abr_router::{
