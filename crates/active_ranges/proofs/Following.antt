@@ -1,4 +1,5 @@
--- Active ranges follow the routes, member by member, and what that makes of the prefixes that are touched.
+-- Active ranges follow the routes, member by member, and what that makes of the prefixes that are
+-- touched.
 use Rattle.std.proofs.Common.{◌≡◌, ◌≢◌, ℕ, ◌+◌, ◌<◌, ◌≤◌, false, List, [], ◌∷◌, map, length, take, get_or, Option, Some, None, Ordering, refl, sym, ap, subst, ◌∙◌, ◌⊎◌, inl, inr}
 use Rattle.std.specs.Prelude.{◌↔◌, Contains, IsSome, is_some}
 use Rattle.std.specs.Cmp.{IsTotalOrder}

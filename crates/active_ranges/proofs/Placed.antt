@@ -1,4 +1,5 @@
--- The networks of a range in their order: where one is, and what is left of them where it has another cost.
+-- The networks of a range in their order: where one is, and what is left of them where it has
+-- another cost.
 --   put_changed: by what comes before and after it
 --   was_set, was_removed, was_inserted: by the place of the edit
 use Rattle.std.proofs.Common.{◌≡◌, ℕ, zero, suc, ◌+◌, ◌-◌, ◌<◌, Bool, cond, true, false, List, [], ◌∷◌, ◌++◌, map, length, take, drop, get_or, set, Option, Some, None, Ordering, Result, Ok, Err, IfOk, IfErr, refl, sym, ap, subst, ◌∙◌, inl, inr, add-one, arith}

@@ -1,4 +1,5 @@
--- The graph of an area follows its database: what is not named keeps what represents it, and what is named is given.
+-- The graph of an area follows its database: what is not named keeps what represents it, and what
+-- is named is given.
 use Rattle.std.proofs.Common.{◌≡◌, ◌≢◌, ℕ, ◌<◌, ◌≤◌, true, List, [], ◌∷◌, length, map, get_or, Option, Some, None, refl, sym, ap, subst, ◌∙◌, inl, inr, ⊎_elim, is_some, arith}
 use Rattle.std.specs.Prelude.{◌↔◌, Contains, IsSome, option_map, option_and_then}
 use Rattle.std.specs.FinMap.{get, empty, get-empty, keys, len, entries, len-entries, contains_key-keys}

@@ -52,7 +52,8 @@ interface_names s e id area address peer up keys ids is none one =
       one_kind = inl none;
     })
 
--- what an event that is no interface's leaves: of the configuration all but ranges, and these, too, unless it changes them
+-- what an event that is no interface's leaves: of the configuration all but ranges, and these, too,
+-- unless it changes them
 record Leaves (ranged : Bool) (s t : State) : Type 0 where
   pub areas : without_ranges t.config ≡ without_ranges s.config
   pub ranges : ranged ≡ false → t.config ≡ s.config

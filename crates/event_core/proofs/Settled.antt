@@ -1,4 +1,5 @@
--- Routes after an event: what is kept, the items of the table and what is due have followed, or nothing that is calculated from differs.
+-- Routes after an event: what is kept, the items of the table and what is due have followed, or
+-- nothing that is calculated from differs.
 use Rattle.std.proofs.Common.{◌≡◌, ℕ, Bool, true, false, true≢false, List, [], refl, sym, subst, ◌∙◌, arith}
 use Rattle.ospf_types.specs.declared.key.Key.{Key}
 use Rattle.ospf_types.specs.declared.key.Scope.{Scope}
@@ -29,7 +30,8 @@ pub record GoesOn (keys : List (Scope × Key)) (ids : List ℕ) (ranged changed 
   pub differ : StatesDifferAmong keys ids ranged before after
   pub alike : changed ≡ false → LooksAlike before after
 
--- all but the serial of the table is right for the state, and what differs from the routes of before is told
+-- all but the serial of the table is right for the state, and what differs from the routes of
+-- before is told
 pub record HasFollowed (t : State) (keys : List (Scope × Key)) (ids : List ℕ) (ranged changed : Bool) (old new : RoutesValue) : Type 0 where
   pub calculation : IsCalculationOf t new.calculation
   pub items : IsTableOf new.calculation new.table.items

@@ -50,7 +50,8 @@ module _ (config : Config) (limits : Limits) (v : Vec DatabaseValue) (new : List
   held_after_try (Ok changed) keeps small kept h = held_after keeps small h
   held_after_try (Err e) keeps small kept h = subst (IsHeld config limits) (sym (items_of_slice v new (ap length kept) ∙ kept)) held
 
--- the state after an install that memory may refuse looks as before where what is used of the LSA does
+-- the state after an install that memory may refuse looks as before where what is used of the LSA
+-- does
 pub install_looks : (s : State) (at : Scope) (k : ℕ) (l : Lsa) (r : Result Bool Memory) → place_of s.config.areas at ≡ Some k → k < length s.databases
     → IfOk r (λ changed. (changed ≡ false) ↔ IsUsedAlike (get_or s.databases k empty) l) → IfOk r (λ changed. (changed ≡ false) ↔ LooksAlike s (changed_by s (event.Install at l)))
 install_looks s at k l (Ok changed) place lt alike =

@@ -41,7 +41,8 @@ FitsAt databases place lsa = IsInstallable (database_at databases place) lsa
 abbrev pub CanBePurgedAt : List DatabaseValue → (place : ℕ) → Key → Type 0
 CanBePurgedAt databases place key = IsPurgeable (database_at databases place).lsas key
 
--- the result is false exactly if what is used of the LSA is what was used of the instance in the database at the place
+-- the result is false exactly if what is used of the LSA is what was used of the instance in the
+-- database at the place
 abbrev pub TellsPutAt : List DatabaseValue → (place : ℕ) → Lsa → (changed : Bool) → Type 0
 TellsPutAt databases place lsa changed = TellsUseOf (database_at databases place).lsas lsa changed
 

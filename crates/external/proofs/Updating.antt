@@ -35,7 +35,8 @@ preferred_coded = coded_option kept_entry.the_row.coded
 forward_coded : Coded (Option ForwardValue)
 forward_coded = coded_option kept_forward.the_row.coded
 
--- what is advertised offers the same where the router leads as before, and the forwarding address, if there is one
+-- what is advertised offers the same where the router leads as before, and the forwarding address,
+-- if there is one
 advertised_offers : (k : Key) (a : AdvertisedValue) (was is : Option PreferredValue) (before after : Option ForwardValue) → is ≡ was → (0 < a.forwarding → after ≡ before) → (preference : ExternalPreference) (path : Path)
     → AdvertisedOffers was before k a preference path → AdvertisedOffers is after k a preference path
 advertised_offers k a was is before after preferred forward preference path o =

@@ -1,4 +1,5 @@
--- What is offered to a network, and what is kept of a router, where nothing that it rests on differs (RFC 2328, 16.1).
+-- What is offered to a network, and what is kept of a router, where nothing that it rests on
+-- differs (RFC 2328, 16.1).
 --   source_is: the sources of an index are what the LSAs offer
 --   indexes_of: the indexes of areas that are kept are those of their databases
 --   indexed_is: what is offered by the indexes of the areas is what is offered
@@ -242,7 +243,8 @@ entry_same one other same (Some e) is = (is.0, best_same one other same area_cos
 
 -- ---- a network that nothing tells to choose again
 
--- what holds in this area: it is offered by the same vertices, none of these is named, and the root is none of them where an interface is named
+-- what holds in this area: it is offered by the same vertices, none of these is named, and the root
+-- is none of them where an interface is named
 pub record IsClean (vertices : List (ℕ × Vertex)) (ids : List ℕ) (root : ℕ) (p : Prefix) (area : ℕ) (before after : IndexValue) : Type 0 where
   pub sources : (w : Vertex) (metric : ℕ) → IsSource after w p metric ↔ IsSource before w p metric
   pub unnamed : (w : Vertex) (metric : ℕ) → IsSource after w p metric → Contains vertices (area, w) → ⊥

@@ -40,7 +40,8 @@ pub record IsFollowed (root : ℕ) (vertices : List (ℕ × Vertex)) (interfaces
   pub index : IsIndexOf a.lsas new.index
   pub gathered : IsGathered root vertices interfaces old new [] prefixes
 
--- only what is kept of routers followed: the named ones are as they are to be, and the others as before
+-- only what is kept of routers followed: the named ones are as they are to be, and the others as
+-- before
 pub record IsSettled (root : ℕ) (keys : List (Scope × Key)) (vertices : List (ℕ × Vertex)) (a : AreaValue) (old new : AreaIntraValue) : Type 0 where
   pub id : new.id ≡ old.id
   pub index : new.index ≡ old.index
@@ -55,7 +56,8 @@ pub record IsBroughtTo (root : ℕ) (keys : List (Scope × Key)) (vertices : Lis
 abbrev pub HasOtherAmong : ℕ → List AreaIntraValue → List AreaIntraValue → ℕ → Type 0
 HasOtherAmong count old new router = (k : ℕ) × (k < count) × ((i : AreaIntraValue) → get (get_or new k i).reached router ≢ get (get_or old k i).reached router)
 
--- what is kept of each area belongs to the inputs, and the prefixes that may get another entry are among these
+-- what is kept of each area belongs to the inputs, and the prefixes that may get another entry are
+-- among these
 abbrev pub AreBroughtTo : InputsValue → Dirty → List Prefix → List AreaIntraValue → List AreaIntraValue → Type 0
 AreBroughtTo v dirty prefixes old new =
     AreFirst (IsBroughtTo v.root dirty.keys.items dirty.vertices.items dirty.interfaces.items prefixes) v.areas old new (length v.areas)

@@ -1,4 +1,5 @@
--- The derived orders of next hops and of paths are `hop_cmp` and `path_cmp`, by kind, interface, address and advertiser; next hops are equal as values.
+-- The derived orders of next hops and of paths are `hop_cmp` and `path_cmp`, by kind, interface,
+-- address and advertiser; next hops are equal as values.
 use Rattle.std.proofs.Common.{◌≡◌, ℕ, Option, Some, None, Ordering, refl, sym, ap, subst, ◌&&◌, Decides, nat_eq}
 use Rattle.std.specs.Option.{option_cmp, option_eq}
 use Rattle.std.specs.Ordering.{nat_cmp, ordering_then}

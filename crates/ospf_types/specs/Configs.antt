@@ -1,4 +1,4 @@
--- What a configuration must not be (RFC 2328, 3.5, 3.6 and C.2).
+-- The faults of a configuration (RFC 2328, 3.5, 3.6 and C.2).
 use Rattle.std.specs.Prelude.{◌==◌, ◌&&◌, ◌||◌, Bool, false, nat_lt, nat_le, List, [], ◌∷◌, length, Option, Some, None, is_some}
 use Rattle.std.specs.List.{list_any}
 use Rattle.ospf_types.specs.declared.config.Config.{Config}

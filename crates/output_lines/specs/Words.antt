@@ -39,7 +39,7 @@ abbrev pub link_tos_line : ℕ → Tos → List ℕ
 link_tos_line number t =
     codes "Link " ++ decimal number ++ codes ", TOS " ++ decimal t.tos ++ codes ": metric " ++ decimal t.metric ++ codes "\n"
 
--- what a link says beside its type
+-- the fields of a link other than its type
 abbrev pub link_end : RouterLink → List ℕ
 link_end l =
     codes ", Link ID " ++ address_text l.id ++ codes ", Link Data " ++ address_text l.detail ++ codes ", metric " ++ decimal l.metric ++ codes "\n"

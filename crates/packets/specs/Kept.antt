@@ -1,4 +1,4 @@
--- What is kept of the fragments of one datagram.
+-- The kept fragments of one datagram.
 use Rattle.std.specs.Prelude.{ℕ, ◌≡◌, ◌+◌, ◌-◌, ◌&&◌, ◌||◌, ◌==◌, not, Bool, false, nat_lt, if◌then◌else◌, List, [], ◌∷◌, ◌++◌, length, take, drop, map, replicate, get_or, Option, Some, None, is_some}
 use Rattle.std.specs.List.{list_all, count_by}
 use Rattle.std.specs.Option.{unwrap_or}
@@ -13,7 +13,8 @@ key_of d = record { source = d.source; destination = d.destination; identificati
 abbrev pub same_key : Key → Key → Bool
 same_key a b = (a.source == b.source) && (a.destination == b.destination) && (a.identification == b.identification) && (a.protocol == b.protocol)
 
--- the bytes that came, each at its place, and whether the last fragment is among them: then the datagram ends where they end
+-- the bytes received, each at its place, and whether the last fragment is among them: then the
+-- datagram ends where they end
 pub record Kept : Type 0 where
   pub key : Key
   pub has_end : Bool

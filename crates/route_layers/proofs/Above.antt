@@ -1,4 +1,5 @@
--- What the layers above intra-area routes are calculated from: that the definitions speak of it, and what differs in it.
+-- What the layers above intra-area routes are calculated from: that the definitions speak of it,
+-- and what differs in it.
 --   configured: the areas of the definitions are those that are configured
 --   apart_areas: no two of them have one Area ID
 --   inter_are, external_are: what inter-area and external routes are calculated from is what the definitions speak of

@@ -48,7 +48,8 @@ module _ (w : View) where
       listed_router router (Router t) cost label taken = all router taken.0 taken.1 taken.3
       listed_router router (Network t) cost label taken = all router taken.0 taken.1 taken.3
 
-  -- Where a router has one list of links, as where its LSAs have one key, each link out of a network has an address.
+  -- Where a router has one list of links, as where its LSAs have one key, each link out of a
+  -- network has an address.
   module _ (one : (router flags other : ℕ) (xs ys : List RouterLink) → w.HasRouter router flags xs → w.HasRouter router other ys → xs ≡ ys) where
     -- the Link Data of the link back is an address on the network
     address_of : (network : ℕ) (to : Vertex) (cost : ℕ) (label : Label) (addresses : List ℕ) → IsLinkOf w (Network network) to cost label → label ≡ At addresses → (address : ℕ) × Contains addresses address

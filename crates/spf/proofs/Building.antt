@@ -1,4 +1,5 @@
--- The first tree is built as a repair of the blank one: no links were there, nothing was reached, and the links of the root are those that came.
+-- The first tree is built as a repair of the blank one: no links were there, nothing was reached,
+-- and the links of the root are those that came.
 use Rattle.std.proofs.Common.{ℕ, [], Option, ◌⊎◌, inr}
 use Rattle.ospf_types.specs.declared.entry.Vertex.{Vertex}
 use Rattle.ospf_types.specs.declared.entry.Vertex.TheVariants.{Router}

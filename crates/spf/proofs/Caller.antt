@@ -1,4 +1,5 @@
--- What callers of a tree use: it is right before the changes that the graph names, and its building is work for each vertex that is reached.
+-- What callers of a tree use: it is right before the changes that the graph names, and its building
+-- is work for each vertex that is reached.
 use Rattle.std.proofs.Common.{◌≡◌, ◌≢◌, ℕ, List, Some, None, sym, subst, ◌∙◌, inl, inr, arith}
 use Rattle.std.specs.Prelude.{◌↔◌}
 use Rattle.std.specs.FinMap.{get}
@@ -97,7 +98,8 @@ module _ {g : GraphValue} {t : TreeValue} (is : IsTreeOf g t) where
       λ reached. (work.written_exact v).1 (inl (other_hops v reached)),
     )
 
-    -- And building a tree takes each reached vertex but the root twice, and writes next hops for each.
+    -- And building a tree takes each reached vertex but the root twice, and writes next hops for
+    -- each.
     pub built_work : IsWorkForAll g t taken hop_sets
     built_work =
         let least = work.taken_least work.written work.written work.written_apart work.written_apart (λ v c. let r = (built v).0 c in (r, farther v r)) (λ v c. let r = (built v).0 c in (r, λ same. farther v r same.0)) in

@@ -1,4 +1,5 @@
--- What the parts of a repair leave, taken together: what each next part starts from, the tree, the work, and which vertices differ.
+-- What the parts of a repair leave, taken together: what each next part starts from, the tree, the
+-- work, and which vertices differ.
 use Rattle.std.proofs.Common.{◌≡◌, ◌≢◌, ℕ, ◌+◌, List, false, ◌∷◌, ◌++◌, length, Option, Some, None, refl, sym, ap, subst, ◌∙◌, ◌⊎◌, inl, inr, arith}
 use Rattle.std.specs.Prelude.{◌↔◌}
 use Rattle.std.specs.FinMap.{get}

@@ -21,7 +21,9 @@ module _ {after gone come : Links} where
   due_more lost more_lost moved more_moved written more_written l m w v (OutOfMoved from cost label taken c) = OutOfMoved from cost label taken (m from c)
   due_more lost more_lost moved more_moved written more_written l m w v (OutOfWritten from cost label taken c) = OutOfWritten from cost label taken (w from c)
 
-  -- What is stale is due: at the start by a removed link, while support is lost by a link out of what is lost, then by an added link, and while distances are relaxed by a link out of what is moved.
+  -- What is stale is due: at the start by a removed link, while support is lost by a link out of
+  -- what is lost, then by an added link, and while distances are relaxed by a link out of what is
+  -- moved.
   pub due_went : (stale : List Vertex) → ((v : Vertex) → Contains stale v → (from : Vertex) × (cost : ℕ) × (label : Label) × gone from v cost label) → AreDue after gone come [] [] [] stale
   due_went stale by = record { due = λ v c. let w = by v c in Went w.0 w.1 w.2 w.3 }
 
@@ -59,7 +61,8 @@ module _ {after gone come : Links} where
   pub none_due : (lost moved written : List Vertex) → AreDue after gone come lost moved written []
   none_due lost moved written = record { due = λ v none. absurd (no_element v none) }
 
-  -- In each round of updating next hops what is taken was queued, and what is put is the head of a link out of what is written.
+  -- In each round of updating next hops what is taken was queued, and what is put is the head of a
+  -- link out of what is written.
   pub due_updated : {root : ℕ} {distance queue more : Vertex → Option ℕ} {now new : Vertex → NextHop → Type 0} (lost moved written wider taken all : List Vertex) (v : Vertex) (k : ℕ)
       → AreQueuedDue after gone come lost moved written queue → AreDue after gone come lost moved written taken
       → IsUpdated after root distance queue more now new written wider v k → IsAdded taken all v → ((w : Vertex) → Contains written w → Contains wider w)

@@ -114,7 +114,8 @@ pub carried_out_at : {g : GraphValue} {slice come : List Link} (i t u : TreeValu
 carried_out_at {g} {slice} {come} i t u {lost} {stale} {moved} {written} {taken} {hop_sets} view same fresh r =
     subst (λ (links : List Link). IsCarriedOut g links t u lost stale moved written taken hop_sets) same (subst (λ (w : TreeValue). IsCarriedOut g slice w u lost stale moved written taken hop_sets) view (carried_out_of i u fresh r))
 
--- The list is that of what differs, where the root and what was lost were remembered as the tree was.
+-- The list is that of what differs, where the root and what was lost were remembered as the tree
+-- was.
 pub changed_list : (i t u : TreeValue) (root at_root : ℕ) (lost at_lost left moved written changed : List Vertex) (remembered slice : List (Vertex × Option ℕ)) → i ≡ t → at_root ≡ root → at_lost ≡ lost → left ≡ lost → slice ≡ remembered
     → remembered ≡ map (with_distance i.distances) (Router at_root ∷ at_lost) → IsStrictlySortedBy vertex_cmp changed
     → ((v : Vertex) → Contains changed v ↔ (IsFarther slice u.distances v ⊎ (IsNearer moved left v ⊎ Contains written v)))

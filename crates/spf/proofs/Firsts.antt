@@ -38,7 +38,8 @@ same_handed_on (Network n) (Over i) (At addresses) label g h first hands =
     cc
 same_handed_on _ _ _ label g h first hands = absurd first
 
--- A next hop of a path that goes on by one step is handed on by that step, from a next hop of the path before it.
+-- A next hop of a path that goes on by one step is handed on by that step, from a next hop of the
+-- path before it.
 pub first_before : (step last : TakenLink) (way : List TakenLink) (h : NextHop) → IsFirst ((step ∷ way) ++ last ∷ []) h → (g : NextHop) × IsFirst (step ∷ way) g × HandsOn g last.label h
 first_before step last [] h first = second_step step.to step.label last.label h first
 first_before step last (next ∷ way) h first = (h, first, handed_on_itself step.to step.label next.label last.label h first)

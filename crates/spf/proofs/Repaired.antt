@@ -30,7 +30,8 @@ module _ {before after gone come : Links} {root : ℕ} {had_root has_root : Type
     (links_before : AreLinks before root had_root) (links : AreLinks after root has_root) (was : IsTree before root had_root old sets)
     (l : AreLosingSupport before after gone root had_root has_root old lost [] told) (reset : IsReset root has_root old lost start)
     (n : AreRelaxing after come root has_root start distance queue moved stale) (none : IsEmptyQueue queue) where
-  -- Between relaxing and updating next hops: all that was moved or is stale is queued, and the sets of what is reached are unchanged.
+  -- Between relaxing and updating next hops: all that was moved or is stale is queued, and the sets
+  -- of what is reached are unchanged.
   pub update_next_hops_opened : AreGone before after gone → AreCome before after come start → ((v : Vertex) → Contains told v → Contains stale v)
       → (now : Vertex → NextHop → Type 0) (again : Vertex → Option ℕ)
       → ((v : Vertex) (d : ℕ) → distance v ≡ Some d → (h : NextHop) → now v h ↔ sets v h)
@@ -62,7 +63,8 @@ module _ {before after gone come : Links} {root : ℕ} {had_root has_root : Type
       → IsTree after root has_root distance now
   tree_after h none_again blank_root blank = update_next_hops_end h links (relax_end n none) none_again blank_root blank
 
-  -- And the work of all three is bounded: what is taken from the queues, and the sets that are written, those of lost vertices that stay unreached among them.
+  -- And the work of all three is bounded: what is taken from the queues, and the sets that are
+  -- written, those of lost vertices that stay unreached among them.
   module _ {begun now : Vertex → NextHop → Type 0} {again : Vertex → Option ℕ} {taken written : List Vertex} {first second heads first_out second_out : List Vertex} (changes : AreChanges before after gone come)
       (owed : AreOwed root before after gone come had_root has_root first second heads first_out second_out)
       (h : AreUpdatingNextHops after root distance again begun now taken written) (after_tree : IsTree after root has_root distance now)

@@ -1,4 +1,5 @@
--- A tree of one link, built step by step, and left when the link goes: each record of the loops can be met.
+-- A tree of one link, built step by step, and left when the link goes: each record of the loops can
+-- be met.
 use Rattle.std.proofs.Common.{◌≡◌, ◌≢◌, ℕ, zero, suc, ◌+◌, List, [], ◌∷◌, Option, Some, None, refl, sym, ap, subst, ◌∙◌, ◌⊎◌, inl, inr, arith}
 use Rattle.std.specs.Prelude.{◌↔◌}
 use Rattle.std.specs.List.{Contains}

@@ -1,4 +1,5 @@
--- The search for what is lost, piece by piece: who is told over a list of links, what comes of one suspect, and that the suspects run out.
+-- The search for what is lost, piece by piece: who is told over a list of links, what comes of one
+-- suspect, and that the suspects run out.
 use Rattle.std.proofs.Common.{◌≡◌, ℕ, Bool, true, ◌+◌, ◌-◌, ◌*◌, ◌<◌, ◌≤◌, List, [], ◌∷◌, ◌++◌, Option, Some, length, get_or, take, refl, sym, ap, subst, ◌∙◌, ◌⊎◌, inl, inr, arith, length-append}
 use Rattle.std.specs.List.{All, Contains}
 use Rattle.std.specs.FinMap.{get, len}
@@ -290,7 +291,8 @@ module _ (g : GraphValue) (gone come : List Link) (old : Vertex → Option ℕ) 
 pub lost_at_end : (g : GraphValue) (gone come : List Link) (old : Vertex → Option ℕ) (lost stale : List Vertex) → AreSuspected g gone come old lost [] stale → AreLost g gone come old lost stale
 lost_at_end g gone come old lost stale s = record { losing_support = s.losing_support; why = s.why }
 
--- No more are lost, and no more suspected, than have a distance. So each round comes nearer to the end.
+-- No more are lost, and no more suspected, than have a distance. So each round comes nearer to the
+-- end.
 pub suspects_fall : (g : GraphValue) (gone come : List Link) (m : DistanceMap) (lost more suspects rest again stale wider : List Vertex) (v : Vertex) → suspects ≡ rest ++ v ∷ []
     → IsJudged g (get m) lost more rest again stale wider v → AreSuspected g gone come (get m) more again wider
     → (len m - length more) * (len m + 1) + length again < (len m - length lost) * (len m + 1) + length suspects

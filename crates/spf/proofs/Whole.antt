@@ -1,4 +1,5 @@
--- The tree before and after a repair: the blank tree, from which the first is built, and what the end of a repair gives.
+-- The tree before and after a repair: the blank tree, from which the first is built, and what the
+-- end of a repair gives.
 use Rattle.std.specs.Prelude.{◌↔◌}
 use Rattle.std.proofs.Common.{◌≡◌, ℕ, Option, Some, None}
 use Rattle.ospf_types.specs.declared.entry.Vertex.{Vertex}
@@ -56,7 +57,8 @@ module _ {link : Links} {root : ℕ} {has_root : Type 0} {distance : Vertex → 
         );
   }
 
-  -- What a repair leaves is the tree: nothing is queued, the links are fair and the distances real; then no set is queued, and each is right; the root and what is not reached have none.
+  -- What a repair leaves is the tree: nothing is queued, the links are fair and the distances real;
+  -- then no set is queued, and each is right; the root and what is not reached have none.
   pub tree_at_end : AreLinks link root has_root → (queue again : Vertex → Option ℕ) → (has_root → distance (Router root) ≡ Some 0) → IsEmptyQueue queue → AreFair link root distance queue → AreReal link root has_root distance
       → IsEmptyQueue again → AreRightOrQueued link root distance again hops
       → ((h : NextHop) → hops (Router root) h → ⊥) → ((to : Vertex) → distance to ≡ None → (h : NextHop) → hops to h → ⊥)

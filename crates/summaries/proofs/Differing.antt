@@ -1,4 +1,5 @@
--- What is changed in a list is just what differs, where no destination is given the metric that it had.
+-- What is changed in a list is just what differs, where no destination is given the metric that it
+-- had.
 --   metric_of: a destination that is named has a metric
 --   changes_between: the list afterwards tells of just the named destinations otherwise than the list before
 use Rattle.std.proofs.Common.{◌≡◌, ℕ, List, Option, Some, None, refl, sym, subst, inl, inr}

@@ -1,4 +1,5 @@
--- Each next hop of an entry of an area leaves over an interface of that area, and so into no other area.
+-- Each next hop of an entry of an area leaves over an interface of that area, and so into no other
+-- area.
 --   hop_over: a next hop of a vertex of the area
 --   entry_area, entry_over: the area of a network's entry, and its next hops
 --   preferred_over: the next hops of the preferred entry of an AS boundary router

@@ -1,4 +1,4 @@
--- What gives a summary for a destination (RFC 2328, 12.4.3), by the routes that are kept.
+-- The sources of a summary for a destination (RFC 2328, 12.4.3), by the routes that are kept.
 use Rattle.std.specs.Prelude.{ℕ, ◌≡◌, ◌≢◌, ◌<◌, ◌≤◌, ◌⊎◌, IsTrue, List, Contains, All, Option, Some, None}
 use Rattle.std.specs.FinMap.{get}
 use Rattle.ospf_types.specs.declared.config.AreaConfig.{AreaConfig}

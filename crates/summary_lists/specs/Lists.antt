@@ -28,7 +28,7 @@ AreInOrder list = IsStrictlySortedBy dest_cmp (map (λ due. due.dest) list)
 abbrev pub AreOfKind : List DueSummary → Type 0
 AreOfKind list = All (λ due. due.kind ≡ kind_of due.dest) list
 
--- the list tells of the destination just at this metric; at `None` if it has nothing of it
+-- the list has the destination just at this metric; `None` if it does not have it
 abbrev pub IsMetricIn : List DueSummary → Dest → Option ℕ → Type 0
 IsMetricIn list d metric = (m : ℕ) → (metric ≡ Some m) ↔ Contains list (due_for d m)
 
@@ -50,7 +50,8 @@ pub record IsChangedBy (metrics : Metrics) (old new : List DueSummary) : Type 0 
 abbrev pub AreMetricsInOrder : Metrics → Type 0
 AreMetricsInOrder metrics = IsStrictlySortedBy dest_cmp (keys_of metrics)
 
--- just the destinations of which the new list tells otherwise than the old one, ascending, each with what the new one tells
+-- just the destinations of which the new list tells otherwise than the old one, ascending, each
+-- with what the new one tells
 pub record AreChangesBetween (metrics : Metrics) (old new : List DueSummary) : Type 0 where
   pub in_order : AreMetricsInOrder metrics
   pub exact : (d : Dest) (metric : Option ℕ) → Contains metrics (d, metric) ↔ (IsMetricIn new d metric × (IsMetricIn old d metric → ⊥))
