@@ -250,7 +250,7 @@ module _ (items es : Entries) (same : items ≡ es) (ordered : AreInOrder items)
   pub inserted : (c : ℕ) → cost ≡ Some c → (at : ℕ) → IsGapFor es k at → (new : Entries) → new ≡ insert items at (k, c) → IsEdited es k cost new
   inserted c some at gap new e = edited (Some c) some new (insert es at (k, c)) (e ∙ ap (λ (xs : Entries). insert xs at (k, c)) same) (was_inserted es in_order k at gap c)
 
--- ---- networks that came one by one
+-- ---- networks given one by one
 
 pub map_keys : {A : Type 0} (f : Prefix → A) (es : Entries) → map (λ (e : Prefix × ℕ). f e.0) es ≡ map f (keys_of es)
 map_keys f [] = refl

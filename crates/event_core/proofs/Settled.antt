@@ -24,14 +24,14 @@ use Rattle.event_core.proofs.NoWork.{no_event_work}
 abbrev forgotten : RoutesValue → RoutesValue
 forgotten r = record r { work = no_work; changes = []; due_changes = [] }
 
--- the states differ as it is said, and look alike where nothing is changed
+-- the states differ as named, and look alike where nothing is changed
 pub record GoesOn (keys : List (Scope × Key)) (ids : List ℕ) (ranged changed : Bool) (before after : State) : Type 0 where
   pub fit : AreFit before.config.areas before.databases
   pub differ : StatesDifferAmong keys ids ranged before after
   pub alike : changed ≡ false → LooksAlike before after
 
 -- all but the serial of the table is right for the state, and what differs from the routes of
--- before is told
+-- before is listed
 pub record HasFollowed (t : State) (keys : List (Scope × Key)) (ids : List ℕ) (ranged changed : Bool) (old new : RoutesValue) : Type 0 where
   pub calculation : IsCalculationOf t new.calculation
   pub items : IsTableOf new.calculation new.table.items

@@ -60,7 +60,7 @@ pub record IsCore (c : CoreValue) : Type 0 where
   pub right : IsRight (built_state c) c.table
   pub due : AreDue (built_state c) c.summaries
 
--- table and due summaries reflect the whole journal, or are those of before, where events were
+-- table and due summaries reflect the whole journal, or stay as before, where events were
 -- taken since
 abbrev pub MatchesStatus : CoreValue → Status → CoreValue → Type 0
 MatchesStatus old Current new = (new.built ≡ length new.journal) × IsRight (state_of new) new.table × AreDue (state_of new) new.summaries
@@ -131,7 +131,7 @@ abbrev pub Tells : CoreValue → Result Reply Refusal → CoreValue → Type 0
 Tells old (Ok reply) new = NamesChanges old reply.state new × HasBoundedWork old reply.state new
 Tells old (Err refusal) new = (new.changes ≡ old.changes) × (new.due_changes ≡ old.due_changes) × (new.work ≡ old.work)
 
--- the results of events, one after the other; the changes in the end are those of the last event
+-- the results of events, one after the other; the changes in the end belong to the last event
 -- taken, or the previous ones
 abbrev pub Runs : CoreValue → List Event → List (Result Reply Refusal) → CoreValue → Type 0
 Runs old [] [] new = new ≡ old

@@ -1,4 +1,4 @@
--- What a change to one database leaves of a state.
+-- The rest of a state after a change to one database.
 use Rattle.std.proofs.Common.{◌≡◌, ℕ, ◌<◌, ◌≤◌, Bool, false, List, length, get_or, set, Some, None, sym, ap, subst, ◌∙◌, arith}
 use Rattle.std.specs.Prelude.{Result, Ok, Err, IfOk, OnOk, OnErr, ◌↔◌}
 use Rattle.std.specs.FinMap.{empty, get, insert, len}

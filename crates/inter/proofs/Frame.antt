@@ -136,7 +136,7 @@ module _ (keys : List (Scope × Key)) (named : List Dest) (v w : InterInputsValu
     borders = λ k a listed dest area. differ.routers k.router (λ c. absent (followed.behind k.router d c (k, a, listed, refl, dest))) area;
   }
 
-  -- what stood there has to stand
+  -- the old entry is right
   entry_stands : IsIndexFor v.root v.examined i → (d : Dest) → (Contains dests d → ⊥) → (e : Option Entry) → IsEntryIn v v.examined d e → IsChosenFor w j d e
   entry_stands index d absent e is = stays v w (area_of v.examined) (area_of w.examined) i j d (not_named d absent) e (entry_advertised v i d v.examined index e is)
 

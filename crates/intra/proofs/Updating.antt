@@ -1,4 +1,4 @@
--- Routes that were those of earlier inputs belong to the present ones once all that may differ
+-- Routes that belonged to earlier inputs belong to the present ones once all that may differ
 -- followed.
 use Rattle.std.proofs.Common.{◌≡◌, ◌≢◌, ℕ, zero, suc, ◌<◌, nat_eq, true, false, List, [], ◌∷◌, ◌++◌, map, length, get_or, Option, Some, None, refl, sym, ap, subst, ◌∙◌, ◌⊎◌, inl, inr, arith}
 use Rattle.std.specs.Prelude.{◌↔◌, option_map, option_and_then, if◌then◌else◌}
@@ -188,7 +188,7 @@ module _ (keys : List (Scope × Key)) (vertices : List (ℕ × Vertex)) (ids : L
   }
 
   module _ (routers : List ℕ) (named : (r : ℕ) → Contains routers r ↔ HasOtherAmong (length v.areas) old.areas news r) where
-    -- the routers are those of which something else is kept
+    -- just the routers of which something else is kept
     others : (r : ℕ) → Contains routers r ↔ HasOtherRouter old.areas new.areas r
     others r =
         let step = other_router old.areas news r first.as_many in

@@ -1,4 +1,4 @@
--- What the readers of a checked advertisement rest on.
+-- The facts that the readers of a checked advertisement use.
 use Rattle.std.proofs.Common.{zero, suc, get_or, ◌≡◌, ℕ, ◌*◌, ◌/◌, ◌^◌, ◌<◌, ◌≤◌, Bool, true, ◌||◌, eqb, leb, List, [], ◌∷◌, ◌++◌, length, take, drop, Some, None, refl, sym, ap, subst, ◌∙◌, arith}
 use Rattle.std.specs.Prelude.{slice_index}
 use Rattle.std.specs.List.{flat_map, AllByRecursion}

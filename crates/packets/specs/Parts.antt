@@ -1,5 +1,5 @@
 -- The payload that the fragments of one datagram give (RFC 791, 3.2). They are listed from the last
--- one that came to the first.
+-- one received to the first.
 use Rattle.std.specs.Prelude.{ℕ, ◌≡◌, ◌≤◌, ◌<◌, ◌+◌, ◌-◌, ◌&&◌, Bool, true, nat_le, nat_lt, max, if◌then◌else◌, List, [], ◌∷◌, length, slice_index, Option, Some, None}
 use Rattle.std.specs.List.{list_any, AllByRecursion}
 use Rattle.packets.specs.declared.datagram.Datagram.{Datagram}

@@ -180,7 +180,7 @@ pub record Front : Type 0 where
   pub areas : List AreaConfig
   pub interfaces : List (ℕ × Interface)
   pub lsas : List (Scope × Lsa)
-  pub ended : Bool  -- one of them is no line of the header
+  pub ended : Bool  -- one of them does not belong to the header
   pub begun : Bool  -- one of them is a line of what happened
 
 abbrev pub front_of : List Form → Front

@@ -26,7 +26,7 @@ module _ (w : View) where
   interface_of detail Plain is = absurd (is refl)
   interface_of detail (At addresses) is = absurd is
 
-  -- out of the root a link goes over an interface
+  -- out of the root a link leads over an interface
   over : (to : Vertex) (cost : ℕ) (label : Label) → IsLinkOf w (Router w.root) to cost label → IsOverInterface (IsVertexOf w (Router w.root)) label
   over (Router t) cost label taken = let i = interface_of taken.2.detail label taken.9 in record { has = (taken.0, taken.1, taken.3); interface = i.0; labelled = i.1 }
   over (Network t) cost label taken = let i = interface_of taken.2.detail label taken.9 in record { has = (taken.0, taken.1, taken.3); interface = i.0; labelled = i.1 }

@@ -1,4 +1,4 @@
--- The links before, from those after and the lists of those that went and came.
+-- The links before, from the links after and the lists of removed and added links.
 use Rattle.std.proofs.Common.{◌≡◌, ◌≢◌, List, Bool, refl, ap, ◌⊎◌, inl, inr}
 use Rattle.std.specs.Bool.{Decides}
 use Rattle.std.specs.Str.{bytes_eq}

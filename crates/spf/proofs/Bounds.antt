@@ -70,11 +70,11 @@ module _ {before after gone come : Links} {root : ℕ} {had_root has_root : Type
     abbrev AllHeads : List Vertex
     AllHeads = heads ++ (first_out ++ second_out)
 
-    -- the heads of what went or came are among them
+    -- the heads of the removed or added links are among them
     in_heads : (v : Vertex) → Contains heads v → Contains AllHeads v
     in_heads v c = Contains-append_left heads (first_out ++ second_out) v c
 
-    -- so are those of links out of what differs first
+    -- so are the heads of links out of what differs first
     in_first_out : (v : Vertex) → Contains first_out v → Contains AllHeads v
     in_first_out v c = Contains-append_right heads (first_out ++ second_out) v (Contains-append_left first_out second_out v c)
 

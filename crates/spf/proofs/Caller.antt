@@ -69,7 +69,7 @@ module _ {g : GraphValue} {t : TreeValue} (is : IsTreeOf g t) where
         λ same. no_hop_of_root (LinksOf g) g.root (HasRoot g) h (subst (λ w. IsHop (LinksOf g) g.root (HasRoot g) w h) same hop),
       )
 
-  -- What has other next hops than none is reached.
+  -- A vertex with next hops is reached.
   reached_of_other : (v : Vertex) → HasOtherHops blank_value t v → IsReachedIn g t v
   reached_of_other v other = elim (cases_vertex v (Router g.root)) [
     | inl is_root ↦ absurd (other (λ h. (λ x. absurd ((reached_of_hop v h x).1 is_root), λ x. absurd (hopless v h x))))

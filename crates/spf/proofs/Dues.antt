@@ -21,7 +21,7 @@ module _ {after gone come : Links} where
   due_more lost more_lost moved more_moved written more_written l m w v (OutOfMoved from cost label taken c) = OutOfMoved from cost label taken (m from c)
   due_more lost more_lost moved more_moved written more_written l m w v (OutOfWritten from cost label taken c) = OutOfWritten from cost label taken (w from c)
 
-  -- What is stale is due: at the start by a removed link, while support is lost by a link out of
+  -- A stale vertex is due: at the start by a removed link, while support is lost by a link out of
   -- what is lost, then by an added link, and while distances are relaxed by a link out of what is
   -- moved.
   pub due_went : (stale : List Vertex) → ((v : Vertex) → Contains stale v → (from : Vertex) × (cost : ℕ) × (label : Label) × gone from v cost label) → AreDue after gone come [] [] [] stale
@@ -37,7 +37,7 @@ module _ {after gone come : Links} where
     ];
   }
 
-  -- where the heads of links that came become stale
+  -- where the heads of added links become stale
   pub due_came : (lost stale wider : List Vertex) → AreDue after gone come lost [] [] stale
       → ((w : Vertex) → Contains wider w → Contains stale w ⊎ ((from : Vertex) × (cost : ℕ) × (label : Label) × come from w cost label)) → AreDue after gone come lost [] [] wider
   due_came lost stale wider d by = record { due = λ w c. elim (by w c) [ inl was ↦ d.due w was | inr came ↦ Came came.0 came.1 came.2 came.3 ] }
@@ -52,7 +52,7 @@ module _ {after gone come : Links} where
     ];
   }
 
-  -- What is moved or stale is queued for its next hops.
+  -- A moved or stale vertex is queued for its next hops.
   pub due_queued : (lost moved stale : List Vertex) (queue : Vertex → Option ℕ) → AreDue after gone come lost moved [] stale → ((v : Vertex) (k : ℕ) → queue v ≡ Some k → Contains moved v ⊎ Contains stale v)
       → AreQueuedDue after gone come lost moved [] queue
   due_queued lost moved stale queue d by = record { due = λ v k at. elim (by v k at) [ inl m ↦ Moved m | inr s ↦ d.due v s ] }

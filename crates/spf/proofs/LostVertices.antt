@@ -39,7 +39,7 @@ pub path_to_root : (link : Links) (root : ℕ) (has_root : Type 0) (limit : ℕ)
 path_to_root link root has_root limit has = record { way = []; path = (has, refl); most = omega arith }
 
 module _ {before after gone : Links} {root : ℕ} {had_root : Type 0} {old : Vertex → Option ℕ} (changes : AreGone before after gone) (were : AreDistances before root had_root old) where
-  -- Where nothing is lost yet, and the head of each least link that went is suspected, all are
+  -- Where nothing is lost yet, and the head of each removed least link is suspected, all are
   -- held: a vertex that is not suspected keeps a least link.
   pub held_at_start : (suspects : List Vertex) → ((from to : Vertex) (cost : ℕ) (label : Label) → to ≢ Router root → IsLeast gone old from to cost label → Contains suspects to)
       → AreHeld after root old [] suspects
@@ -147,7 +147,7 @@ module _ {after : Links} {root : ℕ} {has_root : Type 0} {old : Vertex → Opti
   kept_path to d is = by_rank old KeepsPath keeps_path to d is d is
 
 module _ (after : Links) (has_root : Type 0) {before : Links} {root : ℕ} {had_root : Type 0} {old : Vertex → Option ℕ} (were : AreDistances before root had_root old) where
-  -- what is both before and after stood before
+  -- a link that is both before and after was before
   stood : (from to : Vertex) (cost : ℕ) (label : Label) → Between before after from to cost label → before from to cost label
   stood from to cost label taken = taken.0
 

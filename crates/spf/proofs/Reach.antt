@@ -15,8 +15,8 @@ use Rattle.ospf_types.proofs.Elements.{no_element}
 use Rattle.spf.proofs.Paths.{last_step, cost_before, beginning, same_distance}
 
 module _ {link : Links} {root : ℕ} {has_root : Type 0} {most : ℕ} {routers : List ℕ} (are : AreLinks link root has_root) (costs : AreCosts link most routers) where
-  -- the routers that a least path of this cost leaves: each once, each nearer than the cost, which
-  -- is no more than the greatest cost of a link for each
+  -- the routers that a least path of this cost leaves, without duplicates, each nearer than the
+  -- cost, which is no more than the greatest cost of a link for each
   record LeavesRouters (d : ℕ) : Type 0 where
     pub left : List ℕ
     pub apart : HasNoDoubles left

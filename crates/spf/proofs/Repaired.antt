@@ -1,4 +1,4 @@
--- What a repair ends with: the tree of the links after, and work that is bounded by what differs.
+-- The end of a repair: the tree of the links after, and work that is bounded by what differs.
 use Rattle.std.proofs.Common.{◌≡◌, ◌≢◌, ℕ, ◌+◌, ◌*◌, ◌≤◌, List, [], ◌++◌, length, Option, Some, None, ◌⊎◌, inl, inr, sym, ◌∙◌}
 use Rattle.std.specs.Prelude.{◌↔◌}
 use Rattle.std.specs.List.{Contains}
@@ -18,7 +18,7 @@ use Rattle.spf.proofs.Whole.{tree_unions}
 use Rattle.spf.proofs.RelaxLoop.{relax_end}
 use Rattle.spf.proofs.UpdateNextHopsLoop.{update_next_hops_start, update_next_hops_end}
 
--- what is told of the lost stays so where more is stale
+-- the facts of the lost stay so where more is stale
 pub told_wider : {after gone : Links} {root : ℕ} {old : Vertex → Option ℕ} {lost : List Vertex} (stale wider : List Vertex) → AreToldLost after gone root old lost stale → ((v : Vertex) → Contains stale v → Contains wider v)
     → AreToldLost after gone root old lost wider
 told_wider stale wider t widens = record {
@@ -91,7 +91,7 @@ module _ {before after gone come : Links} {root : ℕ} {had_root has_root : Type
       | inr gone_v ↦ Contains-append_left first second v (lost_differs owed changes was.distances after_tree.distances l.dear (λ u x. let r = l.reached u x in (r.number, r.at)) reset n.ended n.moved_other v gone_v)
     ])
 
-    -- What is reached and has other next hops than before is written.
+    -- A vertex that is reached and has other next hops than before is written.
     pub written_if_other : (v : Vertex) (d : ℕ) → distance v ≡ Some d → (((g : NextHop) → IsHop before root had_root v g ↔ IsHop after root has_root v g) → ⊥) → Contains written v
     written_if_other v d at differs = elim (cases_contains written v) [
       | inl w ↦ w

@@ -1,5 +1,5 @@
--- What was neither moved nor told is settled: its least links are those of before, so its next hops
--- are right if those of their tails stayed.
+-- A vertex that was neither moved nor stale is settled: its least links are as before, so its next
+-- hops are right if those of their tails stayed.
 use Rattle.std.proofs.Common.{◌≡◌, ◌≢◌, ℕ, ◌+◌, List, Option, Some, None, sym, ap, subst, ◌∙◌, ◌⊎◌, inl, inr, arith}
 use Rattle.std.specs.Prelude.{◌↔◌}
 use Rattle.std.specs.List.{Contains}
@@ -126,8 +126,8 @@ module _ {before after gone come : Links} {root : ℕ} {had_root has_root : Type
           | inr from_other ↦ sym (unmoved from least.near from_other least.tail (λ m. untold (inr m))).1 ∙ least.tail
         ]
 
-  -- Where the sets of what is reached stand as they were, the set of what was neither moved nor
-  -- told is what its least links give it.
+  -- Where the sets of reached vertices are unchanged, the set of a vertex that was neither moved
+  -- nor stale is what its least links give it.
   pub right_where_fresh : (sets now : Vertex → NextHop → Type 0) → AreUnions before root old sets
       → ((v : Vertex) (d : ℕ) → distance v ≡ Some d → (h : NextHop) → now v h ↔ sets v h)
       → (to : Vertex) (d : ℕ) → distance to ≡ Some d → to ≢ Router root → (Contains moved to → ⊥) → (Contains stale to → ⊥)

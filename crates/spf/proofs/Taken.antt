@@ -1,4 +1,4 @@
--- What is taken from the queue of distances is right at once: the value at which the vertex of
+-- A vertex taken from the queue of distances is right at once: the value at which the vertex of
 -- least rank is queued is its distance.
 use Rattle.std.proofs.Common.{◌≡◌, ℕ, ◌+◌, ◌≤◌, List, [], ◌∷◌, Option, Some, subst, inl, inr, arith}
 use Rattle.ospf_types.specs.declared.entry.Vertex.{Vertex}

@@ -47,7 +47,7 @@ module _ {link : Links} {root : ℕ} {has_root : Type 0} (links : AreLinks link 
       omega (arith, before.forward done v d k in_taken at_done waits, least_later distance v done cost label k d least at at_done)
 
   -- A set is written from the sets as they stand, and the heads of its least links are queued, or
-  -- it stays as it was. Then each set is right or queued.
+  -- it is unchanged. Then each set is right or queued.
   pub right_written : (distance queue more : Vertex → Option ℕ) (sets new : Vertex → NextHop → Type 0) (v : Vertex) → AreRightOrQueued link root distance queue sets
       → ((w : Vertex) → w ≢ v → IsQueued queue w → IsQueued more w)
       → ((h : NextHop) → new v h ↔ IsGiven link root distance sets v h)
