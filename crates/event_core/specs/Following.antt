@@ -49,7 +49,7 @@ pub record AreOtherItems (c : CalculationValue) (table : map.FinMap network_cmp 
   pub each : (p : Prefix) (item : Option Item) → Contains items (p, item) → Contains networks p × IsItemOf c p item × (map.get table p ≢ item)
   pub others : (p : Prefix) → Contains networks p → ((item : Option Item) → Contains items (p, item) → ⊥) → IsItemOf c p (map.get table p)
 
--- the item that is to stand for the network is added, where the table has another one
+-- the item that the network is to have is added, if the table has another one
 abbrev pub IsOneMore : CalculationValue → map.FinMap network_cmp Item → Prefix → List (Prefix × Option Item) → List (Prefix × Option Item) → Type 0
 IsOneMore c table p before after =
     ((after ≡ before) × IsItemOf c p (map.get table p))

@@ -8,7 +8,7 @@ use Rattle.event_state.specs.declared.limits.Limits.{Limits}
 use Rattle.lsdb.specs.Contents.{TellsUseAt, TellsUseOf}
 use Rattle.lsdb.specs.Databases.{Database, DatabaseValue, IsInstallable, IsPurgeable, all_aged, with_lsa}
 
--- what is where there is no database
+-- an empty database, where there is none
 abbrev pub no_database : DatabaseValue
 no_database = record { lsas = empty; order = []; limit = 0 }
 

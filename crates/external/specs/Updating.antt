@@ -78,7 +78,7 @@ IsAlso i also d = (d ≡ also) × IsLedTo i d
 
 -- ---- the whole
 
--- the index belongs to the inputs, and all else that is not due is right as it stands: a named
+-- the index belongs to the inputs, and all else that is not due is right as it is: a named
 -- network that nothing leads to has no entry
 pub record StandsBut (v : ExternalInputsValue) (dests : List Dest) (affected : ChangedOffersValue) (w : ExternalValue) : Type 0 where
   pub fresh : w.spent ≡ false

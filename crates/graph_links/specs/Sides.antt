@@ -35,7 +35,7 @@ ends_of_row row = option_map (λ (r : Row). r.ends.items) row
 abbrev pub row_ends : RowList → Leading
 row_ends rows v = ends_of_row (find vertex_cmp v rows)
 
--- what is staged of a vertex stands for what was before
+-- the staged ends of a vertex, or its ends before if nothing is staged
 abbrev pub staged_or : Option (Option (Vec LinkEnd)) → Option (List LinkEnd) → Option (List LinkEnd)
 staged_or None before = before
 staged_or (Some given) before = option_map (λ (ends : Vec LinkEnd). ends.items) given

@@ -43,7 +43,7 @@ is_wrong_length bytes = nat_lt (length bytes) 20 || not (length_field bytes == l
 abbrev pub is_mask : ℕ → Bool
 is_mask mask = mask == 2 ^ 32 - 2 ^ (32 - mask_length mask)
 
--- ---- the links of a router-LSA (A.4.2), as they stand
+-- ---- the links of a router-LSA (A.4.2), in their order
 
 pub record RawTos : Type 0 where
   pub tos : ℕ

@@ -6,7 +6,7 @@ use Rattle.packets.specs.declared.datagram.Datagram.{Datagram}
 use Rattle.packets.specs.declared.key.Key.{Key}
 use Rattle.packets.specs.Parts.{Part, end_of, byte_at, extent, has_last, AreAgreed}
 
--- the two addresses, the identification and the protocol tell a datagram from others
+-- the two addresses, the identification and the protocol, which separate a datagram from others
 abbrev pub key_of : Datagram → Key
 key_of d = record { source = d.source; destination = d.destination; identification = d.identification; protocol = d.protocol }
 
@@ -54,7 +54,8 @@ is_whole kept = kept.has_end && list_all is_some kept.bytes
 abbrev pub payload_of : Kept → List ℕ
 payload_of kept = map (λ b. unwrap_or b 0) kept.bytes
 
--- how it is stored: the bytes, and which of them came. There may be more bytes than places.
+-- how it is stored: the bytes, and which of them were received. There may be more bytes than
+-- places.
 abbrev pub cells : List Bool → List ℕ → List (Option ℕ)
 cells [] bytes = []
 cells (came ∷ others) [] = []

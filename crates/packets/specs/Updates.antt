@@ -21,7 +21,7 @@ pub record IsOneLsa (lsa : List ℕ) : Type 0 where
   pub header : 20 ≤ length lsa
   pub whole : lsa_length lsa ≡ length lsa
 
--- an LSA, or the fault where one is to stand
+-- an LSA, or the fault where one is expected
 abbrev pub Piece : Type 0
 Piece = Result (List ℕ) UpdateFault
 

@@ -27,7 +27,7 @@ pub data Body : Type 0 where
   LookupLine : (address : ℕ) → Body
   RollLine : Body
 
--- what a line says, by where it may stand: one of the first lines, one of the header, one of the
+-- the meaning of a line, by where it may be: one of the first lines, one of the header, one of the
 -- base after it, or one of what happened
 pub data Form : Type 0 where
   VersionLine : (version : Version) → Form

@@ -1,4 +1,4 @@
--- Where in a recording a line may stand.
+-- The places of lines in a recording.
 use Rattle.std.specs.Prelude.{ℕ, ◌≡◌, ◌≤◌, ◌-◌, ◌==◌, ◌&&◌, ◌||◌, ◌++◌, Bool, true, false, not, nat_lt, nat_le, List, [], ◌∷◌, length, drop, slice_get, Option, Some, None, MatchOption, is_some, is_none, codes, cond}
 use Rattle.std.specs.List.{flat_map, list_any}
 use Rattle.std.specs.Ordering.{ordering_then}
@@ -135,7 +135,7 @@ is_past_id (Some last) id = nat_lt last.0 id
 abbrev pub is_next_interface : List (Scope × Lsa) → List (ℕ × Interface) → ℕ → Bool
 is_next_interface lsas interfaces id = is_none (last_of lsas) && is_past_id (last_of interfaces) id
 
--- where an LSA stands: by its scope, and then by its key
+-- the order of an LSA: by its scope, and then by its key
 abbrev pub place_cmp : Scope × Key → Scope × Key → Ordering
 place_cmp p q = ordering_then (scope_cmp p.0 q.0) (key_cmp p.1 q.1)
 
@@ -157,7 +157,7 @@ abbrev pub is_past_place : Option (Scope × Lsa) → Scope × Key → Bool
 is_past_place None place = true
 is_past_place (Some last) place = is_less (place_cmp (lsa_place last) place)
 
--- The scope tells before the bytes are read, and the key if they belong to an LSA.
+-- The scope decides before the bytes are read, and the key if they belong to an LSA.
 abbrev pub is_past_lsa : Option (Scope × Lsa) → Scope → List ℕ → Bool
 is_past_lsa last at bytes = is_past_scope last at && (is_some (fault_of bytes) || is_past_place last (lsa_place (at, lsa_of bytes)))
 

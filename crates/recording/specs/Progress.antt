@@ -77,7 +77,7 @@ pub record HasLines (text : List ℕ) (taken : ℕ) (rest : List (List ℕ)) (r 
 
 -- ---- a line of the header
 
--- the line may stand next in the header of this base
+-- the line may come next in the header of this base
 abbrev pub IsNextIn : Base → Form → Type 0
 IsNextIn b form = is_next_area b.config.areas form ≡ true
 

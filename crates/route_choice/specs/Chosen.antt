@@ -1,9 +1,9 @@
--- Which results are those that have to stand: a result at each key, none at some.
+-- The results that have to be there: a result at each key, `None` at some.
 use Rattle.std.specs.Prelude.{◌≡◌, ◌≢◌, ◌⊎◌, ◌↔◌, ◌++◌, List, [], ◌∷◌, Option, Contains, map}
 use Rattle.std.specs.List.Sorted.{IsStrictlySortedBy}
 use Rattle.std.specs.declared.cmp.Ordering.{Ordering}
 
--- at each key there stands what has to
+-- at each key there is the result that has to be there
 abbrev pub AreChosen : {K V : Type 0} → (K → Option V → Type 0) → (K → Option V) → Type 0
 AreChosen {K} IsChosen results = (k : K) → IsChosen k (results k)
 

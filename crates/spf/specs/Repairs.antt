@@ -8,7 +8,7 @@ use Rattle.ospf_types.specs.declared.label.Label.{Label}
 use Rattle.ospf_types.specs.Distances.{Links, TakenLink, IsPath, cost_of, IsDistance, IsHop}
 use Rattle.spf.specs.Trees.{IsWithin, IsLeast, rank, IsGiven}
 
--- the links that stand both before and after
+-- the links that are there both before and after
 abbrev pub Between : Links → Links → Links
 Between before after from to cost label = before from to cost label × after from to cost label
 

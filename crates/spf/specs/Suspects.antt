@@ -53,15 +53,15 @@ pub record AreToldOf (Told : Vertex → Type 0) (lost stale wider suspects more 
   pub suspects_only : (v : Vertex) → Contains more v → Contains suspects v ⊎ Told v
   pub apart : HasNoDoubles suspects → HasNoDoubles more
 
--- the search told each vertex of which this holds, and no other
+-- each vertex of which this holds became stale in the search, and no other
 abbrev pub AreToldIn : (Vertex → Type 0) → Search → Search → Type 0
 AreToldIn Told old new = AreToldOf Told old.lost old.pending.stale new.pending.stale old.suspects new.suspects
 
--- it told the heads of the least links among these
+-- the heads of the least links among these became stale
 abbrev pub AreHeadsTold : ℕ → DistanceMap → List Link → Search → Search → Type 0
 AreHeadsTold root distances links old new = AreToldIn (IsHead (WasLeast root (get distances)) links) old new
 
--- it told the heads of these links that a vertex at the distance might have supported
+-- the heads of these links that a vertex at the distance might have supported became stale
 abbrev pub AreHeadsBeyondTold : ℕ → DistanceMap → ℕ → List Link → Search → Search → Type 0
 AreHeadsBeyondTold root distances near links old new = AreToldIn (IsHead (MaySupport root (get distances) near) links) old new
 

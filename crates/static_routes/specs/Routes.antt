@@ -1,4 +1,4 @@
--- Static routes: of those to one network the least metric, where no other route to it stands.
+-- Static routes: to each network the one with the least metric, if no other route to it exists.
 use Rattle.std.specs.Prelude.{ℕ, ◌≡◌, ◌≤◌, ◌⊎◌, List, Option, Some, None, Contains}
 use Rattle.ospf_types.specs.declared.prefix.Prefix.{Prefix}
 use Rattle.ospf_types.specs.Network.{network_cmp}
@@ -9,7 +9,7 @@ use Rattle.route_choice.specs.Results.{Results, result_at}
 abbrev pub IsConfigured : List (Prefix × ℕ) → Prefix → ℕ → Type 0
 IsConfigured configured p metric = Contains configured (p, metric)
 
--- what is offered to the network: each metric that is configured, where no other route stands
+-- the offers to the network: each metric that is configured, if no other route exists
 abbrev pub IsOffered : List (Prefix × ℕ) → List Prefix → Prefix → ℕ → Type 0
 IsOffered configured taken p metric = (Contains taken p → ⊥) × IsConfigured configured p metric
 

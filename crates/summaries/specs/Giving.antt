@@ -80,7 +80,7 @@ abbrev pub IsDueTo : SummaryInputsValue → AreaConfig → Dest → ℕ → Type
 IsDueTo v a (Net p) metric = IsNetworkDueIn v a.id a.stub p metric
 IsDueTo v a (Router router) metric = IsRouterDueIn v a.id a.stub router metric
 
--- the router stands between two active areas, and this is one
+-- two areas are active, and this is one of them
 pub record IsServed (active : List ℕ) (area : ℕ) : Type 0 where
   pub here : Contains active area
   pub other : (another : ℕ) × Contains active another × (another ≢ area)
