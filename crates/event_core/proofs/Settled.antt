@@ -20,7 +20,7 @@ use Rattle.calculation.proofs.Summaries.{due_alike}
 use Rattle.event_core.proofs.Followed.{nothing_changes}
 use Rattle.event_core.proofs.NoWork.{no_event_work}
 
--- what the event before changed is no longer told
+-- the changes of the event before are no longer listed
 abbrev forgotten : RoutesValue → RoutesValue
 forgotten r = record r { work = no_work; changes = []; due_changes = [] }
 

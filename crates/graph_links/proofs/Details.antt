@@ -48,7 +48,7 @@ with_rest : (b : Bool) (before rest : List ℕ) (x : ℕ) → cond b before (bef
 with_rest true before rest x = refl
 with_rest false before rest x = append_assoc before (x ∷ []) rest
 
--- a number that is added unless it came last leaves the whole as it is
+-- a number that is added, unless it was added last, leaves the whole unchanged
 pub rest_added : (before : List ℕ) (last : Option ℕ) (x : ℕ) (xs whole : List ℕ) → before ++ rest_of last (x ∷ xs) ≡ whole → cond (is_last last x) before (before ++ x ∷ []) ++ rest_of (Some x) xs ≡ whole
 rest_added before last x xs whole h = with_rest (is_last last x) before (rest_of (Some x) xs) x ∙ ap (λ (rest : List ℕ). before ++ rest) (sym (rest_step last x xs)) ∙ h
 

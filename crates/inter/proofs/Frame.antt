@@ -1,4 +1,4 @@
--- The entry of a destination that nothing tells to choose again, and routes that followed all that
+-- The entry of a destination that does not have to be recomputed, and routes that followed all that
 -- may differ.
 --   entry_same: an entry for the offers is one for the same offers
 --   entry_listed, entry_advertised: what is offered by the index is what the LSAs offer

@@ -4,7 +4,7 @@
 --   indexes_of: the indexes of areas that are kept belong to their databases
 --   indexed_is: what is offered by the indexes of the areas is what is offered
 --   offers_same: an area offers the same over two relations that agree on the prefix
---   offers_kept: a network that nothing tells to choose again is offered the same before and after
+--   offers_kept: a network that does not have to be recomputed is offered the same before and after
 --   best_same, entry_same: the best of the offers, and the entry, belong to the same offers given
 --     another way
 --   entry_indexed: the entry of the offers in the indexes of the areas is the entry of the offers
@@ -242,7 +242,7 @@ pub entry_same : (one other : AreaCost → Path → Type 0) → ((key : AreaCost
 entry_same one other same None none = λ key path offered. none key path ((same key path).1 offered)
 entry_same one other same (Some e) is = (is.0, best_same one other same area_cost_cmp is.0 e.paths is.1, is.2, is.3)
 
--- ---- a network that nothing tells to choose again
+-- ---- a network that does not have to be recomputed
 
 -- what holds in this area: it is offered by the same vertices, none of these is named, and the root
 -- is none of them where an interface is named

@@ -112,7 +112,7 @@ either_is : (a b : Bool) → b ≡ true → (a || b) ≡ true
 either_is true b is = refl
 either_is false b is = is
 
--- a line of what happened came
+-- a line of what happened was added
 happened : (hs bs : List Form) (lines : List Line) → lines ≢ [] → list_any is_of_body (hs ++ (bs ++ map form_of lines)) ≡ true
 happened hs bs [] some = absurd (some refl)
 happened hs bs (l ∷ lines) some =

@@ -13,7 +13,7 @@ use Rattle.spf.proofs.LoseSupportLoop.{lose_support_start}
 use Rattle.spf.proofs.Whole.{NoLinks, no_distances, blank_tree}
 
 module _ (after : Links) (root : ℕ) (has_root : Type 0) where
-  -- no link went
+  -- no link was removed
   pub none_went : AreGone NoLinks after NoLinks
   none_went = record { went = λ from to cost label taken. absurd taken }
 

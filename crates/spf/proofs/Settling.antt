@@ -27,8 +27,8 @@ given_more A B root near far sets more to h least kept given = record {
   gives = gives_more root sets more given.from to given.label h (kept given.from given.cost given.label given.least) given.gives;
 }
 
--- Where the vertex that is taken tells the heads of its links that are as near over it, all are
--- told.
+-- Where the heads of the links of the vertex that is taken become stale if they are as near, all
+-- are stale.
 pub told_taken : {after come : Links} {root : ℕ} (distance queue new more : Vertex → Option ℕ) (moved all stale wider : List Vertex) (v : Vertex) (k : ℕ) → AreTold after come root distance queue moved stale → IsSet distance new v k
     → ((w : Vertex) → Contains moved w → Contains all w) → Contains all v → ((w : Vertex) → Contains all w → (w ≡ v) ⊎ Contains moved w)
     → ((w : Vertex) → Contains stale w → Contains wider w)

@@ -92,7 +92,7 @@ differ e = cc
 reset : IsReset 0 (Unit {0}) no_distances [] start
 reset = record { rooted = λ has. refl; rootless = λ none. absurd (none tt); blank = λ v other none. absurd (no_element v none); kept = λ v other kept. unset v other }
 
--- the link came, and is offered
+-- the link was added, and is offered
 opened : IsOpened one_link one_link 0 [] start queue []
 opened = record {
   into_lost = λ from to cost label d none. absurd (no_element to none);

@@ -9,7 +9,7 @@ use Rattle.route_choice.specs.Results.{Results, result_at}
 abbrev pub IsConfigured : List (Prefix × ℕ) → Prefix → ℕ → Type 0
 IsConfigured configured p metric = Contains configured (p, metric)
 
--- the offers to the network: each metric that is configured, if no other route exists
+-- what is offered to the network: each metric that is configured, where no other route stands
 abbrev pub IsOffered : List (Prefix × ℕ) → List Prefix → Prefix → ℕ → Type 0
 IsOffered configured taken p metric = (Contains taken p → ⊥) × IsConfigured configured p metric
 
