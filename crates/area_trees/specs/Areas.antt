@@ -76,7 +76,7 @@ abbrev pub IsGreatestOf : Database → ℕ → ℕ → Type 0
 IsGreatestOf d id router = IsUsed d (network_key id router) × ((other : ℕ) → IsUsed d (network_key id other) → other ≤ router)
 
 -- The body of the LSA that stands for the vertex, or `None` if the vertex is not there. For a
--- transit network it belongs to the greatest Advertising Router.
+-- transit network it is that LSA's which has the greatest Advertising Router.
 abbrev pub IsStanding : Database → Vertex → Option Body → Type 0
 IsStanding d (Router router) body = body ≡ body_at d (router_key router)
 IsStanding d (Network id) body =
@@ -162,7 +162,7 @@ NamesChanged old new = AreChanged old.tree new.tree new.tree.changed
 abbrev pub IsBuiltFor : ℕ → Database → List Up → AreaTreeValue × Touched → Type 0
 IsBuiltFor root d ups built = IsAreaTree root d ups built.0
 
--- the work of building belongs to the whole tree
+-- the work of building is the work for the whole tree
 abbrev pub IsBuiltByWork : AreaTreeValue × Touched → Type 0
 IsBuiltByWork built = IsWorkForAll built.0.area.graph built.0.tree built.1.taken built.1.hop_sets
 

@@ -14,8 +14,8 @@ abbrev pub IsRefusalOf : State → Event → Refusal → Type 0
 IsRefusalOf s e r = (refusal_of s e ≡ Some r) ⊎ ((r ≡ refusal.Memory) × (refusal_of s e ≡ None))
 
 -- The first of the table that holds, without the test of the journal, which knows only how many
--- events were taken since the base; or Memory if none does. It belongs to a full journal only if
--- none of the tests before refuses.
+-- events were taken since the base; or Memory if none does. It is 28 JournalFull only
+-- if none of the tests before refuses.
 abbrev pub IsLastingRefusalOf : State → Event → Refusal → Type 0
 IsLastingRefusalOf s e r =
     (lasting_refusal_of s e ≡ Some r)

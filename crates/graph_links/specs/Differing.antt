@@ -21,7 +21,7 @@ AddsUnless link others old new = Adds old new (λ (l : Link). (l ≡ link) × (C
 abbrev pub HaveSameLinks : List Link → List Link → Type 0
 HaveSameLinks old new = (l : Link) → Contains new l ↔ Contains old l
 
--- the two lists end in the same links, this many
+-- the two lists end in this many equal links
 abbrev pub HaveSameBack : ℕ → List Link → List Link → Type 0
 HaveSameBack n one other = drop (length one - n) one ≡ drop (length other - n) other
 

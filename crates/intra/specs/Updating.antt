@@ -29,7 +29,7 @@ pub record AreKeptBefore (root : ℕ) (keys : List (Scope × Key)) (vertices : L
 abbrev pub HaveKeptBefore : Dirty → InputsValue → List AreaIntraValue → Type 0
 HaveKeptBefore dirty v kept = AreKeptBefore v.root dirty.keys.items dirty.vertices.items v.areas kept
 
--- of the first areas, this many, this holds before and after, and the others are as before
+-- this many first areas are updated so, and the others are as before
 pub record AreFirst (P : AreaValue → AreaIntraValue → AreaIntraValue → Type 0) (areas : List AreaValue) (old new : List AreaIntraValue) (count : ℕ) : Type 0 where
   pub as_many : length new ≡ length old
   pub each : (k : ℕ) (a : AreaValue) (i j : AreaIntraValue) → k < count → P (get_or areas k a) (get_or old k i) (get_or new k j)
@@ -52,7 +52,7 @@ pub record IsBroughtTo (root : ℕ) (keys : List (Scope × Key)) (vertices : Lis
   pub followed : IsFollowed root vertices interfaces prefixes a old (with_index_of old new)
   pub settled : IsSettled root keys vertices a (with_index_of old new) new
 
--- in one of the first areas, this many, something else is kept of the router
+-- in one of this many first areas something else is kept of the router
 abbrev pub HasOtherAmong : ℕ → List AreaIntraValue → List AreaIntraValue → ℕ → Type 0
 HasOtherAmong count old new router = (k : ℕ) × (k < count) × ((i : AreaIntraValue) → get (get_or new k i).reached router ≢ get (get_or old k i).reached router)
 

@@ -52,6 +52,6 @@ areas_fault_of areas = first_of (
     ∷ (list_any (λ a. nat_lt 32 (length a.ranges)) areas, fault.RangeCount)
     ∷ [])
 
--- a configuration's faults belong to its areas
+-- a configuration has the faults of its areas
 abbrev pub config_fault_of : Config → Option ConfigFault
 config_fault_of c = areas_fault_of c.areas

@@ -65,7 +65,7 @@ IsFaultIn v before line after (fault.Config f) = HasConfigFault v (before ++ lin
 IsFaultIn v before line after (fault.Base u) = HasUnfit v before line u
 IsFaultIn v before line after fault.Memory = ⊥
 
--- the version belongs to the first line, which may be this one
+-- the version is given by the first line, which may be this one
 abbrev pub IsFaultOfLine : List (List ℕ) → List ℕ → List (List ℕ) → Fault → Type 0
 IsFaultOfLine before line after f = IsFaultIn (version_of (before ++ line ∷ [])) before line after f
 
