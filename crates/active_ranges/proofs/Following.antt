@@ -1,4 +1,5 @@
--- Active ranges follow the routes, member by member, and what that makes of the prefixes that are touched.
+-- Active ranges follow the routes, member by member, and what that makes of the prefixes that are
+-- touched.
 use Rattle.std.proofs.Common.{◌≡◌, ◌≢◌, ℕ, ◌+◌, ◌<◌, ◌≤◌, false, List, [], ◌∷◌, map, length, take, get_or, Option, Some, None, Ordering, refl, sym, ap, subst, ◌∙◌, ◌⊎◌, inl, inr}
 use Rattle.std.specs.Prelude.{◌↔◌, Contains, IsSome, is_some}
 use Rattle.std.specs.Cmp.{IsTotalOrder}
@@ -121,7 +122,7 @@ module _ (entries : EntriesByPrefix) (old new : ActiveValue) (named : List Range
   kept : (p : Prefix) → (Contains touched p → ⊥) → (m : RangeMember) → m.range ≡ p → get new.members m ≡ get old.members m
   kept p absent m is = followed.others m (λ c. absent ((ranges p).1 (subst (λ (q : Prefix). Contains (map (λ (x : RangeMember). x.range) named) q) is (mapped_element (λ (x : RangeMember). x.range) named m c))))
 
-  -- what is not touched stays as it was
+  -- a range that is not touched is unchanged
   stays : (p : Prefix) → (Contains touched p → ⊥) → DiffersAt old new p → ⊥
   stays p absent d = elim d [
     | inl left ↦ let w = left.0 in left.1 (w.0, w.1, kept p absent w.0 w.3 ∙ w.2, w.3)

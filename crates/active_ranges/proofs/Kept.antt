@@ -1,4 +1,4 @@
--- What a test keeps of a list.
+-- The elements of a list that a test keeps.
 use Rattle.std.proofs.Common.{◌≡◌, Bool, cond, true, false, List, [], ◌∷◌, refl, sym, ap, subst, ◌∙◌, inl, inr}
 use Rattle.std.specs.Prelude.{Contains, filter}
 use Rattle.std.specs.Map.{keys_of}

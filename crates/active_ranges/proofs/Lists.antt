@@ -1,4 +1,4 @@
--- What tests of prefixes and of maps tell.
+-- The results of tests of prefixes and of maps.
 use Rattle.std.proofs.Common.{◌≡◌, ◌≢◌, ℕ, Bool, true, false, not, List, [], ◌∷◌, length, Option, Some, None, Vec, vec_len, ◌==◌, refl, sym, ap, ◌∙◌}
 use Rattle.std.specs.Prelude.{◌↔◌, Contains, IsTrue, is_some}
 use Rattle.ospf_types.specs.declared.prefix.Prefix.{Prefix}

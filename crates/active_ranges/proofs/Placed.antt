@@ -1,4 +1,5 @@
--- The networks of a range in their order: where one is, and what is left of them where it has another cost.
+-- The networks of a range in their order: where one is, and what is left of them where it has
+-- another cost.
 --   put_changed: by what comes before and after it
 --   was_set, was_removed, was_inserted: by the place of the edit
 use Rattle.std.proofs.Common.{◌≡◌, ℕ, zero, suc, ◌+◌, ◌-◌, ◌<◌, Bool, cond, true, false, List, [], ◌∷◌, ◌++◌, map, length, take, drop, get_or, set, Option, Some, None, Ordering, Result, Ok, Err, IfOk, IfErr, refl, sym, ap, subst, ◌∙◌, inl, inr, add-one, arith}
@@ -249,7 +250,7 @@ module _ (items es : Entries) (same : items ≡ es) (ordered : AreInOrder items)
   pub inserted : (c : ℕ) → cost ≡ Some c → (at : ℕ) → IsGapFor es k at → (new : Entries) → new ≡ insert items at (k, c) → IsEdited es k cost new
   inserted c some at gap new e = edited (Some c) some new (insert es at (k, c)) (e ∙ ap (λ (xs : Entries). insert xs at (k, c)) same) (was_inserted es in_order k at gap c)
 
--- ---- networks that came one by one
+-- ---- networks given one by one
 
 pub map_keys : {A : Type 0} (f : Prefix → A) (es : Entries) → map (λ (e : Prefix × ℕ). f e.0) es ≡ map f (keys_of es)
 map_keys f [] = refl

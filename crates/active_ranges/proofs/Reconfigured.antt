@@ -1,4 +1,4 @@
--- What a range that is set or dropped changes.
+-- The effect of a range that is set or dropped.
 --   ranges_reconfigured: active ranges belong to the other areas
 --   active_alike: other prefixes are active as before
 --   members_stay: members differ only where the network is named and lies in the range
@@ -75,7 +75,7 @@ module _ (before after : List AreaConfig) (area : ℕ) (range : Prefix) (differ 
     λ w. (w.0, w.1, w.2, w.3, configured_before (Some (area, range)) before after differ m.area m.range (other_range m absent (w.0, w.1, w.2, w.5)) w.4, w.5),
   )
 
-  -- the members took costs which are those of members now
+  -- the members have the costs of members now
   followed_by : (costs : EntriesByPrefix) → AreFollowed costs members old new → ((m : RangeMember) (cost : ℕ) → Contains members m → IsCostIn (get costs m.network) m.area cost ↔ IsMember after entries m cost) → AreRangesOf after entries new
   followed_by costs followed are = record {
     fresh = followed.spent ∙ was.fresh;

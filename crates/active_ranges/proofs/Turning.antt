@@ -1,4 +1,4 @@
--- What was noted of prefixes, and the prefixes of which it is no longer so.
+-- The notes of prefixes, and the prefixes for which they no longer hold.
 use Rattle.std.proofs.Common.{◌≡◌, ℕ, ◌+◌, ◌<◌, ◌≤◌, List, [], ◌∷◌, ◌++◌, map, length, take, drop, get_or, sym, ap, subst, ◌∙◌, inl, inr}
 use Rattle.std.specs.Prelude.{◌↔◌, Contains}
 use Rattle.std.proofs.lemmas.List.{drop_more, map-append, take_more}
@@ -22,7 +22,7 @@ abbrev pub HasTurnedAt : ActiveValue → Noted → Prefix → Type 0
 HasTurnedAt v n p = (n.prefix ≡ p) × HasTurned v n
 
 module _ (v : ActiveValue) (noted : List Noted) (i : ℕ) (n : Noted) (lt : i < length noted) (at : n ≡ get_or noted i n) (before after : List Prefix) (told : IsTold v n before after) where
-  -- one more is told, or left out
+  -- one more is reported, or left out
   pub ascending_told : IsAscending network_cmp before (map (λ (m : Noted). m.prefix) (drop i noted)) → IsAscending network_cmp after (map (λ (m : Noted). m.prefix) (drop (i + 1) noted))
   ascending_told are =
       let left : drop i noted ≡ n ∷ drop (i + 1) noted = drop_more noted i n lt ∙ ap (λ (m : Noted). m ∷ drop (i + 1) noted) (sym at) in
@@ -43,7 +43,7 @@ module _ (v : ActiveValue) (noted : List Noted) (i : ℕ) (n : Noted) (lt : i < 
   pub exact_told : HasMore (IsOfSome (take i noted) (HasTurnedAt v)) [] before → HasMore (IsOfSome (take (i + 1) noted) (HasTurnedAt v)) [] after
   exact_told first = more_next (HasTurnedAt v) noted i n [] before after lt at first more_told
 
--- all are told
+-- all are reported
 pub all_told : (v : ActiveValue) (noted : List Noted) (i : ℕ) (listed : List Prefix) → length noted ≤ i → HasMore (IsOfSome (take i noted) (HasTurnedAt v)) [] listed
     → (p : Prefix) → Contains listed p ↔ ((n : Noted) × Contains noted n × (n.prefix ≡ p) × HasTurned v n)
 all_told v noted i listed past more p =

@@ -26,7 +26,8 @@ module _ (networks : Networks) (limit : ℕ) where
   abbrev pub IsCost : ℕ → Type 0
   IsCost c = IsCostOf networks c × (c < limit)
 
-  -- one of the networks met so far has this cost, and none of them a greater one; the others are still to come
+  -- one of the networks met so far has this cost, and none of them a greater one; the others are
+  -- still to come
   pub record AreWeighed (most : Option ℕ) (left : Entries) : Type 0 where
     pub found : (c : ℕ) → most ≡ Some c → IsCost c
     pub reached : (c : ℕ) → IsCost c → IsReached most c ⊎ ((network : Prefix) × Contains left (network, c))

@@ -1,4 +1,5 @@
--- The ranges of the areas with the networks that they summarize, each at its cost (RFC 2328, 3.5 and 16.2).
+-- The ranges of the areas with the networks that they summarize, each at its cost (RFC 2328, 3.5
+-- and 16.2).
 use Rattle.std.specs.Prelude.{ℕ, ◌≡◌, ◌⊎◌, ◌↔◌, Bool, true, false, List, Contains, Option, Some, refl}
 use Rattle.std.specs.Coded.{Coded, code_by, coded×, coded_ℕ}
 use Rattle.std.specs.FinMap.{FinMap, get, empty}
@@ -67,7 +68,8 @@ DiffersAt old new p = (IsActiveIn old p × (IsActiveIn new p → ⊥)) ⊎ ((IsA
 abbrev pub EntriesDifferAmong : List Dest → EntriesByPrefix → EntriesByPrefix → Type 0
 EntriesDifferAmong dests before after = (p : Prefix) → (Contains dests (Net p) → ⊥) → get after p ≡ get before p
 
--- the ranges are those by earlier entries, which differ from these only at the networks that are named
+-- the ranges are those by earlier entries, which differ from these only at the networks that are
+-- named
 abbrev pub AreRangesBehind : List AreaConfig → List Dest → EntriesByPrefix → ActiveValue → Type 0
 AreRangesBehind areas dests entries v = (before : EntriesByPrefix) × AreRangesOf areas before v × EntriesDifferAmong dests before entries
 
@@ -85,11 +87,13 @@ RangesDifferAt named before after = (area : ℕ) (r : Range) → (named ≡ Some
 abbrev pub IsWithin : EntriesByPrefix → ℕ → Prefix → Prefix → Type 0
 IsWithin entries area range network = (e : Entry) × (get entries network ≡ Some e) × (e.area ≡ Some area) × Covers range network
 
--- the ranges belong to an earlier configuration, which differs from this one only in the range that is named
+-- the ranges belong to an earlier configuration, which differs from this one only in the range that
+-- is named
 abbrev pub AreRangesButAt : ℕ × Prefix → List AreaConfig → EntriesByPrefix → ActiveValue → Type 0
 AreRangesButAt named areas entries v = (before : List AreaConfig) × AreRangesOf before entries v × RangesDifferAt (Some named) before areas
 
--- among the destinations are the prefix of the range that may differ, and the networks of its area that it covers
+-- among the destinations are the prefix of the range that may differ, and the networks of its area
+-- that it covers
 abbrev pub IsRangeNamed : Option (ℕ × Prefix) → List Dest → EntriesByPrefix → Type 0
 IsRangeNamed named dests entries = (area : ℕ) (range : Prefix) → named ≡ Some (area, range) → Contains dests (Net range) × ((network : Prefix) → IsWithin entries area range network → Contains dests (Net network))
 

@@ -1,4 +1,5 @@
--- How active ranges follow the routes: the members that named networks may be, and the prefixes that they touch.
+-- How active ranges follow the routes: the members that named networks may be, and the prefixes
+-- that they touch.
 use Rattle.std.specs.Prelude.{ℕ, ◌≡◌, ◌≢◌, ◌⊎◌, ◌↔◌, ◌++◌, List, [], ◌∷◌, Contains, Option, Some, None, IsTrue, map}
 use Rattle.std.specs.FinMap.{get}
 use Rattle.ospf_types.specs.declared.config.AreaConfig.{AreaConfig}
@@ -43,7 +44,8 @@ IsCostIn entry area cost = (e : Entry) × (entry ≡ Some e) × (e.area ≡ Some
 abbrev pub IsAddedWithin : EntriesByPrefix → RangeMember → RangeMember × ℕ → Type 0
 IsAddedWithin entries member x = (x.0 ≡ member) × Covers member.range member.network × IsCostIn (get entries member.network) member.area x.1
 
--- where this is the entry of the member's network, the member comes to the list if its range covers the network
+-- where this is the entry of the member's network, the member comes to the list if its range covers
+-- the network
 abbrev pub AddsWithin : RangeMember → Entry → List (RangeMember × ℕ) → List (RangeMember × ℕ) → Type 0
 AddsWithin member entry before after = (entries : EntriesByPrefix) → get entries member.network ≡ Some entry → HasMore (IsAddedWithin entries member) before after
 
@@ -77,7 +79,8 @@ IsMemberIn v area range m = (m.range ≡ range) × (m.area ≡ area) × ((cost :
 abbrev pub AreOfRange : ℕ → Prefix → List (RangeMember × ℕ) → Type 0
 AreOfRange area range costs = (m : RangeMember) (cost : ℕ) → Contains costs (m, cost) → (m.range ≡ range) × (m.area ≡ area)
 
--- the area's range has these members at costs that come with them, and no others; those of other ranges have what they had
+-- the area's range has these members at costs that come with them, and no others; those of other
+-- ranges have what they had
 pub record AreTakenIn (area : ℕ) (range : Prefix) (costs : List (RangeMember × ℕ)) (old new : ActiveValue) : Type 0 where
   pub spent : new.spent ≡ old.spent
   pub here : (m : RangeMember) (c : ℕ) → Contains costs (m, c) → (cost : ℕ) × (get new.members m ≡ Some cost) × Contains costs (m, cost)

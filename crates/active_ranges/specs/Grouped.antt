@@ -35,7 +35,7 @@ abbrev pub IsPutIn : Networks → Prefix → Option ℕ → Networks → Type 0
 IsPutIn old network cost new =
     (q : Prefix) → lookup (is_at (network_cmp q)) new.entries ≡ cond (is_at (network_cmp network) q) cost (lookup (is_at (network_cmp q)) old.entries)
 
--- it has just the networks that came, each at a cost that came with it
+-- it has just the networks given, each at a cost given with it
 pub record AreMadeOf (came : List (Prefix × ℕ)) (networks : Networks) : Type 0 where
   pub there : (p : Prefix) → Contains (keys_of came) p → (cost : ℕ) × (lookup (is_at (network_cmp p)) networks.entries ≡ Some cost)
   pub costs : (p : Prefix) (cost : ℕ) → lookup (is_at (network_cmp p)) networks.entries ≡ Some cost → Contains came (p, cost)
@@ -63,7 +63,8 @@ member_in r x = (member_of r x.0, x.1)
 abbrev pub is_elsewhere : AreaRange → RangeMember → Bool
 is_elsewhere r m = not (is_at (range_cmp (range_of m)) r)
 
--- the members of all ranges (a range occurs once; if one occurred twice, its first networks would count)
+-- the members of all ranges (a range occurs once; if one occurred twice, its first networks would
+-- count)
 abbrev pub members_in : NetworksByRange → List (RangeMember × ℕ)
 members_in [] = []
 members_in (r ∷ rs) = map (member_in r.0) r.1.entries ++ filter (λ x. is_elsewhere r.0 x.0) (members_in rs)

@@ -1,4 +1,4 @@
--- What a list has, and the greatest of some numbers.
+-- The elements of a list, and the greatest of some numbers.
 use Rattle.std.specs.Prelude.{ℕ, ◌≡◌, ◌↔◌, ◌<◌, Option, Some}
 use Rattle.ospf_types.specs.Summaries.{IsGreatest}
 pub use Rattle.route_choice.specs.Lists.{ListsExactly, HasMore}

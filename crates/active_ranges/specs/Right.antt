@@ -19,6 +19,7 @@ AreConfigured (b ∷ bs) [] = ⊥
 abbrev pub IsRightFor : Inputs → ActiveValue → Type 0
 IsRightFor s v = (p : Prefix) → IsActiveIn v p ↔ IsActivePrefix s p
 
--- the active ranges are right for all inputs that are configured so, and for which the intra-area routes are right
+-- the active ranges are right for all inputs that are configured so, and for which the intra-area
+-- routes are right
 abbrev pub IsRightWith : List AreaConfig → IntraValue → ActiveValue → Type 0
 IsRightWith areas intra v = (s : Inputs) → AreConfigured s.areas areas → IsIntraRight s intra → IsRightFor s v

@@ -14,14 +14,14 @@ use Rattle.advertised_index.proofs.Groups.{Member}
 pub still_among : (ms : List Member) (c d : IndexFilter) → AreAmong ms c → ((g : IndexKey) → MayHave c g → MayHave d g) → AreAmong ms d
 still_among ms c d are kept m there = kept m.0 (are m there)
 
--- a key came
+-- a key was added
 pub among_with : (old new : List Member) (c : IndexFilter) (group : IndexKey) (key : Key) → AreAmong old c → ((m : Member) → Contains new m → Contains old m ⊎ (m ≡ (group, key))) → MayHave c group → AreAmong new c
 among_with old new c group key are came may m there = elim (came m there) [
   | inl was ↦ are m was
   | inr is ↦ subst (λ (x : Member). MayHave c x.0) (sym is) may
 ]
 
--- keys went
+-- keys were removed
 pub among_without : (old new : List Member) (c : IndexFilter) → AreAmong old c → ((m : Member) → Contains new m → Contains old m) → AreAmong new c
 among_without old new c are was m there = are m (was m there)
 

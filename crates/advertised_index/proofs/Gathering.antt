@@ -1,4 +1,4 @@
--- What the keys of groups lead to, gathered key by key.
+-- The routes to which the keys of groups lead, gathered key by key.
 use Rattle.std.proofs.Common.{◌≡◌, ◌≢◌, ℕ, ◌<◌, List, [], ◌∷◌, ◌++◌, map, length, get_or, refl, sym, ap, subst, ◌∙◌, ◌⊎◌, inl, inr, arith}
 use Rattle.std.specs.Prelude.{◌↔◌, Contains, Some, None}
 use Rattle.std.specs.List.{AllPairs}

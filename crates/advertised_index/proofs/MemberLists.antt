@@ -1,4 +1,5 @@
--- The list of a set: what stays in it and what comes as a key is put in or taken out, and what a range of it has.
+-- The list of a set: what stays in it and what comes as a key is put in or taken out, and what a
+-- range of it has.
 use Rattle.std.proofs.Common.{◌≡◌, ◌≢◌, ◌⊎◌, ◌<◌, ◌^◌, ◌&&◌, Bool, true, false, true≢false, not, cond, List, [], ◌∷◌, Ordering, refl, sym, ap, subst, ◌∙◌, inl, inr, arith}
 use Rattle.std.specs.Prelude.{filter, Contains}
 use Rattle.std.specs.declared.cmp.Ordering.TheVariants.{Less, Equal, Greater}

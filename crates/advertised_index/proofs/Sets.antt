@@ -1,4 +1,4 @@
--- What a set has once a key is put in or taken out, where its test tells keys apart.
+-- A set after a key is added or removed, where its test distinguishes keys.
 use Rattle.std.proofs.Common.{◌≡◌, ◌≢◌, ◌⊎◌, ℕ, Bool, true, false, true≢false, cond, List, sym, ap, subst, ◌∙◌, inl, inr, refl}
 use Rattle.std.specs.Prelude.{◌↔◌, IsTrue, Contains}
 use Rattle.std.specs.Cmp.{IsEquivalence, eq_by_cmp_equiv, nat_cmp_total}
@@ -10,7 +10,7 @@ use Rattle.ospf_types.specs.declared.key.Dest.{Dest}
 use Rattle.ospf_types.proofs.Orders.{dest_total, dest_exact}
 use Rattle.route_choice.proofs.DestOrder.{dests_equal, dests_order}
 
--- ---- destinations and numbers are told apart
+-- ---- destinations and numbers are distinguished
 
 pub dests_exact : (d e : Dest) → dests_equal d e ≡ true → d ≡ e
 dests_exact = subst (λ (same : Dest → Dest → Bool). (d e : Dest) → same d e ≡ true → d ≡ e) (sym dests_order) (tells_apart dest_exact)

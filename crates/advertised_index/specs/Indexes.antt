@@ -1,4 +1,5 @@
--- The index of what is advertised: by key, and found again by destination, by advertiser and by forwarding address.
+-- The index of what is advertised: by key, and found again by destination, by advertiser and by
+-- forwarding address.
 use Rattle.std.specs.Prelude.{ℕ, ◌≡◌, ◌≢◌, ◌⊎◌, ◌<◌, List, Contains, Option, Some}
 use Rattle.std.specs.FinMap.{FinMap, get, empty}
 use Rattle.ospf_types.specs.declared.key.Dest.{Dest}
@@ -43,11 +44,13 @@ IsIndexOf root scope d i = (k : Key) → get i.routes k ≡ advertised_at root s
 abbrev pub LsasDifferAmong : List (Scope × Key) → Scope → Database → Database → Type 0
 LsasDifferAmong keys scope before after = (k : Key) → (Contains keys (scope, k) → ⊥) → body_at after k ≡ body_at before k
 
--- the index belongs to an earlier database, which differs from this one only in the LSAs that are named
+-- the index belongs to an earlier database, which differs from this one only in the LSAs that are
+-- named
 abbrev pub IsIndexBehind : ℕ → Scope → List (Scope × Key) → Database → OfferIndexValue → Type 0
 IsIndexBehind root scope keys d i = (before : Database) × IsIndexOf root scope before i × LsasDifferAmong keys scope before d
 
--- what is advertised under the key leads to the destination, or is by the router, or has the forwarding address
+-- what is advertised under the key leads to the destination, or is by the router, or has the
+-- forwarding address
 abbrev pub IsOfGroup : IndexKey → Key → AdvertisedValue → Type 0
 IsOfGroup (To dest) k a = a.dest ≡ dest
 IsOfGroup (By router) k a = k.router ≡ router
@@ -85,7 +88,8 @@ HasDest o dest = (a : AdvertisedValue) × (o ≡ Some a) × (a.dest ≡ dest)
 abbrev pub HasForwarding : Option AdvertisedValue → ℕ → Type 0
 HasForwarding o address = (a : AdvertisedValue) × (o ≡ Some a) × (a.forwarding ≡ address) × (0 < address)
 
--- under the key the same is advertised before and after, or what each of the two says is among what may differ
+-- under the key the same is advertised before and after, or what each of the two says is among what
+-- may differ
 abbrev pub IsTouchedAt : Option AdvertisedValue → Option AdvertisedValue → ChangedOffersValue → Type 0
 IsTouchedAt old new after = (new ≡ old)
     ⊎ (((dest : Dest) → HasDest old dest ⊎ HasDest new dest → Contains after.dests dest)

@@ -28,11 +28,11 @@ NotesAtMost group old new = (g : IndexKey) → IsNoted new g → IsNoted old g �
 abbrev pub HasKey : List (IndexKey × Key) → IndexKey → Type 0
 HasKey members g = (k : Key) × Contains members (g, k)
 
--- just those of these groups are noted in which a key stands
+-- just those of these groups are noted that have a key
 abbrev pub AreNoted : List (IndexKey × Key) → KnownKeys → Type 0
 AreNoted members n = (g : IndexKey) → IsNotable g → IsNoted n g ↔ HasKey members g
 
--- just those are noted in which a key stands, but that this one may be noted with no key
+-- just those are noted that have a key, but this one may be noted without a key
 pub record AreNotedBut (group : IndexKey) (members : List (IndexKey × Key)) (n : KnownKeys) : Type 0 where
   pub all : (g : IndexKey) → IsNotable g → HasKey members g → IsNoted n g
   pub only : (g : IndexKey) → IsNoted n g → HasKey members g ⊎ (g ≡ group)

@@ -1,4 +1,4 @@
--- What a list has.
+-- The elements that a list gains.
 use Rattle.std.specs.Prelude.{ℕ, ◌≡◌, ◌≢◌, ◌⊎◌, ◌↔◌, ◌≤◌, ◌++◌, List, Contains}
 use Rattle.std.specs.List.{AllPairs}
 

@@ -1,4 +1,5 @@
--- The graph of an area follows its database: what is not named keeps what represents it, and what is named is given.
+-- The graph of an area follows its database: what is not named keeps what represents it, and what
+-- is named is given.
 use Rattle.std.proofs.Common.{◌≡◌, ◌≢◌, ℕ, ◌<◌, ◌≤◌, true, List, [], ◌∷◌, length, map, get_or, Option, Some, None, refl, sym, ap, subst, ◌∙◌, inl, inr, ⊎_elim, is_some, arith}
 use Rattle.std.specs.Prelude.{◌↔◌, Contains, IsSome, option_map, option_and_then}
 use Rattle.std.specs.FinMap.{get, empty, get-empty, keys, len, entries, len-entries, contains_key-keys}
@@ -126,7 +127,7 @@ keys_apart routers apart = λ i j d less within same.
 -- ---- from one database to the next
 
 module _ (before after : Database) (changed : List Key) (differ : DifferAmong before after changed) where
-  -- what no key names has what stood for it
+  -- a vertex that no key names keeps the LSA that represented it
   stands_still : (v : Vertex) → ((k : Key) → Contains changed k → vertex_of k ≡ Some v → ⊥) → (body : Option Body) → IsStanding before v body → IsStanding after v body
   stands_still (Router router) unnamed body is = is ∙ sym (differ (router_key router) (λ c. unnamed (router_key router) c refl))
   stands_still (Network id) unnamed body is =

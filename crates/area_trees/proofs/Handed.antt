@@ -1,4 +1,4 @@
--- What stands for a vertex.
+-- The LSA that represents a vertex.
 use Rattle.std.proofs.Common.{◌≡◌, ℕ, List, [], ◌∷◌, ◌++◌, Option, None, refl, inl, inr, Bor}
 use Rattle.std.specs.Prelude.{Contains, option_map}
 use Rattle.std.proofs.lemmas.List.{map-append}

@@ -1,4 +1,5 @@
--- The LSAs of a database: each is under a key, and what is used of it is its body where it is usable.
+-- The LSAs of a database: each is under a key, and what is used of it is its body where it is
+-- usable.
 use Rattle.std.proofs.Common.{◌≡◌, ℕ, ◌<◌, Bool, true, false, cond, T, List, [], ◌∷◌, Option, Some, None, Ordering, refl, sym, ap, ◌∙◌, ⊎_elim, arith}
 use Rattle.std.specs.Prelude.{◌&&◌, nat_lt, option_and_then}
 use Rattle.std.specs.declared.cmp.Ordering.TheVariants.{Less, Equal, Greater}

@@ -1,4 +1,5 @@
--- The graph and tree of an area are as defined: its vertices, links, distances and next hops (RFC 2328, 16.1).
+-- The graph and tree of an area are as defined: its vertices, links, distances and next hops (RFC
+-- 2328, 16.1).
 use Rattle.std.proofs.Common.{◌≡◌, ℕ, List, Option, Some, None, refl, sym, ap, subst, ◌∙◌, inl, inr}
 use Rattle.std.specs.Prelude.{◌↔◌}
 use Rattle.std.specs.FinMap.{get}

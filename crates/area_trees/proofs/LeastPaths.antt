@@ -85,7 +85,7 @@ module _ {g : GraphValue} {t : TreeValue} (is : IsTreeOf g t) where
         joined = joined_more g (Router g.root) l.from (k ∷ links) l path.joined path.path.1 refl;
       }
 
-  -- What comes before the last link is a path too, or the root alone.
+  -- The part before the last link is a path too, or the root alone.
   pub steps_back : (to : Vertex) (hop : NextHop) (at : Vertex) (h : NextHop) (links : List (Bor Link)) (last : LastLink) → GoesOn g to hop at h (reverse (links_at links)) → IsLast g t at h last
       → IsFound g to hop last.link.now.from (left_of last.before) (links ++ last.link ∷ [])
   steps_back to hop at h links last on is_last = go last.before refl
@@ -191,7 +191,7 @@ at_address (At addresses) interface address has = (address, has, refl)
 at_address (Over id) interface address has = absurd (no_element address has)
 at_address Plain interface address has = absurd (no_element address has)
 
--- The next hop itself is handed on, or that of the network where it is an address there.
+-- The next hop itself is passed on, or the network's where it is an address there.
 pub handed_by_either : (t : TreeValue) (l : Link) (interface address : ℕ) (same direct found : Option NextHop) → Contains (addresses_of l.label) address
     → IsHopIfSome t l.from (hop.Router interface address) same → IsHopIfSome t l.from (hop.Direct interface) direct → found ≡ option_or same direct
     → IfSome found (λ tail. IsHandedBy t l (hop.Router interface address) tail)

@@ -1,4 +1,5 @@
--- Where no LSA is used otherwise, the graph and the tree of an area are right as they are, and that is no work.
+-- Where no LSA is used otherwise, the graph and the tree of an area are right as they are, and that
+-- is no work.
 use Rattle.std.proofs.Common.{◌≡◌, ◌≢◌, ℕ, List, [], ◌∷◌, length, Option, Some, None, inl, inr, refl, sym, subst, ◌∙◌, arith}
 use Rattle.std.specs.Prelude.{Contains, IsSome}
 use Rattle.std.specs.List.{AllPairs}

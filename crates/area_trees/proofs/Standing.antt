@@ -1,4 +1,4 @@
--- What stands for a vertex: there is one, and it is of the vertex's kind.
+-- The LSA that represents a vertex: there is one, and it is of the vertex's kind.
 use Rattle.std.proofs.Common.{◌≡◌, ℕ, true, false, Option, Some, None, refl, sym, ap, ◌∙◌, ◌⊎◌, inl, inr, le_antisymm, arith}
 use Rattle.std.specs.Prelude.{IsSome, List, is_some}
 use Rattle.ospf_types.specs.declared.entry.Vertex.{Vertex}

@@ -1,4 +1,5 @@
--- The work of a change of graph and tree belongs to the links before and after, as the definitions give them.
+-- The work of a change of graph and tree belongs to the links before and after, as the definitions
+-- give them.
 use Rattle.std.proofs.Common.{◌≡◌, ℕ, ◌+◌, ◌*◌, ◌≢◌, ◌≤◌, List, length, sym, subst, ◌∙◌, inl, inr}
 use Rattle.std.specs.Prelude.{◌↔◌}
 use Rattle.std.specs.FinMap.{get}

@@ -70,11 +70,13 @@ KeepsOthers key old new =
 abbrev pub IsGreatest : List (ℕ × ℕ) → ℕ → ℕ → Type 0
 IsGreatest networks id router = Contains networks (id, router) × ((other : ℕ) → Contains networks (id, other) → other ≤ router)
 
--- of a database's usable network-LSAs with the Link State ID this Advertising Router is the greatest
+-- of a database's usable network-LSAs with the Link State ID this Advertising Router is the
+-- greatest
 abbrev pub IsGreatestOf : Database → ℕ → ℕ → Type 0
 IsGreatestOf d id router = IsUsed d (network_key id router) × ((other : ℕ) → IsUsed d (network_key id other) → other ≤ router)
 
--- The body of the LSA that stands for the vertex, or `None` if the vertex is not there. For a transit network it belongs to the greatest Advertising Router.
+-- The body of the LSA that stands for the vertex, or `None` if the vertex is not there. For a
+-- transit network it is that LSA's which has the greatest Advertising Router.
 abbrev pub IsStanding : Database → Vertex → Option Body → Type 0
 IsStanding d (Router router) body = body ≡ body_at d (router_key router)
 IsStanding d (Network id) body =
@@ -139,7 +141,8 @@ IsTreeOfSome v = (root : ℕ) × (d : Database) × (ups : List Up) × IsAreaTree
 abbrev pub IsTreeIn : Database → AreaTreeValue → Type 0
 IsTreeIn d v = (root : ℕ) × (ups : List Up) × IsAreaTree root d ups v
 
--- graph and tree belong to a database that differs from this one at most in the LSAs under these keys
+-- graph and tree belong to a database that differs from this one at most in the LSAs under these
+-- keys
 abbrev pub IsTreeBut : Database → List Key → AreaTreeValue → Type 0
 IsTreeBut d keys v = (root : ℕ) × (before : Database) × (ups : List Up) × IsAreaTree root before ups v × DifferAmong before d keys
 
@@ -159,7 +162,7 @@ NamesChanged old new = AreChanged old.tree new.tree new.tree.changed
 abbrev pub IsBuiltFor : ℕ → Database → List Up → AreaTreeValue × Touched → Type 0
 IsBuiltFor root d ups built = IsAreaTree root d ups built.0
 
--- the work of building belongs to the whole tree
+-- the work of building is the work for the whole tree
 abbrev pub IsBuiltByWork : AreaTreeValue × Touched → Type 0
 IsBuiltByWork built = IsWorkForAll built.0.area.graph built.0.tree built.1.taken built.1.hop_sets
 

@@ -1,4 +1,5 @@
--- Paths of least cost by which a vertex has a next hop (RFC 2328, 16.1 and 16.1.1), as the links that they take.
+-- Paths of least cost by which a vertex has a next hop (RFC 2328, 16.1 and 16.1.1), as the links
+-- that they take.
 use Rattle.std.specs.Prelude.{◌⊎◌, ℕ, suc, ◌≡◌, ◌≢◌, List, [], ◌∷◌, ◌++◌, map, reverse, Option, Some, None}
 use Rattle.std.specs.FinMap.{get}
 use Rattle.std.proofs.Common.{Bor}
@@ -36,7 +37,8 @@ AreEndToEnd from (l ∷ links) = (l.from ≡ from) × AreEndToEnd l.to links
 abbrev pub HasHop : GraphValue → Vertex → NextHop → Type 0
 HasHop g to h = IsHop (LinksOf g) g.root (HasRoot g) to h
 
--- The links lead from the root to the vertex, end to end, at the least cost of any path, and h is a next hop of theirs.
+-- The links lead from the root to the vertex, end to end, at the least cost of any path, and h is a
+-- next hop of theirs.
 pub record IsLeastPath (g : GraphValue) (to : Vertex) (h : NextHop) (links : List Link) : Type 0 where
   pub path : IsPath (LinksOf g) g.root (HasRoot g) (way_over links) to
   pub least : IsDistance (LinksOf g) g.root (HasRoot g) to (cost_of (way_over links))
@@ -48,12 +50,14 @@ abbrev pub IsPathOver : GraphValue → Vertex → NextHop → List Link → Type
 IsPathOver g to h [] = HasHop g to h → ⊥
 IsPathOver g to h (l ∷ links) = IsLeastPath g to h (l ∷ links)
 
--- The links found from its end on end a path: each path to where they begin, by the next hop that is left, goes on over them.
+-- The links found from its end on end a path: each path to where they begin, by the next hop that
+-- is left, goes on over them.
 pub record GoesOn (g : GraphValue) (to : Vertex) (hop : NextHop) (at : Vertex) (left : NextHop) (links : List Link) : Type 0 where
   pub has : HasHop g at left
   pub whole : (before : List Link) → IsLeastPath g at left before → IsLeastPath g to hop (before ++ links)
 
--- The links found, the last one first. Where no next hop is left, they are the whole path, or there is none.
+-- The links found, the last one first. Where no next hop is left, they are the whole path, or there
+-- is none.
 abbrev pub IsFound : GraphValue → Vertex → NextHop → Vertex → Option NextHop → List (Bor Link) → Type 0
 IsFound g to hop at (Some left) links = GoesOn g to hop at left (reverse (links_at links))
 IsFound g to hop at None links = IsLeastPath g to hop (reverse (links_at links)) ⊎ ((links ≡ []) × (HasHop g to hop → ⊥))
@@ -63,7 +67,8 @@ abbrev pub left_of : Before → Option NextHop
 left_of comes.Root = None
 left_of (comes.Path tail) = Some tail
 
--- how far it is to the root, where a next hop is left; of what is equally near the networks are nearer
+-- how far it is to the root, where a next hop is left; of what is equally near the networks are
+-- nearer
 abbrev pub rank_at : Vertex → Option ℕ → ℕ
 rank_at v None = 0
 rank_at v (Some d) = suc (rank v d)

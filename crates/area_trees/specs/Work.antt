@@ -29,9 +29,12 @@ abbrev pub IsReachedOtherwise : ℕ → Links → Links → Type 0 → Type 0 �
 IsReachedOtherwise root before after had_root has_root v =
     HasNewDistance root before after had_root has_root v ⊎ HasNewHops root before after had_root has_root v
 
--- What is taken, and how often next hops are written.
--- No more are taken than twice what differs, the heads of the links that differ and those of the links out of what differs; and no more than twice as many as are reached.
--- No fewer are taken than are reached at another distance than before, and besides as many as are reached otherwise than before.
+-- The number of vertices taken, and the number of times next hops are written.
+-- The number taken is at most twice the number of vertices that differ, plus the heads of the links
+-- that differ and of the links out of what differs. It is at most twice the number of vertices
+-- reached.
+-- It is at least the number of vertices reached at another distance than before, plus the number of
+-- vertices reached otherwise than before.
 -- The sets that are written are as many as the vertices that have other next hops.
 pub record IsWorkOf (root : ℕ) (before after : Links) (had_root has_root : Type 0) (taken hop_sets : ℕ) : Type 0 where
   pub gone : List Link

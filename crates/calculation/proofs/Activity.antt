@@ -1,4 +1,4 @@
--- Whether a prefix belongs to an active range can be told.
+-- The activity of a range with a prefix is decidable.
 use Rattle.std.proofs.Common.{◌≡◌, ◌≢◌, ℕ, List, [], ◌∷◌, ap, sym, ◌∙◌, ◌⊎◌, inl, inr, ⊎_elim}
 use Rattle.std.specs.List.{Contains}
 use Rattle.std.specs.FinMap.{entries}

@@ -1,4 +1,5 @@
--- States that look alike have the same trees and routes: what is kept of the one is right for the other.
+-- States that look alike have the same trees and routes: what is kept of the one is right for the
+-- other.
 use Rattle.std.proofs.Common.{◌≡◌, ℕ, List, [], ◌∷◌, Some, refl, sym, ap, subst, ◌∙◌, ⊎_elim, inl, inr}
 use Rattle.std.specs.List.{Contains}
 use Rattle.std.specs.Ordering.{nat_cmp}

@@ -1,5 +1,6 @@
 -- The layers of routes follow a state, each by what those below it answered.
---   range_before, ranges_before, inter_before, external_before: what each layer was calculated from differs in no more than was answered
+--   range_before, ranges_before, inter_before, external_before: what each layer was calculated
+--     from differs in no more than was answered
 --   items_kept: a network that no layer named has its item still
 --   range_named: the range that may differ is named, with the networks of its area that it covers
 --   routes_kept: and what is due rests on the same routes, where no layer named them

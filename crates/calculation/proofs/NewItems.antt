@@ -1,4 +1,4 @@
--- What a new item of a table tells of a calculation.
+-- The facts of a calculation that a new item of a table shows.
 use Rattle.std.proofs.Common.{◌≡◌, sym, ap, subst, ◌∙◌}
 use Rattle.std.specs.Prelude.{Option, Some, None}
 use Rattle.std.specs.FinMap.{FinMap}

@@ -1,4 +1,4 @@
--- What a layer's exact answer does not name is unchanged.
+-- A result that a layer's exact list does not name is unchanged.
 --   networks_stay, routers_stay: intra-area routes
 --   ranges_stay: active ranges
 --   inter_stays, external_stays: inter-area and external routes

@@ -1,4 +1,4 @@
--- What is due by what is kept of a state.
+-- The due summaries by the kept results of a state.
 --   due_right: it is what the definitions say
 --   due_alike: it belongs to a state that looks alike
 --   due_before: what it rests on differs in no more than is named

@@ -1,4 +1,5 @@
--- What is kept of a state from event to event: the trees of its areas, and its routes, layer by layer.
+-- The results kept of a state from event to event: the trees of its areas, and its routes, layer by
+-- layer.
 use Rattle.std.specs.Prelude.{◌≡◌, ◌≢◌, List, Contains, Option, Some, None}
 use Rattle.std.specs.FinMap as map
 use Rattle.std.specs.FinMap.{get}
@@ -58,7 +59,8 @@ entry_else None other = other
 abbrev pub entry_at : CalculationValue → Prefix → Option Entry
 entry_at c p = entry_else (get c.intra.entries p) (entry_else (get c.inter.entries (Net p)) (get c.external.entries p))
 
--- what the table has for a network: a route where it has an entry, else a discard where it is the prefix of an active range
+-- what the table has for a network: a route where it has an entry, else a discard where it is the
+-- prefix of an active range
 abbrev pub IsItem : Option Entry → Type 0 → Option Item → Type 0
 IsItem entry active None = (entry ≡ None) × (active → ⊥)
 IsItem entry active (Some (Route e)) = entry ≡ Some e
@@ -67,7 +69,8 @@ IsItem entry active (Some Discard) = (entry ≡ None) × active
 abbrev pub IsItemOf : CalculationValue → Prefix → Option Item → Type 0
 IsItemOf c p item = IsItem (entry_at c p) (IsActiveIn c.active p) item
 
--- what the table is to have for the network, with which it has something else; nothing where it has just that
+-- what the table is to have for the network, with which it has something else; nothing where it has
+-- just that
 abbrev pub IsNewItemOf : CalculationValue → map.FinMap network_cmp Item → Prefix → Option (Prefix × Option Item) → Type 0
 IsNewItemOf c items p None = IsItemOf c p (get items p)
 IsNewItemOf c items p (Some new) = (new.0 ≡ p) × IsItemOf c p new.1 × (get items p ≢ new.1)
@@ -76,6 +79,6 @@ IsNewItemOf c items p (Some new) = (new.0 ≡ p) × IsItemOf c p new.1 × (get i
 abbrev pub AreItemsKept : List Prefix → CalculationValue → CalculationValue → Type 0
 AreItemsKept networks old new = (p : Prefix) (item : Option Item) → (Contains networks p → ⊥) → IsItemOf old p item → IsItemOf new p item
 
--- the table is that of what is kept
+-- the table has the items of the kept results
 abbrev pub IsTableOf : CalculationValue → map.FinMap network_cmp Item → Type 0
 IsTableOf c items = (p : Prefix) → IsItemOf c p (get items p)

@@ -15,7 +15,8 @@ use Rattle.calculation.specs.Calculations.{CalculationValue, IsCalculationOf}
 use Rattle.route_layers.specs.Trees.{inputs_with, StatesDifferAmong}
 use Rattle.route_layers.specs.Works.{IsEventWork}
 
--- a state of which this is the calculation, and from which the state now differs in no more than is named
+-- a state of which this is the calculation, and from which the state now differs in no more than is
+-- named
 abbrev pub IsOutOfDateBy : List (Scope × Key) → List ℕ → Option (ℕ × Prefix) → CalculationValue → State → Type 0
 IsOutOfDateBy keys ids range c t = (s : State) × IsCalculationOf s c × StatesDifferAmong keys ids (is_some range) s t × RangesDifferAt range s.config.areas t.config.areas
 
@@ -23,7 +24,8 @@ IsOutOfDateBy keys ids range c t = (s : State) × IsCalculationOf s c × StatesD
 abbrev pub IsWorkSince : List (Scope × Key) → List ℕ → Option (ℕ × Prefix) → CalculationValue → State → Touched → Type 0
 IsWorkSince keys ids range c t work = (s : State) → IsCalculationOf s c → StatesDifferAmong keys ids (is_some range) s t → IsEventWork s t work
 
--- the layers of routes belong to a state before, of which no more differs than is named, but the trees have followed already
+-- the layers of routes belong to a state before, of which no more differs than is named, but the
+-- trees have followed already
 abbrev pub AreLayersOutOfDateBy : State → Dirty → Option (ℕ × Prefix) → CalculationValue → Type 0
 AreLayersOutOfDateBy t dirty range c = (s : State) × (trees : List AreaTreeValue) × IsCalculationOf s (record c { trees = trees }) × StatesDifferAmong dirty.keys.items dirty.interfaces.items (is_some range) s t
     × InputsDifferAmong dirty.keys.items dirty.vertices.items dirty.interfaces.items (inputs_with s trees) (inputs_with t c.trees) × RangesDifferAt range s.config.areas t.config.areas

@@ -1,4 +1,4 @@
--- What is due in the areas, by what is kept of a state.
+-- The due summaries of the areas, by the kept results of a state.
 use Rattle.std.specs.Prelude.{ℕ, ◌≡◌, List, Contains, Option}
 use Rattle.std.specs.FinMap.{get}
 use Rattle.ospf_types.specs.Address.{Covers}
@@ -22,14 +22,15 @@ summary_inputs s active c = record { areas = s.config.areas; active = active; in
 abbrev pub AreSummariesFor : State → CalculationValue → DueSummariesValue → Type 0
 AreSummariesFor s c w = (active : List ℕ) × AreActive s active × AreSummariesOf (summary_inputs s active c) w
 
--- the routes that summaries tell of differ in no more than is named
+-- the routes that summaries advertise differ in no more than is named
 pub record RoutesDifferAmong (dests : List Dest) (old new : CalculationValue) : Type 0 where
   pub intra : (p : Prefix) → (Contains dests (Net p) → ⊥) → get new.intra.entries p ≡ get old.intra.entries p
   pub members : (m : RangeMember) → (Contains dests (Net m.network) → Covers m.range m.network → ⊥) → get new.active.members m ≡ get old.active.members m
   pub inter : (p : Prefix) → (Contains dests (Net p) → ⊥) → get new.inter.entries (Net p) ≡ get old.inter.entries (Net p)
   pub preferred : (r : ℕ) → (Contains dests (Router r) → ⊥) → get new.external.preferred r ≡ get old.external.preferred r
 
--- what is due rests on routes that differ in no more than is named, and on a configuration of which one range may differ, which is named whole
+-- what is due rests on routes that differ in no more than is named, and on a configuration of which
+-- one range may differ, which is named whole
 pub record SummariesDifferAmong (dests : List Dest) (before after : State) (old new : CalculationValue) : Type 0 where
   pub areas : without_ranges after.config ≡ without_ranges before.config
   pub range : Option (ℕ × Prefix)

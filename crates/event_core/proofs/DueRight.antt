@@ -1,4 +1,5 @@
--- Due summaries of routes that are kept are right, and what is found of an area is what is due in it.
+-- Due summaries of routes that are kept are right, and what is found of an area is what is due in
+-- it.
 --   routes_due: the lists are what is due in the configured areas
 --   list_found: the list of an area is the first of them under its Area ID
 --   due_found: which is what is due in it

@@ -1,6 +1,7 @@
--- What an event may change: the LSAs or the interfaces that it names, or ranges.
+-- The parts that an event may change: the LSAs or the interfaces that it names, or ranges.
 --   interface_names: an interface's event changes that interface
---   ranges_name: an event that sets or drops a range changes no LSA and no interface, and of the configuration ranges alone
+--   ranges_name: an event that sets or drops a range changes no LSA and no interface, and of the
+--     configuration ranges alone
 --   others_name: every event that is no interface's changes no interface
 --   step_ranges: an event changes no range but the one that it sets or drops
 use Rattle.std.proofs.Common.{◌≡◌, ◌≢◌, ℕ, Bool, true, false, cond, List, [], ◌∷◌, Option, Some, None, refl, sym, ap, subst, ◌∙◌, inl, inr}
@@ -32,7 +33,7 @@ use Rattle.calculation.specs.Active.{RangesDifferAt}
 use Rattle.event_core.specs.Affected.{range_of}
 use Rattle.event_core.proofs.OneRange.{one_range, set_others, drop_others}
 
--- an interface that is not set stays as it was
+-- an interface that is not set is unchanged
 other_interface : (m : FinMap nat_cmp Interface) (id : ℕ) (i : Interface) (q : ℕ) → q ≢ id → get (insert m id i) q ≡ get m q
 other_interface m id i q other =
     get-insert nat_cmp_total m id i q ∙ elim (nat_cmp q id) as (λ o. nat_cmp q id ≡ o → cond (is_eq o) (Some i) (get m q) ≡ get m q) [
@@ -52,7 +53,8 @@ interface_names s e id area address peer up keys ids is none one =
       one_kind = inl none;
     })
 
--- what an event that is no interface's leaves: of the configuration all but ranges, and these, too, unless it changes them
+-- what an event that is no interface's leaves: of the configuration all but ranges, and these, too,
+-- unless it changes them
 record Leaves (ranged : Bool) (s t : State) : Type 0 where
   pub areas : without_ranges t.config ≡ without_ranges s.config
   pub ranges : ranged ≡ false → t.config ≡ s.config

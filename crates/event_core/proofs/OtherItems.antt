@@ -14,7 +14,7 @@ use Rattle.route_table.specs.declared.table.Item.{Item}
 use Rattle.calculation.specs.Calculations.{CalculationValue, IsItemOf, IsNewItemOf}
 use Rattle.event_core.specs.Following.{AreOtherItems, IsOneMore}
 
--- the first networks, this many, are gone through
+-- this many first networks are done
 pub record AreOthersTo (c : CalculationValue) (table : FinMap network_cmp Item) (networks : List Prefix) (count : ℕ) (items : List (Prefix × Option Item)) : Type 0 where
   pub in_order : IsStrictlySortedBy network_cmp (keys_of items ++ drop count networks)
   pub each : (p : Prefix) (item : Option Item) → Contains items (p, item) → Contains (take count networks) p × IsItemOf c p item × (get table p ≢ item)

@@ -234,7 +234,7 @@ pub record IsOutcome (s u : State) (r : RoutesValue) (built : ℕ) (was : Bool) 
 
 -- ---- a run of several events
 
--- what is told after one of them
+-- the changes after one of them
 pub tells : (old : CoreValue) (e : Event) (r : Result Reply Refusal) (new : CoreValue) → Applies old e r new → IfOk r (λ reply. NamesChanges old reply.state new) → IfOk r (λ reply. HasBoundedWork old reply.state new) → Tells old r new
 tells old e (Ok reply) new applied changes work = (changes, work)
 tells old e (Err refusal) new applied changes work =

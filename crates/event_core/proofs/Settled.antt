@@ -1,4 +1,5 @@
--- Routes after an event: what is kept, the items of the table and what is due have followed, or nothing that is calculated from differs.
+-- Routes after an event: what is kept, the items of the table and what is due have followed, or
+-- nothing that is calculated from differs.
 use Rattle.std.proofs.Common.{◌≡◌, ℕ, Bool, true, false, true≢false, List, [], refl, sym, subst, ◌∙◌, arith}
 use Rattle.ospf_types.specs.declared.key.Key.{Key}
 use Rattle.ospf_types.specs.declared.key.Scope.{Scope}
@@ -19,17 +20,18 @@ use Rattle.calculation.proofs.Summaries.{due_alike}
 use Rattle.event_core.proofs.Followed.{nothing_changes}
 use Rattle.event_core.proofs.NoWork.{no_event_work}
 
--- what the event before changed is no longer told
+-- the changes of the event before are no longer listed
 abbrev forgotten : RoutesValue → RoutesValue
 forgotten r = record r { work = no_work; changes = []; due_changes = [] }
 
--- the states differ as it is said, and look alike where nothing is changed
+-- the states differ as named, and look alike where nothing is changed
 pub record GoesOn (keys : List (Scope × Key)) (ids : List ℕ) (ranged changed : Bool) (before after : State) : Type 0 where
   pub fit : AreFit before.config.areas before.databases
   pub differ : StatesDifferAmong keys ids ranged before after
   pub alike : changed ≡ false → LooksAlike before after
 
--- all but the serial of the table is right for the state, and what differs from the routes of before is told
+-- all but the serial of the table is right for the state, and what differs from the routes of
+-- before is listed
 pub record HasFollowed (t : State) (keys : List (Scope × Key)) (ids : List ℕ) (ranged changed : Bool) (old new : RoutesValue) : Type 0 where
   pub calculation : IsCalculationOf t new.calculation
   pub items : IsTableOf new.calculation new.table.items

@@ -1,4 +1,5 @@
--- The work in an area is small: each vertex that a link leads to has a number below 2^32, and a repair or a build takes and writes each vertex so often at most.
+-- The work in an area is small: each vertex that a link leads to has a number below 2^32, and a
+-- repair or a build takes and writes each vertex so often at most.
 use Rattle.std.proofs.Common.{◌≡◌, ◌≢◌, ℕ, zero, suc, ◌*◌, ◌<◌, ◌≤◌, List, [], ◌∷◌, length, refl, sym, ap, subst, ◌∙◌, ◌⊎◌, inl, inr, arith}
 use Rattle.std.specs.List.{Contains}
 use Rattle.std.proofs.lemmas.Bool.{cases_lt}

@@ -1,4 +1,4 @@
--- What an event may change beside LSAs and interfaces.
+-- The range that an event may change, in addition to LSAs and interfaces.
 use Rattle.std.specs.Prelude.{ℕ, Option, Some, None, is_some}
 use Rattle.ospf_types.specs.declared.prefix.Prefix.{Prefix}
 use Rattle.event_state.specs.declared.event.Event.{Event}

@@ -1,4 +1,5 @@
--- The core as its callers see it: the base, the events that were taken since, and a table and due summaries that are right for the first of them.
+-- The core as its callers see it: the base, the events that were taken since, and a table and due
+-- summaries that are right for the first of them.
 use Rattle.std.specs.Prelude.{All, ℕ, ◌≡◌, ◌≤◌, ◌<◌, ◌↔◌, ◌⊎◌, false, List, [], ◌∷◌, ◌++◌, take, length, Some, None, Result, Ok, Err}
 use Rattle.ospf_types.specs.declared.config.Config.{Config}
 use Rattle.event_state.specs.declared.base.Base.{Base}
@@ -35,7 +36,7 @@ pub record CoreValue : Type 0 where
   pub base : Base  -- what the journal begins with
   pub limits : Limits
   pub journal : List Event  -- the events that were taken since
-  pub built : ℕ  -- table and due summaries belong to this many of them
+  pub built : ℕ  -- table and due summaries reflect this many of them
   pub table : TableValue
   pub summaries : List (ℕ × List DueSummary)  -- each area with what is due in it, in the order of the configuration
   pub work : Touched  -- that of the last event
@@ -50,7 +51,8 @@ state_of c = run_of c.base c.limits c.journal
 abbrev pub built_state : CoreValue → State
 built_state c = run_of c.base c.limits (take c.built c.journal)
 
--- what holds of every core: its base has no fault, each event of the journal is taken in its turn, and table and due summaries are right for the first `built`
+-- what holds of every core: its base has no fault, each event of the journal is taken in its turn,
+-- and table and due summaries are right for the first `built`
 pub record IsCore (c : CoreValue) : Type 0 where
   pub sound : base_fault_of c.limits c.base ≡ None
   pub legal : IsLegalList c.base c.limits c.journal
@@ -58,7 +60,8 @@ pub record IsCore (c : CoreValue) : Type 0 where
   pub right : IsRight (built_state c) c.table
   pub due : AreDue (built_state c) c.summaries
 
--- table and due summaries belong to the whole journal, or to what came before, where events were taken since
+-- table and due summaries reflect the whole journal, or stay as before, where events were
+-- taken since
 abbrev pub MatchesStatus : CoreValue → Status → CoreValue → Type 0
 MatchesStatus old Current new = (new.built ≡ length new.journal) × IsRight (state_of new) new.table × AreDue (state_of new) new.summaries
 MatchesStatus old Behind new = (new.built ≡ old.built) × (new.table ≡ old.table) × (new.summaries ≡ old.summaries) × (new.built < length new.journal)
@@ -82,7 +85,7 @@ abbrev pub Applies : CoreValue → Event → Result Reply Refusal → CoreValue 
 Applies old e (Ok reply) new = IsTaken old e reply new
 Applies old e (Err refusal) new = IsRefused old e refusal new
 
--- the table belongs to the whole journal
+-- the table reflects the whole journal
 abbrev pub IsCurrent : CoreValue → Type 0
 IsCurrent c = c.built ≡ length c.journal
 
@@ -94,12 +97,15 @@ pub record NamesDifferences (old new : CoreValue) : Type 0 where
 abbrev pub NamesNothing : CoreValue → Type 0
 NamesNothing new = (new.changes ≡ []) × (new.due_changes ≡ [])
 
--- Of an event that finds the table current and leaves it current, what differs. Of one that finds it behind, or leaves it behind, nothing.
+-- If an event finds the table current and leaves it current: the networks that differ. If the table
+-- is behind before or after, nothing.
 abbrev pub NamesChanges : CoreValue → Status → CoreValue → Type 0
 NamesChanges old Current new = (IsCurrent old → NamesDifferences old new) × ((IsCurrent old → ⊥) → NamesNothing new)
 NamesChanges old Behind new = NamesNothing new
 
--- Of an event that finds the table current and leaves it current, the work is the sum over the areas, in each of which it is bounded by what differs. One that finds it behind build_count all: the sum over the areas of what is reached.
+-- If an event finds the table current and leaves it current, the work is the sum over the areas,
+-- and in each area it is bounded by what differs. If the table was behind before, everything is
+-- built: the work is the sum over the areas of what is reached.
 abbrev pub HasBoundedWork : CoreValue → Status → CoreValue → Type 0
 HasBoundedWork old Current new = (IsCurrent old → IsFollowingWork (state_of old) (state_of new) new.work) × ((IsCurrent old → ⊥) → IsBuildingWork (state_of new) new.work)
 HasBoundedWork old Behind new = new.work ≡ no_work
@@ -110,7 +116,8 @@ pub record IsQuietSecond (old : CoreValue) (e : Event) : Type 0 where
   pub none : All NoneComes (state_of old).databases
   pub current : IsCurrent old
 
--- Nothing usable differs, and the table is current: no vertex was taken from a queue, no set of next hops was written, no item of the table and nothing that is due changed.
+-- Nothing usable differs, and the table is current: no vertex was taken from a queue, no set of
+-- next hops was written, no item of the table and nothing that is due changed.
 pub record DoesNothing (r : Reply) (new : CoreValue) : Type 0 where
   pub changed : r.changed ≡ false
   pub state : r.state ≡ Current
@@ -118,12 +125,14 @@ pub record DoesNothing (r : Reply) (new : CoreValue) : Type 0 where
   pub changes : new.changes ≡ []
   pub due_changes : new.due_changes ≡ []
 
--- what `changes`, `due_changes` and `work` tell after an event: of one that was taken its own, after a refusal what they told before
+-- the changes, due changes and work after an event: its own if it was taken, and after a refusal
+-- the previous ones
 abbrev pub Tells : CoreValue → Result Reply Refusal → CoreValue → Type 0
 Tells old (Ok reply) new = NamesChanges old reply.state new × HasBoundedWork old reply.state new
 Tells old (Err refusal) new = (new.changes ≡ old.changes) × (new.due_changes ≡ old.due_changes) × (new.work ≡ old.work)
 
--- the answers to events, one after the other; so what is told in the end is told of the last that was taken, or as before
+-- the results of events, one after the other; the changes in the end belong to the last event
+-- taken, or the previous ones
 abbrev pub Runs : CoreValue → List Event → List (Result Reply Refusal) → CoreValue → Type 0
 Runs old [] [] new = new ≡ old
 Runs old (e ∷ es) (r ∷ rs) new = (mid : CoreValue) × Applies old e r mid × Tells old r mid × Runs mid es rs new
@@ -134,11 +143,12 @@ Runs old (e ∷ es) [] new = ⊥
 abbrev pub IsFaultOf : Config → ConfigFault → Type 0
 IsFaultOf config f = (config_fault_of config ≡ Some f) ⊎ ((f ≡ Memory) × (config_fault_of config ≡ None))
 
--- the first fault that the base has; or Memory, before which only a fault of the configuration is looked for
+-- the first fault that the base has; or Memory, before which only a fault of the configuration is
+-- looked for
 abbrev pub IsBaseFaultOf : Limits → Base → BaseFault → Type 0
 IsBaseFaultOf limits base f = (base_fault_of limits base ≡ Some f) ⊎ ((f ≡ base_fault.Config Memory) × (config_fault_of base.config ≡ None))
 
--- no events were taken, and the table belongs to the base
+-- no events were taken, and the table reflects the base
 pub record IsOpening (given : Base) (most : Limits) (c : CoreValue) : Type 0 where
   pub sound : base_fault_of most given ≡ None
   pub base : c.base ≡ given

@@ -23,7 +23,8 @@ pub record RoutesValue : Type 0 where
   pub changes : List Prefix
   pub due_changes : List (ℕ × Metrics)
 
--- what is kept belongs to the state, the table has its serial, and what is due is due by what is kept
+-- what is kept belongs to the state, the table has its serial, and what is due is due by what is
+-- kept
 pub record AreRoutesOf (s : State) (r : RoutesValue) : Type 0 where
   pub calculation : IsCalculationOf s r.calculation
   pub table : IsTableOf r.calculation r.table.items
@@ -35,18 +36,20 @@ pub record AreChanges (old new : map.FinMap network_cmp Item) (networks : List P
   pub in_order : IsStrictlySortedBy network_cmp networks
   pub exact : (p : Prefix) → Contains networks p ↔ (map.get new p ≢ map.get old p)
 
--- what is told is what differs between the two: the networks whose item does, and what is due
+-- the changes list what differs between the two: the networks whose item differs, and the due
+-- summaries
 pub record TellsChanges (old new : RoutesValue) : Type 0 where
   pub networks : AreChanges old.table.items new.table.items new.changes
   pub due : AreDueChanges new.due_changes (lists_of old.summaries) (lists_of new.summaries)
 
--- of these networks, those for which the table has another item than it is to have, each with the item that it is to have
+-- of these networks, those for which the table has another item than it is to have, each with the
+-- item that it is to have
 pub record AreOtherItems (c : CalculationValue) (table : map.FinMap network_cmp Item) (networks : List Prefix) (items : List (Prefix × Option Item)) : Type 0 where
   pub in_order : IsStrictlySortedBy network_cmp (keys_of items)
   pub each : (p : Prefix) (item : Option Item) → Contains items (p, item) → Contains networks p × IsItemOf c p item × (map.get table p ≢ item)
   pub others : (p : Prefix) → Contains networks p → ((item : Option Item) → Contains items (p, item) → ⊥) → IsItemOf c p (map.get table p)
 
--- the item that is to stand for the network is added, where the table has another one
+-- the item that the network is to have is added, if the table has another one
 abbrev pub IsOneMore : CalculationValue → map.FinMap network_cmp Item → Prefix → List (Prefix × Option Item) → List (Prefix × Option Item) → Type 0
 IsOneMore c table p before after =
     ((after ≡ before) × IsItemOf c p (map.get table p))
@@ -56,7 +59,7 @@ IsOneMore c table p before after =
 abbrev pub no_work : Touched
 no_work = record { taken = 0; hop_sets = 0 }
 
--- nothing was refused, and nothing is told of the event
+-- nothing was refused, and the event has no changes
 pub record IsStill (result : Result (Unit {0}) Memory) (r : RoutesValue) : Type 0 where
   pub settled : result ≡ Ok tt
   pub work : r.work ≡ no_work

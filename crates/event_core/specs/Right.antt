@@ -8,7 +8,7 @@ use Rattle.event_state.specs.States.{State, inputs_of, serial_of}
 use Rattle.route_table.specs.Tables.{TableValue}
 use Rattle.route_table.specs.Right.{IsRoutingTable}
 
--- the table belongs to the state's databases and interfaces, and has its serial
+-- the table reflects the state's databases and interfaces, and has its serial
 abbrev pub IsRight : State → TableValue → Type 0
 IsRight s t = IsRoutingTable (inputs_of s) (serial_of s) t
 

@@ -14,6 +14,6 @@ IsSum works w = (w.taken ≡ sum_by (λ (x : Touched). x.taken) works) × (w.hop
 abbrev pub IsFollowingWork : State → State → Touched → Type 0
 IsFollowingWork s t w = (works : List Touched) × AreWorksOf s t s.config.areas t.config.areas works × IsSum works w
 
--- the work of an event that build_count all that is kept of the state: in each area by what is reached
+-- the work of an event for which everything is built: in each area by what is reached
 abbrev pub IsBuildingWork : State → Touched → Type 0
 IsBuildingWork s w = (c : CalculationValue) × IsCalculationOf s c × ((works : List Touched) × AreWorksForAll c.trees works × IsSum works w)

@@ -1,4 +1,4 @@
--- What is known of an event that no test refuses.
+-- Facts of an event that no test refuses.
 use Rattle.std.proofs.Common.{◌≡◌, ◌<◌, Bool, true, false, List, [], ◌∷◌, ◌++◌, length, Option, Some, None, refl, sym, ap, ◌∙◌, arith}
 use Rattle.std.specs.Prelude.{nat_le, is_none, option_map, option_and_then, if◌then◌else◌}
 use Rattle.std.specs.FinMap.{get, empty}

@@ -1,4 +1,4 @@
--- What a second does to a database, and when what is used of it stays.
+-- The effect of a second on a database, and when its used part stays.
 use Rattle.std.proofs.Common.{◌≡◌, ◌≢◌, ℕ, zero, suc, ◌+◌, ◌<◌, Bool, true, false, cond, T, List, [], ◌∷◌, length, map, get_or, Option, Some, None, count_by, refl, sym, ap, subst, ◌∙◌, arith}
 use Rattle.std.specs.Prelude.{◌&&◌, ◌==◌, nat_lt, min, option_map, option_and_then}
 use Rattle.std.specs.Ordering.{eq_by_cmp, is_lt}

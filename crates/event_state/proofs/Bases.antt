@@ -49,7 +49,7 @@ find_append : (q : Key) (xs ys : List (Key × Lsa)) → find key_cmp q (xs ++ ys
 find_append q [] ys = refl
 find_append q (x ∷ xs) ys = ap (cond (eq_by_cmp key_cmp q x.0) (Some x.1)) (find_append q xs ys) ∙ found_first (eq_by_cmp key_cmp q x.0) x.1 (find key_cmp q xs) (find key_cmp q ys)
 
--- nothing is found in the list, or the answer is
+-- nothing is found in the list, or this result is found
 abbrev IsPart : Key → Option Lsa → List (Key × Lsa) → Type 0
 IsPart q answer xs = (find key_cmp q xs ≡ None) ⊎ (find key_cmp q xs ≡ answer)
 

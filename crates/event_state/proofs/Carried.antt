@@ -1,4 +1,4 @@
--- What a change to one database leaves of a state.
+-- The rest of a state after a change to one database.
 use Rattle.std.proofs.Common.{◌≡◌, ℕ, ◌<◌, ◌≤◌, Bool, false, List, length, get_or, set, Some, None, sym, ap, subst, ◌∙◌, arith}
 use Rattle.std.specs.Prelude.{Result, Ok, Err, IfOk, OnOk, OnErr, ◌↔◌}
 use Rattle.std.specs.FinMap.{empty, get, insert, len}
@@ -50,7 +50,8 @@ module _ (config : Config) (limits : Limits) (v : Vec DatabaseValue) (new : List
   held_after_try (Ok changed) keeps small kept h = held_after keeps small h
   held_after_try (Err e) keeps small kept h = subst (IsHeld config limits) (sym (items_of_slice v new (ap length kept) ∙ kept)) held
 
--- the state after an install that memory may refuse looks as before where what is used of the LSA does
+-- the state after an install that memory may refuse looks as before where what is used of the LSA
+-- does
 pub install_looks : (s : State) (at : Scope) (k : ℕ) (l : Lsa) (r : Result Bool Memory) → place_of s.config.areas at ≡ Some k → k < length s.databases
     → IfOk r (λ changed. (changed ≡ false) ↔ IsUsedAlike (get_or s.databases k empty) l) → IfOk r (λ changed. (changed ≡ false) ↔ LooksAlike s (changed_by s (event.Install at l)))
 install_looks s at k l (Ok changed) place lt alike =

@@ -1,4 +1,5 @@
--- Lists whose elements are put into a set one after the other, and lists that ascend: no two elements are alike.
+-- Lists whose elements are put into a set one after the other, and lists that ascend: no two
+-- elements are alike.
 use Rattle.std.proofs.Common.{◌≡◌, ℕ, ◌+◌, ◌<◌, ◌≤◌, Bool, true, false, not, cond, List, [], ◌∷◌, ◌++◌, length, get_or, take, drop, BTreeSet, Ordering, refl, sym, ap, ◌∙◌, inl, inr, arith}
 use Rattle.std.specs.Prelude.{◌==◌, ◌&&◌, ◌||◌}
 use Rattle.std.specs.List.{list_any, Contains}

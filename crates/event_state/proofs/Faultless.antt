@@ -1,4 +1,4 @@
--- What is known of a base without a fault.
+-- Facts of a base without a fault.
 use Rattle.std.proofs.Common.{◌≡◌, ℕ, ◌+◌, ◌<◌, ◌≤◌, Bool, true, false, cond, List, [], ◌∷◌, ◌++◌, length, get_or, Option, Some, None, refl, sym, ap, subst, ◌∙◌, arith, inl, inr, length-append}
 use Rattle.std.specs.Prelude.{◌==◌, ◌&&◌, nat_lt, nat_le, is_none, is_some}
 use Rattle.std.specs.List.{list_any}
@@ -53,7 +53,8 @@ parts_of None true u e = absurd cc
 parts_of None false (Some u) e = absurd cc
 parts_of None false None e = (refl, refl, refl)
 
--- where the configuration has no fault and nothing is listed twice, a fault is that of what no event could have made
+-- where the configuration has no fault and nothing is listed twice, a fault is one that no
+-- event could have made
 pub only_unfit : (limits : Limits) (b : Base) → config_fault_of b.config ≡ None → is_doubled b ≡ false → unfit_fault (unfit_of limits b) ≡ base_fault_of limits b
 only_unfit limits b sound once = λ i. after_config (sym sound i) (after_doubled (sym once i) (unfit_fault (unfit_of limits b)))
 

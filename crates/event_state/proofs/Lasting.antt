@@ -15,7 +15,8 @@ none_without [] ys false x h = h
 none_without ((true, y) ∷ xs) ys test x h = absurd cc
 none_without ((false, y) ∷ xs) ys test x h = none_without xs ys test x h
 
--- a refusal belongs to the table without the test, or that of the test, and then nothing before it refuses
+-- a refusal belongs to the table without the test, or that of the test, and then nothing before it
+-- refuses
 pub some_without : {X : Type 0} (xs ys : List (Bool × X)) (test : Bool) (x r : X) → first_of (xs ++ (test, x) ∷ ys) ≡ Some r → (first_of (xs ++ ys) ≡ Some r) ⊎ ((r ≡ x) × (first_of xs ≡ None))
 some_without [] ys true x r h = inr (cc, refl)
 some_without [] ys false x r h = inl h

@@ -55,7 +55,7 @@ behind_all r ranges e =
 
 -- ---- whether they differ
 
--- the derived equality of ranges is that of values
+-- the derived equality of ranges is the equality of values
 pub range_eq-Decides : (r q : Range) → Decides (range_equality.ghosts.eq r q) (r ≡ q)
 range_eq-Decides r q =
     let both = Decides-and (prefixes_equal r.prefix q.prefix) (beq r.advertise q.advertise) (prefixes_decided r.prefix q.prefix) (booleans_Decides r.advertise q.advertise) in (

@@ -1,5 +1,6 @@
 -- Lists of events across rolls.
---   whole_content, whole_legal, whole_refusal, whole_serial: what is said since the base is said of the whole list
+--   whole_content, whole_legal, whole_refusal, whole_serial: what is said since the base is said
+--     of the whole list
 --   rolled_none, rolled_again: before the first roll, and from one to the next
 use Rattle.std.proofs.Common.{◌≡◌, ℕ, ◌+◌, List, [], ◌∷◌, ◌++◌, length, Option, Some, None, refl, sym, ap, ◌∙◌, arith, append_assoc, length-append}
 use Rattle.std.specs.FinMap.{insert, remove}

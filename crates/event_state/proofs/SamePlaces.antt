@@ -1,4 +1,5 @@
--- Where only ranges differ, each scope has its place, and what holds of databases and interfaces goes on to hold.
+-- Where only ranges differ, each scope has its place, and what holds of databases and interfaces
+-- goes on to hold.
 use Rattle.std.proofs.Common.{◌≡◌, ℕ, ◌+◌, ◌<◌, zero, suc, Bool, true, false, cond, List, [], ◌∷◌, length, get_or, Some, None, refl, sym, ap, subst, ◌∙◌, arith, inl, inr}
 use Rattle.std.specs.Prelude.{◌==◌, not, nat_lt, IsSome}
 use Rattle.std.specs.List.{position_or_len}

@@ -1,4 +1,5 @@
--- The interfaces of a base in the order of their ids, and its LSAs in that of their scopes and keys.
+-- The interfaces of a base in the order of their ids, and its LSAs in that of their scopes and
+-- keys.
 use Rattle.std.specs.Prelude.{◌&&◌, Bool, true, List, [], ◌∷◌, ℕ, nat_lt}
 use Rattle.std.specs.Ordering.{ordering_then, is_lt}
 use Rattle.std.specs.declared.cmp.Ordering.{Ordering}

@@ -1,4 +1,5 @@
--- What a base must not be: the faults of a configuration, a thing listed twice, and what no event could have made.
+-- The faults of a base: the faults of a configuration, an item listed twice, and entries that no
+-- event could have made.
 use Rattle.std.specs.Prelude.{ℕ, ◌==◌, ◌&&◌, ◌||◌, Bool, false, nat_lt, List, [], ◌∷◌, length, Option, Some, None, is_none, if◌then◌else◌}
 use Rattle.std.specs.List.{list_any}
 use Rattle.std.specs.Ordering.{eq_by_cmp}

@@ -1,4 +1,4 @@
--- What a run of events begins with, and the databases and interfaces that it makes.
+-- The base of a run of events, and the databases and interfaces that it makes.
 use Rattle.std.specs.Prelude.{ℕ, ◌≡◌, ◌==◌, ◌++◌, Bool, true, false, List, [], ◌∷◌, map, filter}
 use Rattle.std.specs.Ordering.{nat_cmp}
 use Rattle.std.specs.FinMap.{FinMap, from_entries}

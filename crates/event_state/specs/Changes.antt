@@ -8,7 +8,7 @@ use Rattle.event_state.specs.declared.limits.Limits.{Limits}
 use Rattle.lsdb.specs.Contents.{TellsUseAt, TellsUseOf}
 use Rattle.lsdb.specs.Databases.{Database, DatabaseValue, IsInstallable, IsPurgeable, all_aged, with_lsa}
 
--- what is where there is no database
+-- an empty database, where there is none
 abbrev pub no_database : DatabaseValue
 no_database = record { lsas = empty; order = []; limit = 0 }
 
@@ -41,7 +41,8 @@ FitsAt databases place lsa = IsInstallable (database_at databases place) lsa
 abbrev pub CanBePurgedAt : List DatabaseValue → (place : ℕ) → Key → Type 0
 CanBePurgedAt databases place key = IsPurgeable (database_at databases place).lsas key
 
--- the result is false exactly if what is used of the LSA is what was used of the instance in the database at the place
+-- the result is false exactly if what is used of the LSA is what was used of the instance in the
+-- database at the place
 abbrev pub TellsPutAt : List DatabaseValue → (place : ℕ) → Lsa → (changed : Bool) → Type 0
 TellsPutAt databases place lsa changed = TellsUseOf (database_at databases place).lsas lsa changed
 

@@ -22,7 +22,8 @@ pub record IsFit (at : Scope) (d : Database) : Type 0 where
   pub sound : IsSound d
   pub placed : (k : Key) (l : Lsa) → get d k ≡ Some l → is_out_of_scope at l.header.kind ≡ false
 
--- there is one database for each area, and one for the AS; if two areas have one Area ID, that of the later stays empty
+-- there is one database for each area, and one for the AS; if two areas have one Area ID, that of
+-- the later stays empty
 pub record AreKept (areas : List AreaConfig) (databases : List Database) : Type 0 where
   pub places : length databases ≡ length areas + 1
   pub fit : (at : Scope) (k : ℕ) → place_of areas at ≡ Some k → IsFit at (slice_index_or databases k empty)

@@ -1,4 +1,5 @@
--- The LSAs of a state in the order in which they are listed: areas by Area ID, then the AS; in each database by LS type, Link State ID and Advertising Router.
+-- The LSAs of a state in the order in which they are listed: areas by Area ID, then the AS; in each
+-- database by LS type, Link State ID and Advertising Router.
 use Rattle.std.specs.Prelude.{ℕ, ◌≡◌, ◌↔◌, ◌++◌, List, map, IsSome, Contains}
 use Rattle.std.specs.List.{flat_map}
 use Rattle.std.specs.List.Sorted.{IsStrictlySortedBy}

@@ -1,4 +1,5 @@
--- The ranges of an area, and what refuses an event that sets or drops one of them (RFC 2328, 3.5 and C.2).
+-- The ranges of an area, and what refuses an event that sets or drops one of them (RFC 2328, 3.5
+-- and C.2).
 use Rattle.std.specs.Prelude.{ℕ, ◌==◌, ◌&&◌, Bool, not, nat_le, List, [], ◌∷◌, length, Option, if◌then◌else◌}
 use Rattle.ospf_types.specs.FirstOf.{first_of}
 use Rattle.ospf_types.specs.declared.config.AreaConfig.{AreaConfig}
@@ -16,7 +17,7 @@ use Rattle.event_state.specs.declared.ranges.RangeChange.TheVariants as change
 abbrev pub most_ranges : ℕ
 most_ranges = 32
 
--- the ranges of the area with this Area ID, or `None` if it is not configured
+-- the ranges of the area with this Area ID, empty if it is not configured
 abbrev pub ranges_of : List AreaConfig → ℕ → List Range
 ranges_of [] id = []
 ranges_of (a ∷ areas) id = if a.id == id then a.ranges else ranges_of areas id
@@ -25,7 +26,7 @@ ranges_of (a ∷ areas) id = if a.id == id then a.ranges else ranges_of areas id
 abbrev pub is_one_too_many : Prefix → List Range → Bool
 is_one_too_many p ranges = not (has_range p ranges) && nat_le most_ranges (length ranges)
 
--- what refuses a range that is to be set beside these
+-- the refusal of a range that is to be set among these
 abbrev pub set_refusal_of : Range → List Range → Option Refusal
 set_refusal_of r ranges = first_of ((overlaps_another r ranges, refusal.RangeOverlaps) ∷ (is_one_too_many r.prefix ranges, refusal.RangeFull) ∷ [])
 

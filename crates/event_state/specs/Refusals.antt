@@ -1,4 +1,4 @@
--- What a refusal is of.
+-- The causes of refusals.
 use Rattle.std.specs.Prelude.{◌≡◌, ◌⊎◌, Some, None}
 use Rattle.ospf_types.specs.FirstOf.{first_of}
 use Rattle.lsdb.specs.declared.refusal.InstallRefusal.{InstallRefusal}
@@ -13,8 +13,9 @@ use Rattle.event_state.specs.Steps.{refusal_of, early_tests_of, lasting_refusal_
 abbrev pub IsRefusalOf : State → Event → Refusal → Type 0
 IsRefusalOf s e r = (refusal_of s e ≡ Some r) ⊎ ((r ≡ refusal.Memory) × (refusal_of s e ≡ None))
 
--- The first of the table that holds, without the test of the journal, which knows only how many events were taken since the base; or Memory if none does. It
--- belongs to a full journal only if none of the tests before refuses.
+-- The first of the table that holds, without the test of the journal, which knows only how many
+-- events were taken since the base; or Memory if none does. It is 28 JournalFull only
+-- if none of the tests before refuses.
 abbrev pub IsLastingRefusalOf : State → Event → Refusal → Type 0
 IsLastingRefusalOf s e r =
     (lasting_refusal_of s e ≡ Some r)

@@ -1,4 +1,5 @@
--- A base that a state is rolled into: the events before it are forgotten, and what they made is not.
+-- A base that a state is rolled into: the events before it are forgotten, and what they made is
+-- not.
 use Rattle.std.specs.Prelude.{◌≡◌, ◌+◌, List, [], length, None}
 use Rattle.std.specs.FinMap.{entries}
 use Rattle.event_state.specs.declared.base.Base.{Base}

@@ -45,7 +45,7 @@ TellsInterface m id i changed = (changed ≡ false) ↔ (get (interfaces_of m) i
 abbrev pub AreApart : List AreaConfig → Type 0
 AreApart areas = (i j : ℕ) (d : AreaConfig) → i < j → j < length areas → (slice_index_or areas i d).id ≢ (slice_index_or areas j d).id
 
--- where the database of the scope stands: that of the AS after those of the areas
+-- the place of the scope's database: the AS's comes after those of the areas
 abbrev pub place_of : List AreaConfig → Scope → Option ℕ
 place_of areas (scope.Area id) = position (λ a. a.id == id) areas
 place_of areas scope.As = Some (length areas)

@@ -1,4 +1,5 @@
--- One event: the first refusal that holds, or what it does to the state; and runs of events (RFC 2328, 13.2 and 14).
+-- One event: the first refusal that holds, or what it does to the state; and runs of events (RFC
+-- 2328, 13.2 and 14).
 use Rattle.std.specs.Prelude.{ℕ, ◌==◌, ◌&&◌, ◌||◌, ◌≡◌, not, Bool, false, nat_le, nat_lt, List, [], ◌∷◌, ◌++◌, map, length, Option, Some, None, is_none, option_and_then}
 use Rattle.std.specs.List.{list_any}
 use Rattle.std.specs.FinMap.{entries, get, insert, remove}
@@ -115,7 +116,7 @@ abbrev pub limit_of : Limits → Scope → ℕ
 limit_of limits (scope.Area id) = limits.area_lsas
 limit_of limits scope.As = limits.externals
 
--- how much a state holds, unless it is said otherwise
+-- the limits of a state unless others are given
 abbrev pub standard_limits : Limits
 standard_limits = record { area_lsas = 16384; externals = 65536; events = 1000000 }
 

@@ -40,7 +40,9 @@ use std::collections::{BTreeMap, btree_map};
 use std::hash::RandomState;
 use std::marker::Model;
 
-// The number of events at which the journal reserves memory for all events that it may have.
+// The number of events at which the journal reserves memory for all events that it may have: 40 MB
+// of addresses, of which only the used part is memory. The C library's allocator gives a piece of
+// that size back to the system in a roll. It kept a part of one that grew step by step (measured).
 const MANY_EVENTS: usize = 65_536;
 
 /// The link-state databases, the interfaces and the address ranges, with the base that they began

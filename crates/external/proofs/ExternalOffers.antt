@@ -1,4 +1,4 @@
--- What a choice of an external route takes, part by part, is what is offered to it.
+-- The offers that a choice of an external route takes, part by part, are the offers to it.
 use Rattle.std.proofs.Common.{◌≡◌, ℕ, ◌<◌, List, Option, Some, None, true, false, refl, sym, subst, ◌∙◌, inl, inr, ⊎_elim, arith}
 use Rattle.std.specs.Prelude.{◌↔◌, IsSome}
 use Rattle.std.specs.List.{Contains}

@@ -1,8 +1,9 @@
--- What is right stays right where nothing that it rests on differs.
+-- Right results stay right where nothing that they depend on differs.
 --   entry_same, preferred_same: a result for the offers is one for the same offers
 --   router_stands: the preferred entry of a router that is not named
 --   forward_stands: where an address leads that is not due
---   entry_stands: the entry of a network that is not affected, and not named or that nothing leads to
+--   entry_stands: the entry of a network that is not affected, and not named or that nothing
+--     leads to
 --   stands_after: all of them, once the index followed
 --   stands_from_nothing: the same of routes where nothing was advertised
 use Rattle.std.proofs.Common.{◌≡◌, ℕ, List, Option, Some, None, refl, sym, ap, subst, ◌∙◌, inl, inr, arith}

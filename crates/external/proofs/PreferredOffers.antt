@@ -1,4 +1,4 @@
--- What a choice of a preferred entry takes, part by part, is what is offered to it.
+-- The offers that a choice of a preferred entry takes, part by part, are the offers to it.
 use Rattle.std.proofs.Common.{◌≡◌, ℕ, ◌<◌, Option, Some, None, refl, sym, ap, subst, ◌∙◌}
 use Rattle.std.specs.Prelude.{Bool, bit_and}
 use Rattle.std.specs.List.{Contains}

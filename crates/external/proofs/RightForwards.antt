@@ -1,5 +1,6 @@
 -- Where forwarding addresses lead is what the definitions say (RFC 2328, 16.4).
---   nothing_inside: a network has no internal entry where the definitions give it neither an intra-area nor an inter-area one
+--   nothing_inside: a network has no internal entry where the definitions give it neither an
+--     intra-area nor an inter-area one
 --   forward_right: where an address leads is what the definitions say
 use Rattle.std.proofs.Common.{◌≡◌, ℕ, ◌≤◌, Option, Some, None, true≢false, refl, sym, ap, subst, ◌∙◌, ◌⊎◌, inl, inr, arith}
 use Rattle.std.specs.Prelude.{◌↔◌, Bool, IsSome}

@@ -35,7 +35,8 @@ preferred_coded = coded_option kept_entry.the_row.coded
 forward_coded : Coded (Option ForwardValue)
 forward_coded = coded_option kept_forward.the_row.coded
 
--- what is advertised offers the same where the router leads as before, and the forwarding address, if there is one
+-- what is advertised offers the same where the router leads as before, and the forwarding address,
+-- if there is one
 advertised_offers : (k : Key) (a : AdvertisedValue) (was is : Option PreferredValue) (before after : Option ForwardValue) → is ≡ was → (0 < a.forwarding → after ≡ before) → (preference : ExternalPreference) (path : Path)
     → AdvertisedOffers was before k a preference path → AdvertisedOffers is after k a preference path
 advertised_offers k a was is before after preferred forward preference path o =
@@ -102,7 +103,7 @@ module _ (v : ExternalInputsValue) (dests : List Dest) (affected : ChangedOffers
       let was = stands.entries p (λ c. not_by_routers ((first (Net p)).1 (inl c))) (λ c leads. absent (third (Net p) (inr (Net p, c, (refl, leads))))) in
       entry_advertised v old.index stands.index preferred forwards p (get old.entries p) (entry_same (OffersOf v old.preferred old.forwards p) (OffersOf v preferred forwards p) offered_alike (get old.entries p) was)
 
--- just the destinations are told whose result differs
+-- just the destinations whose result differs are reported
 pub exactly : (old new : ExternalValue) (networks : List Prefix) (routers : List ℕ) → ((p : Prefix) → Contains networks p ↔ (get new.entries p ≢ get old.entries p)) → ((r : ℕ) → Contains routers r ↔ (get new.preferred r ≢ get old.preferred r))
     → (d : Dest) → Contains (map Net networks ++ map Router routers) d ↔ DiffersAt old new d
 exactly old new networks routers nets others (Net p) = let among = net_among networks routers p in (λ c. (nets p).0 (among.0 c), λ differs. among.1 ((nets p).1 differs))

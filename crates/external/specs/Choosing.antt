@@ -1,4 +1,4 @@
--- What is offered to a choice of a preferred entry or of an external route, part by part.
+-- The offers to the choice of a preferred entry or of an external route, part by part.
 use Rattle.std.specs.Prelude.{ℕ, ◌≡◌, Bool, List, Option, Some}
 use Rattle.std.specs.FinMap.{get}
 use Rattle.ospf_types.specs.declared.hop.NextHop.{NextHop}

@@ -76,7 +76,8 @@ abbrev pub IsMatchOf : ExternalInputsValue → ℕ → Option Prefix → Type 0
 IsMatchOf v address None = (q : Prefix) → q.length ≤ 32 → HasAddress q address → Matches v q → ⊥
 IsMatchOf v address (Some p) = IsLongest v address p
 
--- where the match leads: over its entry's next hops, each toward the address; nowhere without an entry
+-- where the match leads: over its entry's next hops, each toward the address; nowhere without an
+-- entry
 abbrev pub LeadsBy : ExternalInputsValue → ℕ → Option Prefix → ℕ → ℕ → NextHop → Type 0
 LeadsBy v address None class cost h = ⊥
 LeadsBy v address (Some p) class cost h = (first : NextHop) × InternalLeads v p class cost first × (h ≡ toward address first)

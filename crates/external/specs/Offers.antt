@@ -1,4 +1,5 @@
--- What AS-external-LSAs offer to a network (RFC 2328, 16.4), by where AS boundary routers and forwarding addresses lead.
+-- What AS-external-LSAs offer to a network (RFC 2328, 16.4), by where AS boundary routers and
+-- forwarding addresses lead.
 use Rattle.std.specs.Prelude.{ℕ, ◌+◌, ◌≡◌, ◌<◌, ◌⊎◌, Contains, Option, Some, None, IsSome, if◌then◌else◌}
 use Rattle.std.specs.FinMap.{get}
 use Rattle.ospf_types.specs.declared.hop.NextHop.{NextHop}
@@ -15,7 +16,8 @@ use Rattle.external.specs.Inputs.{ExternalInputsValue}
 use Rattle.external.specs.AsbrRoute.{PreferredValue, PreferredByRouter}
 use Rattle.external.specs.Forwards.{ForwardValue, ForwardsByAddress, WayOffers, internal_entry}
 
--- type 1 before type 2, the metric Y of type 2, the class, and then X + Y for type 1 and X for type 2
+-- type 1 before type 2, the metric Y of type 2, the class, and then X + Y for type 1 and X for type
+-- 2
 abbrev pub preference_of : AdvertisedValue → ℕ → ℕ → ExternalPreference
 preference_of a class x =
     if a.is_type_2 then record { kind = 2; metric = a.metric; class = class; cost = x }
@@ -29,7 +31,8 @@ abbrev pub ForwardLeads : Option ForwardValue → ℕ → ℕ → NextHop → Ty
 ForwardLeads None class x h = ⊥
 ForwardLeads (Some f) class x h = WayOffers f.way class x h
 
--- the distance X, its class and its next hops: those of the AS boundary router, or of the forwarding address where there is one
+-- the distance X, its class and its next hops: those of the AS boundary router, or of the
+-- forwarding address where there is one
 abbrev pub Leads : Option PreferredValue → Option ForwardValue → ℕ → ℕ → ℕ → NextHop → Type 0
 Leads preferred forward address class x h =
     ((address ≡ 0) × PreferredLeads preferred class x h)
@@ -41,7 +44,8 @@ AdvertisedOffers preferred forward k a preference path = (class x : ℕ) × (h :
     × IsSome preferred × Leads preferred forward a.forwarding class x h
     × (preference ≡ preference_of a class x) × (path ≡ through k.router h)
 
--- all that is offered to a network by what is advertised, where routers and addresses lead as these maps say
+-- all that is offered to a network by what is advertised, where routers and addresses lead as these
+-- maps say
 abbrev pub OffersBy : ExternalInputsValue → PreferredByRouter → ForwardsByAddress → (Key → AdvertisedValue → Type 0) → Prefix → ExternalPreference → Path → Type 0
 OffersBy v preferred forwards advertised p preference path = (k : Key) × (a : AdvertisedValue)
     × advertised k a × (a.dest ≡ Net p) × (internal_entry v p ≡ None)

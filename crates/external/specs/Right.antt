@@ -26,7 +26,8 @@ pub record AreInputsOf (s : Inputs) (v : ExternalInputsValue) : Type 0 where
   pub ranges : AreRangesRight s v.active
   pub inter : IsInterRight s v.inter
 
--- each network has the external entry that the definitions give, and each AS boundary router its preferred entry
+-- each network has the external entry that the definitions give, and each AS boundary router its
+-- preferred entry
 pub record IsRightFor (s : Inputs) (w : ExternalValue) : Type 0 where
   pub entries : (p : Prefix) → IsEntryFor (ExternalOffers s p) (get w.entries p)
   pub preferred : (router : ℕ) → IsPreferredFor (BoundaryOffers s router) (get w.preferred router)

@@ -1,4 +1,5 @@
--- What is worked out again where inputs differ: of which routers, forwarding addresses and networks, and what is meanwhile.
+-- The routers, forwarding addresses and networks that are recomputed if inputs differ, and the
+-- results in the meantime.
 use Rattle.std.specs.Prelude.{ℕ, ◌≡◌, ◌⊎◌, ◌≤◌, false, List, Contains, Option, Some, None}
 use Rattle.std.specs.FinMap.{get}
 use Rattle.ospf_types.specs.declared.entry.Entry.{Entry}
@@ -77,7 +78,8 @@ IsAlso i also d = (d ≡ also) × IsLedTo i d
 
 -- ---- the whole
 
--- the index belongs to the inputs, and all else that is not due is right as it stands: a named network that nothing leads to has no entry
+-- the index belongs to the inputs, and all else that is not due is right as it is: a named
+-- network that nothing leads to has no entry
 pub record StandsBut (v : ExternalInputsValue) (dests : List Dest) (affected : ChangedOffersValue) (w : ExternalValue) : Type 0 where
   pub fresh : w.spent ≡ false
   pub index : IsIndexOf v.root As v.lsas w.index

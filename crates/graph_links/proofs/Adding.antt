@@ -1,4 +1,4 @@
--- What is added to a list, and the ways of a router that are.
+-- The elements added to a list, and the added ways of a router.
 use Rattle.std.proofs.Common.{◌≡◌, ℕ, ◌<◌, ◌≤◌, ◌+◌, List, [], ◌∷◌, ◌++◌, length, get_or, take, sym, subst, ◌⊎◌, inl, inr, ⊎_elim}
 use Rattle.std.specs.Prelude.{◌↔◌}
 use Rattle.std.specs.List.{Contains}
@@ -60,7 +60,7 @@ module _ (root router : ℕ) (detail : ℕ) where
   label_right us vs Plain h = h
   label_right us vs (At addresses) h = h
 
--- a way goes over some of the interfaces or over others
+-- a way uses some of the interfaces or others
 pub over_either : (root router : ℕ) (us vs : List Up) (e : LinkEnd) (w : ParallelLink) → IsWay root (us ++ vs) router e w ↔ (IsWay root us router e w ⊎ IsWay root vs router e w)
 over_either root router us vs e w = (
   λ h. ⊎_elim (λ (i : IsOutLabel root us router e.detail (label_over w.interface)). inl (h.0, h.1, i)) (λ (i : IsOutLabel root vs router e.detail (label_over w.interface)). inr (h.0, h.1, i)) (label_either root router e.detail us vs (label_over w.interface) h.2),

@@ -21,7 +21,7 @@ use Rattle.graph_links.specs.EndOrder.{end_cmp}
 use Rattle.graph_links.specs.Pairs.{AreDetailsTo, is_last}
 use Rattle.graph_links.proofs.EndOrders.{vertex_total}
 
--- what is left of the numbers, without duplicates, where this one came last
+-- the rest of the numbers, without duplicates, after this one
 abbrev pub rest_of : Option ℕ → List ℕ → List ℕ
 rest_of None xs = dedup eqb xs
 rest_of (Some m) [] = []
@@ -48,7 +48,7 @@ with_rest : (b : Bool) (before rest : List ℕ) (x : ℕ) → cond b before (bef
 with_rest true before rest x = refl
 with_rest false before rest x = append_assoc before (x ∷ []) rest
 
--- a number that is added unless it came last leaves the whole as it is
+-- a number that is added, unless it was added last, leaves the whole unchanged
 pub rest_added : (before : List ℕ) (last : Option ℕ) (x : ℕ) (xs whole : List ℕ) → before ++ rest_of last (x ∷ xs) ≡ whole → cond (is_last last x) before (before ++ x ∷ []) ++ rest_of (Some x) xs ≡ whole
 rest_added before last x xs whole h = with_rest (is_last last x) before (rest_of (Some x) xs) x ∙ ap (λ (rest : List ℕ). before ++ rest) (sym (rest_step last x xs)) ∙ h
 
@@ -95,7 +95,7 @@ one_list_of_details v ends xs ys p q =
     same_list nat_cmp_total exact_unsigned xs ys (sorted_from_strictly_increasing xs p.ascending) (sorted_from_strictly_increasing ys q.ascending)
     (λ address. (λ c. (q.same address).1 ((p.same address).0 c), λ c. (p.same address).1 ((q.same address).0 c)))
 
--- the loop that adds each once, one end on
+-- the loop that adds each one time, one end on
 pub rest_on : (before after : List ℕ) (last : Option ℕ) (es : List LinkEnd) (i : ℕ) (none : LinkEnd) (whole : List ℕ) → i < length es
     → before ++ rest_of last (map (λ (e : LinkEnd). e.detail) (drop i es)) ≡ whole
     → after ≡ cond (is_last last (get_or es i none).detail) before (before ++ (get_or es i none).detail ∷ [])

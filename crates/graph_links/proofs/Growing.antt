@@ -1,4 +1,5 @@
--- The elements of the front of a list that a loop has come through, and of the rest of one that it takes apart.
+-- The elements of the front of a list that a loop has come through, and of the rest of one that it
+-- takes apart.
 use Rattle.std.proofs.Common.{◌≡◌, ◌↔◌, ◌⊎◌, inl, inr, ⊎_elim, ℕ, ◌+◌, ◌<◌, List, [], ◌∷◌, ◌++◌, length, get_or, take, sym, ap, subst, ◌∙◌}
 use Rattle.std.specs.Prelude.{Contains}
 use Rattle.std.proofs.lemmas.List.{take_more}

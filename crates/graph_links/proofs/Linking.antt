@@ -26,7 +26,7 @@ searched (Err i) ends end at within ok = absurd cc
 
 -- ---- links from one vertex to another
 
--- the list has, beside those that it had, the links from one vertex to the other
+-- the list has, in addition to its old elements, the links from one vertex to the other
 abbrev pub IsListed : Links → Vertex → Vertex → List Link → List Link → Type 0
 IsListed Link_of v w old new = (l : Link) → Contains new l ↔ (Contains old l ⊎ IsOutTo Link_of v l w)
 

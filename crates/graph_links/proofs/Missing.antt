@@ -1,6 +1,7 @@
--- What went and came of the links of a graph, by the rows before and after.
+-- The removed and added links of a graph, by the rows before and after.
 --   own_links: what the rows have are links out of their vertices
---   taken_missing, brought_missing: the links that were removed and added are those that are only in one graph
+--   taken_missing, brought_missing: the links that were removed and added are those that are only
+--     in one graph
 --   fresh_once: no vertex has two fresh rows
 use Rattle.std.proofs.Common.{◌≡◌, ◌≢◌, ℕ, List, [], map, Option, Some, None, refl, sym, ap, subst}
 use Rattle.std.specs.Prelude.{Contains, option_map}

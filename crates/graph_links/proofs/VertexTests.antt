@@ -1,4 +1,5 @@
--- The equality of vertices that `==` tests and the one by their order, and what a map's entries have at a vertex.
+-- The equality of vertices that `==` tests and the one by their order, and what a map's entries
+-- have at a vertex.
 use Rattle.std.proofs.Common.{◌≡◌, ◌≢◌, ◌⊎◌, inl, inr, ℕ, ◌≤◌, Bool, true, false, cond, List, [], ◌∷◌, length, map, Option, Some, None, arith, refl, sym, ap, subst, ◌∙◌}
 use Rattle.std.specs.Prelude.{Contains, option_map}
 use Rattle.std.specs.List.{slice_get}

@@ -1,6 +1,7 @@
 -- The ends of a vertex, walked group by group: all that are at one vertex stand together.
 --   cut_none, cut_first, cut_past: a place between two groups
---   walked_none, walked_more, walked_all: the links to and from the vertices of the groups up to a place
+--   walked_none, walked_more, walked_all: the links to and from the vertices of the groups up to
+--     a place
 use Rattle.std.proofs.Common.{◌≡◌, ◌≢◌, ◌⊎◌, inl, inr, ⊎_elim, ℕ, ◌+◌, ◌-◌, ◌<◌, ◌≤◌, List, [], ◌++◌, length, get_or, take, refl, sym, ap, subst, ◌∙◌, arith}
 use Rattle.std.specs.Prelude.{◌↔◌, Contains}
 use Rattle.std.specs.declared.cmp.Ordering.TheVariants.{Less, Equal, Greater}

@@ -1,4 +1,5 @@
--- What two lists of links have in common, and how the links are collected that only one of them has.
+-- What two lists of links have in common, and how the links are collected that only one of them
+-- has.
 use Rattle.std.specs.Prelude.{◌↔◌, ◌⊎◌, ℕ, ◌-◌, ◌≡◌, ◌≤◌, ◌<◌, List, [], ◌∷◌, ◌++◌, length, drop, Contains}
 use Rattle.std.specs.List.Sorted.{IsNonDecreasingBy, IsPartitionPoint}
 use Rattle.graph_links.specs.declared.link.Link.{Link}
@@ -20,15 +21,16 @@ AddsUnless link others old new = Adds old new (λ (l : Link). (l ≡ link) × (C
 abbrev pub HaveSameLinks : List Link → List Link → Type 0
 HaveSameLinks old new = (l : Link) → Contains new l ↔ Contains old l
 
--- the two lists end in the same links, this many
+-- the two lists end in this many equal links
 abbrev pub HaveSameBack : ℕ → List Link → List Link → Type 0
 HaveSameBack n one other = drop (length one - n) one ≡ drop (length other - n) other
 
--- the list is what it was, or has the link at its end besides
+-- the list is unchanged, or has the link at its end in addition
 abbrev pub AddsAtMost : Link → List Link → List Link → Type 0
 AddsAtMost link old new = (new ≡ old) ⊎ (new ≡ old ++ link ∷ [])
 
--- no link occurs twice in the list afterwards, if none does in the list before and the added ones together
+-- no link occurs twice in the list afterwards, if none does in the list before and the added ones
+-- together
 abbrev pub KeepsApartWith : List Link → List Link → List Link → Type 0
 KeepsApartWith added old new = AreApart (old ++ added) → AreApart new
 

@@ -13,7 +13,7 @@ use Rattle.graph_links.specs.declared.link_end.LinkEnd.{LinkEnd}
 abbrev pub end_cmp : LinkEnd → LinkEnd → Ordering
 end_cmp a b = ordering_then (vertex_cmp a.to b.to) (ordering_then (nat_cmp a.detail b.detail) (nat_cmp a.metric b.metric))
 
--- where a router that a network-LSA lists stands
+-- the link end of a router that a network-LSA lists
 abbrev pub listed_end : ℕ → LinkEnd
 listed_end router = record { to = Router router; detail = 0; metric = 0 }
 

@@ -85,7 +85,7 @@ IsOnto network to back l =
     (l.from ≡ network) × (l.to ≡ to) × ((router : ℕ) × (to ≡ Router router)) × (l.cost ≡ 0)
     × ((addresses : List ℕ) × AreDetailsTo network back addresses × (l.label ≡ At addresses))
 
--- the list has these beside those that it had
+-- the list has these in addition to its old elements
 abbrev pub Adds : {X : Type 0} → List X → List X → (X → Type 0) → Type 0
 Adds {X} old new Is = (x : X) → Contains new x ↔ (Contains old x ⊎ Is x)
 
@@ -105,7 +105,8 @@ AddsOnto pair old new = (back : List LinkEnd) → AreAllAt pair.from.vertex back
 abbrev pub AreApart : List Link → Type 0
 AreApart links = AllPairs (λ k l. k ≢ l) links
 
--- none occurs twice in a list to which links from the one vertex to the other are added that it did not have
+-- none occurs twice in a list to which links from the one vertex to the other are added that it did
+-- not have
 abbrev pub KeepsApart : Vertex → Vertex → List Link → List Link → Type 0
 KeepsApart from to old new = AreApart old → ((l : Link) → Contains old l → l.from ≡ from → l.to ≡ to → ⊥) → AreApart new
 
@@ -117,12 +118,12 @@ KeepsApartFrom from old new = AreApart old → ((l : Link) → Contains old l �
 abbrev pub details_of : List LinkEnd → List ℕ
 details_of ends = dedup eqb (map (λ (e : LinkEnd). e.detail) ends)
 
--- whether the number that came last is this one
+-- true if the last number added is this one
 abbrev pub is_last : Option ℕ → ℕ → Bool
 is_last None n = false
 is_last (Some m) n = m == n
 
--- the number is added, unless it is the one that came last
+-- the number is added, unless it is the last number added
 abbrev pub AddsOnce : Option ℕ → ℕ → List ℕ → List ℕ → Type 0
 AddsOnce last n old new = new ≡ (if is_last last n then old else old ++ n ∷ [])
 
@@ -146,7 +147,7 @@ AddsBetween pair old new =
     (ends back : List LinkEnd) → AreAllAt to ends pair.from.ends.now → AreAllAt from back pair.to.ends.now
     → Adds old new (λ (l : Link). (l.from ≡ from) × (l.to ≡ to) × IsPairLink pair.local.root pair.local.interfaces.now from ends to back l.cost l.label)
 
--- what the links out of the vertex rest on beside LSAs is the same
+-- the inputs other than LSAs that the links out of the vertex depend on are the same
 abbrev pub IsSameLocal : RootInterfaces → RootInterfaces → Vertex → Type 0
 IsSameLocal one other v = (one.root ≡ other.root) × ((v ≢ Router one.root) ⊎ (one.interfaces.now ≡ other.interfaces.now))
 

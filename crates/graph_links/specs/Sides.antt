@@ -1,4 +1,5 @@
--- A graph before or after a change: its rows, over them the ends that are staged, and the links that follow.
+-- A graph before or after a change: its rows, over them the ends that are staged, and the links
+-- that follow.
 use Rattle.std.specs.Prelude.{◌↔◌, ◌⊎◌, ℕ, ◌≡◌, ◌≢◌, List, [], map, Contains, Option, Some, None, option_map}
 use Rattle.std.specs.FinMap.{find}
 use Rattle.std.specs.Global.{Vec}
@@ -34,7 +35,7 @@ ends_of_row row = option_map (λ (r : Row). r.ends.items) row
 abbrev pub row_ends : RowList → Leading
 row_ends rows v = ends_of_row (find vertex_cmp v rows)
 
--- what is staged of a vertex stands for what was before
+-- the staged ends of a vertex, or its ends before if nothing is staged
 abbrev pub staged_or : Option (Option (Vec LinkEnd)) → Option (List LinkEnd) → Option (List LinkEnd)
 staged_or None before = before
 staged_or (Some given) before = option_map (λ (ends : Vec LinkEnd). ends.items) given
@@ -141,7 +142,7 @@ IsChanged leading Link_of touched old new = (v : Vertex) →
     (Contains touched v × IsFreshRow leading Link_of v (find vertex_cmp v new))
     ⊎ ((Contains touched v → ⊥) × (find vertex_cmp v new ≡ find vertex_cmp v old))
 
--- the links out of a vertex by its row, or `None` if it has no row
+-- the links out of a vertex by its row, empty if it has no row
 abbrev pub out_of : Option Row → List Link
 out_of None = []
 out_of (Some row) = row.out.items

@@ -12,6 +12,9 @@ use std::alloc::Global;
 
 /// One of the links of a router to the same vertex. They differ in the metric, and at the root in
 /// the interface too.
+///
+/// Links that nothing distinguishes are one link (RFC 2328, 16.1). Next hops are the same, and a
+/// repair makes one offer instead of several.
 #[derive(Clone, Copy, Default, PartialEq, Eq, PartialOrd, Ord)]
 pub(crate) struct ParallelLink {
     pub(crate) cost: u16,

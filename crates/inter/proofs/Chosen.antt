@@ -1,4 +1,5 @@
--- What the summaries for a destination offer, part by part, and the entry that is chosen from it.
+-- The offers of the summaries for a destination, part by part, and the entry that is chosen from
+-- them.
 use Rattle.std.proofs.Common.{◌≡◌, ℕ, ◌+◌, ◌<◌, List, [], Option, Some, None, bit_and, refl, sym, subst, ◌∙◌, ◌⊎◌, inr, ⊎_elim}
 use Rattle.std.specs.Prelude.{◌↔◌}
 use Rattle.std.specs.FinMap.{get}

@@ -1,4 +1,5 @@
--- The entry of a destination that nothing tells to choose again, and routes that followed all that may differ.
+-- The entry of a destination that does not have to be recomputed, and routes that followed all that
+-- may differ.
 --   entry_same: an entry for the offers is one for the same offers
 --   entry_listed, entry_advertised: what is offered by the index is what the LSAs offer
 --   entry_stays: where nothing differs of what is offered to a destination, its entry stays
@@ -135,7 +136,7 @@ module _ (keys : List (Scope × Key)) (named : List Dest) (v w : InterInputsValu
     borders = λ k a listed dest area. differ.routers k.router (λ c. absent (followed.behind k.router d c (k, a, listed, refl, dest))) area;
   }
 
-  -- what stood there has to stand
+  -- the old entry is right
   entry_stands : IsIndexFor v.root v.examined i → (d : Dest) → (Contains dests d → ⊥) → (e : Option Entry) → IsEntryIn v v.examined d e → IsChosenFor w j d e
   entry_stands index d absent e is = stays v w (area_of v.examined) (area_of w.examined) i j d (not_named d absent) e (entry_advertised v i d v.examined index e is)
 

@@ -211,7 +211,7 @@ module _ (s : Inputs) (v : InterInputsValue) (are : AreInputsOf s v) (y : Examin
       let there : get y.lsas (key_of l) ≡ Some l = subst (λ (k : Key). get y.lsas k ≡ Some l) (ex.sound.under_own_key w.0 l w.1) w.1 in
       (same, there, used_of y.lsas (key_of l) l there may.held.usable)
 
-  -- its border router hands out what it offers
+  -- its border router passes on what it offers
   handed : (b : Area) (l : Lsa) (metric cost : ℕ) (h : NextHop) (may : IsUsableSummary s b l metric cost h) → b ≡ a → HandsOut B (reached_at v.intra.areas y.area l.header.router) may.border.0 h
   handed b l metric cost h may same =
       (reached B l.header.router may.border.0 h (inl refl)).0 (subst (λ (x : Area). ReachesWith B s x l.header.router may.border.0 h) same may.border.1)

@@ -1,4 +1,5 @@
--- How an entry is chosen by the index: from what is advertised under the keys that lead to the destination.
+-- How an entry is chosen by the index: from what is advertised under the keys that lead to the
+-- destination.
 use Rattle.std.specs.Prelude.{ℕ, ◌+◌, ◌≡◌, List, Option, Some, None}
 use Rattle.std.specs.FinMap.{get}
 use Rattle.std.specs.Ordering.{nat_cmp}

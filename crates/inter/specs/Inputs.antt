@@ -1,4 +1,5 @@
--- What inter-area routes are calculated from: the LSAs of the examined area, the intra-area routes, and the active ranges.
+-- What inter-area routes are calculated from: the LSAs of the examined area, the intra-area routes,
+-- and the active ranges.
 use Rattle.std.specs.Prelude.{ℕ, Option, option_map}
 use Rattle.lsdb.specs.Databases.{Database}
 use Rattle.intra.specs.Intras.{IntraValue}

@@ -37,7 +37,8 @@ no_routes = record { examined = None; index = record { routes = empty }; entries
 abbrev pub HasEntry : InterValue → Dest → Type 0
 HasEntry w d = IsSome (get w.entries d)
 
--- the entry is the best of the offers through the area, its paths in order, or `None` if nothing is offered
+-- the entry is the best of the offers through the area, its paths in order, or `None` if nothing is
+-- offered
 abbrev pub IsEntryFor : ℕ → (ℕ → Path → Type 0) → Option Entry → Type 0
 IsEntryFor area offers None = NoOffer offers
 IsEntryFor area offers (Some e) = (cost : ℕ) × IsBest nat_cmp offers cost e.paths × IsStrictlySortedBy path_cmp e.paths × (e ≡ entry_of Inter (Some area) cost 0 e.paths)

@@ -16,7 +16,8 @@ use Rattle.advertised_index.specs.AdvertisedRoute.{AdvertisedValue, advertised_a
 use Rattle.active_ranges.specs.Active.{IsActiveIn}
 use Rattle.inter.specs.Inputs.{ExaminedValue, InterInputsValue}
 
--- what is advertised under the key offers the distance of its border router and its metric, over that router's next hops
+-- what is advertised under the key offers the distance of its border router and its metric, over
+-- that router's next hops
 abbrev pub SummaryOffers : InterInputsValue → ℕ → Key → AdvertisedValue → ℕ → Path → Type 0
 SummaryOffers v area k a cost path = (distance : ℕ) × (h : NextHop)
     × HandsOut B (reached_at v.intra.areas area k.router) distance h × (cost ≡ distance + a.metric) × (path ≡ through k.router h)
@@ -25,7 +26,8 @@ SummaryOffers v area k a cost path = (distance : ℕ) × (h : NextHop)
 abbrev pub IsBoundaryIn : List AreaIntraValue → ℕ → ℕ → Type 0
 IsBoundaryIn areas area router = (distance : ℕ) × (h : NextHop) × HandsOut E (reached_at areas area router) distance h
 
--- what is preferred to summaries: for a network an intra-area route and an active range, for a router that it is reached as AS boundary router in the area
+-- what is preferred to summaries: for a network an intra-area route and an active range, for a
+-- router that it is reached as AS boundary router in the area
 abbrev pub IsTakenBelow : InterInputsValue → ℕ → Dest → Type 0
 IsTakenBelow v area (Net p) = IsSome (get v.intra.entries p) ⊎ IsActiveIn v.active p
 IsTakenBelow v area (Router r) = IsBoundaryIn v.intra.areas area r

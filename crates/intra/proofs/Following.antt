@@ -169,7 +169,7 @@ module _ (root : ℕ) (a : AreaValue) where
     exact = λ r. (λ c. inl c, λ w. elim w [ inl c ↦ c | inr other ↦ absurd (other refl) ]);
   }
 
-  -- the router is updated, and told where something else is kept
+  -- the router is updated, and reported where something else is kept
   pub updated_one : (router : ℕ) (old new : AreaIntraValue) (rs after : List ℕ) → new.id ≡ old.id → new.index ≡ old.index → get new.reached router ≡ router_now root a old.index router
       → ((r : ℕ) → r ≢ router → get new.reached r ≡ get old.reached r)
       → ((after ≡ rs) × (get new.reached router ≡ get old.reached router)) ⊎ ((after ≡ rs ++ router ∷ []) × (get new.reached router ≢ get old.reached router))

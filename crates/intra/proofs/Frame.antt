@@ -1,14 +1,16 @@
--- What is offered to a network, and what is kept of a router, where nothing that it rests on differs (RFC 2328, 16.1).
+-- The offers to a network, and the kept value of a router, where nothing that they depend on
+-- differs (RFC 2328, 16.1).
 --   source_is: the sources of an index are what the LSAs offer
---   indexes_of: the indexes of areas that are kept are those of their databases
+--   indexes_of: the indexes of areas that are kept belong to their databases
 --   indexed_is: what is offered by the indexes of the areas is what is offered
 --   offers_same: an area offers the same over two relations that agree on the prefix
---   offers_kept: a network that nothing tells to choose again is offered the same before and after
---   best_same, entry_same: the best of the offers, and the entry, belong to the same offers given another way
---   entry_indexed: the entry of what the indexes of the areas offer is that of what is offered
+--   offers_kept: a network that does not have to be recomputed is offered the same before and after
+--   best_same, entry_same: the best of the offers, and the entry, belong to the same offers given
+--     another way
+--   entry_indexed: the entry of the offers in the indexes of the areas is the entry of the offers
 --   entry_kept: the entry of such a network stays
 --   router_kept: what is kept of a router that is not named stays
---   blank_is: blank routes are those of areas without LSAs
+--   blank_is: blank routes belong to areas without LSAs
 --   blank_differs: from areas without LSAs no more differs than the LSAs that there are
 use Rattle.std.proofs.Common.{◌≡◌, ℕ, false, true≢false, is_some, List, [], ◌∷◌, map, Option, Some, None, refl, sym, ap, subst, ◌∙◌, ◌⊎◌, inl, inr, ⊎_elim, Ordering}
 use Rattle.std.specs.Prelude.{◌↔◌, IsSome, option_map, option_and_then}
@@ -81,7 +83,7 @@ AreIndexesOf (a ∷ rest) [] = ⊥
 abbrev pub indexes_in : List AreaIntraValue → List IndexValue
 indexes_in areas = map (λ (i : AreaIntraValue). i.index) areas
 
--- the indexes of areas that are kept are those of their databases
+-- the indexes of areas that are kept belong to their databases
 pub indexes_of : (root : ℕ) (areas : List AreaValue) (kept : List AreaIntraValue) → AreAreaIntras root areas kept → AreIndexesOf areas (indexes_in kept)
 indexes_of root [] [] are = tt
 indexes_of root (a ∷ rest) (i ∷ is) are = (are.0.index, indexes_of root rest is are.1)
@@ -240,9 +242,10 @@ pub entry_same : (one other : AreaCost → Path → Type 0) → ((key : AreaCost
 entry_same one other same None none = λ key path offered. none key path ((same key path).1 offered)
 entry_same one other same (Some e) is = (is.0, best_same one other same area_cost_cmp is.0 e.paths is.1, is.2, is.3)
 
--- ---- a network that nothing tells to choose again
+-- ---- a network that does not have to be recomputed
 
--- what holds in this area: it is offered by the same vertices, none of these is named, and the root is none of them where an interface is named
+-- what holds in this area: it is offered by the same vertices, none of these is named, and the root
+-- is none of them where an interface is named
 pub record IsClean (vertices : List (ℕ × Vertex)) (ids : List ℕ) (root : ℕ) (p : Prefix) (area : ℕ) (before after : IndexValue) : Type 0 where
   pub sources : (w : Vertex) (metric : ℕ) → IsSource after w p metric ↔ IsSource before w p metric
   pub unnamed : (w : Vertex) (metric : ℕ) → IsSource after w p metric → Contains vertices (area, w) → ⊥
@@ -334,7 +337,7 @@ pub entry_kept : (keys : List (Scope × Key)) (vertices : List (ℕ × Vertex)) 
 entry_kept keys vertices ids old new differ is js before after p clean e =
     entry_same (OffersOf old p) (OffersOf new p) (offers_kept keys vertices ids old new differ is js before after p clean) e
 
--- the entry of what the indexes offer is that of what is offered
+-- the entry of the offers in the indexes is the entry of the offers
 pub entry_indexed : (v : InputsValue) (is : List IndexValue) → AreIndexesOf v.areas is
     → (p : Prefix) (e : Option Entry) → IsEntryFor (IndexedOffers v is v.areas p) e → IsEntryFor (OffersOf v p) e
 entry_indexed v is are p e = entry_same (IndexedOffers v is v.areas p) (OffersOf v p) (indexed_is v is are p) e
@@ -416,7 +419,7 @@ blank_areas root (a ∷ rest) = (
   blank_areas root rest,
 )
 
--- blank routes are those of areas without LSAs
+-- blank routes belong to areas without LSAs
 pub blank_is : (v : InputsValue) → IsIntraOf (blanked v) (blank v.areas)
 blank_is v = record {
   fresh = refl;

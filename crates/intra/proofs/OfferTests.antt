@@ -1,4 +1,4 @@
--- `==` on offers decides whether they are equal, and their order tells them apart.
+-- `==` on offers decides their equality, and so does their order.
 use Rattle.std.proofs.Common.{◌≡◌, ◌≢◌, ◌&&◌, Bool, true, List, Ordering, Decides, nat_eq, subst, ap}
 use Rattle.std.specs.Ordering.{nat_cmp, ordering_then, eq_by_cmp}
 use Rattle.std.specs.Cmp.{IsTotalOrder, eq_by_cmp_equiv, nat_cmp_total}

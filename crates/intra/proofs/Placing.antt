@@ -1,4 +1,4 @@
--- What is done to each area in turn, place by place.
+-- The update of each area in turn, place by place.
 use Rattle.std.proofs.Common.{◌≡◌, ◌≢◌, ℕ, ◌+◌, ◌<◌, ◌≤◌, List, length, get_or, set, refl, sym, ap, subst, ◌∙◌, ◌⊎◌, inl, inr, arith}
 use Rattle.std.specs.Prelude.{◌↔◌}
 use Rattle.std.specs.FinMap.{get}
@@ -117,7 +117,8 @@ settled_from root keys vertices before after a i j is = record {
   each = λ r. elim (is.each r) [ inl now ↦ inl now.0 | inr kept ↦ inr kept ];
 }
 
--- the index of an area was that of a database, from which the area's differs in no more than is named
+-- the index of an area belonged to a database, from which the area's differs in no more than is
+-- named
 pub kept_before : (root : ℕ) (keys : List (Scope × Key)) (vertices : List (ℕ × Vertex)) (a : AreaValue) (i : AreaIntraValue) → IsKeptBefore root keys vertices a i
     → (before : Database) × IsIndexOf before i.index × LsasDifferAmong keys i.id before a.lsas
 kept_before root keys vertices a i is =

@@ -1,4 +1,4 @@
--- What a filter keeps of a list, and the sources of a prefix without those of a vertex.
+-- The rest of a list after a filter, and the sources of a prefix without those of a vertex.
 use Rattle.std.proofs.Common.{◌≡◌, ◌≢◌, ℕ, Bool, true, false, cond, not, List, [], ◌∷◌, refl, sym, ap, subst, ◌∙◌, ⊎_elim}
 use Rattle.std.specs.Prelude.{◌↔◌}
 use Rattle.std.specs.List.{Contains, filter}

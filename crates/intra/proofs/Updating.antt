@@ -1,4 +1,5 @@
--- Routes that were those of earlier inputs belong to the present ones once all that may differ followed.
+-- Routes that belonged to earlier inputs belong to the present ones once all that may differ
+-- followed.
 use Rattle.std.proofs.Common.{◌≡◌, ◌≢◌, ℕ, zero, suc, ◌<◌, nat_eq, true, false, List, [], ◌∷◌, ◌++◌, map, length, get_or, Option, Some, None, refl, sym, ap, subst, ◌∙◌, ◌⊎◌, inl, inr, arith}
 use Rattle.std.specs.Prelude.{◌↔◌, option_map, option_and_then, if◌then◌else◌}
 use Rattle.std.specs.FinMap.{get}
@@ -32,7 +33,8 @@ use Rattle.intra.proofs.Frame.{IsClean, AreClean, indexes_in, indexes_of, indexe
 
 -- ---- area by area
 
--- each area that is kept belongs to an area from which the present one differs in no more than is named
+-- each area that is kept belongs to an area from which the present one differs in no more than is
+-- named
 pub are_before : (root : ℕ) (keys : List (Scope × Key)) (vertices : List (ℕ × Vertex)) (bs areas : List AreaValue) (is : List AreaIntraValue) → AreAreaIntras root bs is → AreasDifferAmong keys vertices bs areas
     → AreKeptBefore root keys vertices areas is
 are_before root keys vertices [] [] [] are differ = record { as_many = refl; each = λ k a i lt. absurd (omega (arith, lt)) }
@@ -186,7 +188,7 @@ module _ (keys : List (Scope × Key)) (vertices : List (ℕ × Vertex)) (ids : L
   }
 
   module _ (routers : List ℕ) (named : (r : ℕ) → Contains routers r ↔ HasOtherAmong (length v.areas) old.areas news r) where
-    -- the routers are those of which something else is kept
+    -- just the routers of which something else is kept
     others : (r : ℕ) → Contains routers r ↔ HasOtherRouter old.areas new.areas r
     others r =
         let step = other_router old.areas news r first.as_many in

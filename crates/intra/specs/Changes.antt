@@ -14,7 +14,8 @@ use Rattle.lsdb.specs.Databases.{Database}
 use Rattle.intra.specs.Inputs.{AreaValue, InputsValue, distance_at, hops_at}
 use Rattle.intra.specs.Intras.{AreaIntraValue, IntraValue, IsIntraOf}
 
--- an area before and after: the LSAs that are used otherwise are named, and so is each vertex that has another distance or other next hops, but for those that were not there before
+-- an area before and after: the LSAs that are used otherwise are named, and so is each vertex that
+-- has another distance or other next hops, but for those that were not there before
 pub record DiffersAmong (keys : List (Scope × Key)) (vertices : List (ℕ × Vertex)) (a b : AreaValue) : Type 0 where
   pub id : b.id ≡ a.id
   pub lsas : (key : Key) → (Contains keys (Area a.id, key) → ⊥) → body_at b.lsas key ≡ body_at a.lsas key

@@ -1,4 +1,4 @@
--- What the sources of a prefix in an area offer to it, part by part.
+-- The offers of a prefix's sources in an area, part by part.
 use Rattle.std.specs.Prelude.{ℕ, ◌≡◌, ◌≤◌, ◌⊎◌, ◌++◌, ◌∷◌, [], IsTrue, List, map, Contains, Option, Some, None}
 use Rattle.ospf_types.specs.declared.config.Interface.{Interface}
 use Rattle.ospf_types.specs.declared.entry.Vertex.TheVariants.{Router}
@@ -79,12 +79,14 @@ abbrev pub FindsNearest : Offering → AreaValue → Prefix → Option (ℕ × �
 FindsNearest offered a p None = (id distance : ℕ) → IsReachedFor offered a p id distance → ⊥
 FindsNearest offered a p (Some found) = IsNearest offered a p found.0 found.1
 
--- with one more source the nearest transit network is the one that is found, whichever sources came before
+-- with one more source the nearest transit network is the one that is found, whichever sources came
+-- before
 abbrev pub FindsNearestWith : AreaValue → Source → Option (ℕ × ℕ) → Option (ℕ × ℕ) → Type 0
 FindsNearestWith a source nearest found =
     (before : List Source) (p : Prefix) → FindsNearest (AmongSources before) a p nearest → FindsNearest (AmongSources (before ++ source ∷ [])) a p found
 
--- of two networks, each a number and a distance: the first is the nearer, or at one distance has the greater number, or is the second
+-- of two networks, each a number and a distance: the first is the nearer, or at one distance has
+-- the greater number, or is the second
 pub record IsNoFarther (a b : ℕ × ℕ) : Type 0 where
   pub near : a.1 ≤ b.1
   pub great : a.1 ≡ b.1 → b.0 ≤ a.0

@@ -15,7 +15,8 @@ use Rattle.intra.specs.Intras.{AreaIntraValue, IntraValue, IsEntryFor}
 abbrev pub IsEntryBy : InputsValue → List AreaIntraValue → Prefix → Option Entry → Type 0
 IsEntryBy v areas p e = IsEntryFor (IndexedOffers v (map (λ (a : AreaIntraValue). a.index) areas) v.areas p) e
 
--- only the entries of these networks are recomputed; the networks with another entry are named, in this order
+-- only the entries of these networks are recomputed; the networks with another entry are named, in
+-- this order
 pub record AreEntriesChosenAnew (v : InputsValue) (old new : IntraValue) (networks : List Prefix) (dests : List Dest) : Type 0 where
   pub areas : new.areas ≡ old.areas
   pub spent : new.spent ≡ old.spent

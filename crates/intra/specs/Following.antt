@@ -58,7 +58,8 @@ pub record HasOffered (index : IndexValue) (names : Vertex → Type 0) (before a
 abbrev pub NamesIn : ℕ → ℕ × Vertex → Vertex → Type 0
 NamesIn area named v = named ≡ (area, v)
 
--- Only the index followed. The list has all of before, each prefix that has other sources, each that a named vertex offers, and, where an interface is named, each that the root offers.
+-- Only the index followed. The list has all of before, each prefix that has other sources, each
+-- that a named vertex offers, and, where an interface is named, each that the root offers.
 pub record IsGathered (root : ℕ) (vertices : List (ℕ × Vertex)) (interfaces : List ℕ) (old new : AreaIntraValue) (before after : List Prefix) : Type 0 where
   pub id : new.id ≡ old.id
   pub reached : new.reached ≡ old.reached
@@ -102,7 +103,8 @@ abbrev pub router_now : ℕ → AreaValue → IndexValue → ℕ → Option Reac
 router_now root a index router =
     reached_by root router (flags_in index (Router router)) (distance_at a (Router router)) (hops_at a (Router router))
 
--- Only what is kept of routers followed: the named ones are as they are to be, and the others as before. The list has besides those of before just the routers of which something else is kept.
+-- Only the kept routers followed: the named ones are as they have to be, and the others as before.
+-- The list gains just the routers of which something else is kept.
 pub record AreRoutersUpdated (root : ℕ) (a : AreaValue) (names : ℕ → Type 0) (old new : AreaIntraValue) (before after : List ℕ) : Type 0 where
   pub id : new.id ≡ old.id
   pub index : new.index ≡ old.index

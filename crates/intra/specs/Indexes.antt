@@ -96,7 +96,8 @@ IndexedOffers v [] [] p key path = ⊥
 IndexedOffers v [] (a ∷ rest) p key path = ⊥
 IndexedOffers v (i ∷ is) [] p key path = ⊥
 
--- these prefixes have all that from the one to the other have other sources, and all those of before
+-- these prefixes have all that from the one to the other have other sources, and all those of
+-- before
 pub record AreTouched (old new : IndexValue) (before after : List Prefix) : Type 0 where
   pub kept : (p : Prefix) → Contains before p → Contains after p
   pub others : (p : Prefix) → (Contains after p → ⊥) → (v : Vertex) (metric : ℕ) → IsSource new v p metric ↔ IsSource old v p metric

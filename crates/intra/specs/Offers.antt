@@ -1,4 +1,5 @@
--- What is offered to a network inside an area (RFC 2328, 16.1), over any relation that says which vertices offer it.
+-- The offers to a network inside an area (RFC 2328, 16.1), over any relation that says which
+-- vertices offer it.
 use Rattle.std.specs.Prelude.{ℕ, ◌+◌, ◌≡◌, ◌≢◌, ◌≤◌, ◌⊎◌, IsTrue, Contains, Some}
 use Rattle.ospf_types.specs.declared.config.Interface.{Interface}
 use Rattle.ospf_types.specs.declared.entry.Vertex.{Vertex}
@@ -15,7 +16,7 @@ use Rattle.lsdb.specs.Databases.{Database}
 use Rattle.area_trees.specs.Areas.{IsStanding}
 use Rattle.intra.specs.Inputs.{AreaValue, InputsValue, distance_at, hops_at}
 
--- which vertices offer a prefix, each at a metric beside its distance
+-- the vertices that offer a prefix, each with the metric that is added to its distance
 abbrev pub Offering : Type 1
 Offering = Vertex → Prefix → ℕ → Type 0
 
@@ -32,7 +33,8 @@ HasOffer d v p metric = (body : Body) × IsStanding d v (Some body) × OffersBy 
 abbrev pub IsReachedFor : Offering → AreaValue → Prefix → ℕ → ℕ → Type 0
 IsReachedFor offered a p id distance = offered (Network id) p 0 × (distance_at a (Network id) ≡ Some distance)
 
--- Of several networks with one prefix the nearest stands for it, and of those at one distance the one with the greatest number.
+-- The nearest of several networks with one prefix stands for it; at one distance, the one with the
+-- greatest number.
 pub record IsNearest (offered : Offering) (a : AreaValue) (p : Prefix) (id distance : ℕ) : Type 0 where
   pub reached : IsReachedFor offered a p id distance
   pub nearest : (other d : ℕ) → IsReachedFor offered a p other d → distance ≤ d

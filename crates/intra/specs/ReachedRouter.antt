@@ -28,7 +28,8 @@ reached_in root a router flags = reached_by root router flags (distance_at a (Ro
 abbrev pub KeepsNone : ReachedByRouter → Vertex → Type 0
 KeepsNone reached v = (router : ℕ) → v ≡ Router router → get reached router ≡ None
 
--- each router of which something is kept is there once more, and the others are there as often
+-- each router of which something is kept occurs one time more, and the others occur as often as
+-- before
 abbrev pub HasOnceMore : ReachedByRouter → List ℕ → List ℕ → Type 0
 HasOnceMore reached old new =
     (router : ℕ) → count_by (λ (r : ℕ). r == router) new ≡ count_by (λ (r : ℕ). r == router) old + (if is_some (get reached router) then 1 else 0)

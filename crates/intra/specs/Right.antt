@@ -39,7 +39,8 @@ AreRoutersRight s (b ∷ bs) (i ∷ is) = (b.id ≡ i.id)
 AreRoutersRight s [] (i ∷ is) = ⊥
 AreRoutersRight s (b ∷ bs) [] = ⊥
 
--- each network has the entry that the definitions give, and each border router and boundary router what they say of it
+-- each network has the entry that the definitions give, and each border router and boundary router
+-- what they say of it
 pub record IsRightFor (s : Inputs) (w : IntraValue) : Type 0 where
   pub entries : (p : Prefix) → IsEntryFor (IntraOffers s p) (get w.entries p)
   pub routers : AreRoutersRight s s.areas w.areas

@@ -1,4 +1,4 @@
--- What a link of a router-LSA and a network-LSA offer.
+-- The offers of a link of a router-LSA, and of a network-LSA.
 use Rattle.std.specs.Prelude.{ℕ, ◌↔◌, List, [], ◌∷◌, Contains, Option, Some, None}
 use Rattle.std.specs.List.{filter_map}
 use Rattle.ospf_types.specs.declared.lsa.Link.{Link}

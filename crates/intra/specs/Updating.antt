@@ -29,7 +29,7 @@ pub record AreKeptBefore (root : ℕ) (keys : List (Scope × Key)) (vertices : L
 abbrev pub HaveKeptBefore : Dirty → InputsValue → List AreaIntraValue → Type 0
 HaveKeptBefore dirty v kept = AreKeptBefore v.root dirty.keys.items dirty.vertices.items v.areas kept
 
--- of the first areas, this many, this holds before and after, and the others are as before
+-- this many first areas are updated so, and the others are as before
 pub record AreFirst (P : AreaValue → AreaIntraValue → AreaIntraValue → Type 0) (areas : List AreaValue) (old new : List AreaIntraValue) (count : ℕ) : Type 0 where
   pub as_many : length new ≡ length old
   pub each : (k : ℕ) (a : AreaValue) (i j : AreaIntraValue) → k < count → P (get_or areas k a) (get_or old k i) (get_or new k j)
@@ -40,7 +40,8 @@ pub record IsFollowed (root : ℕ) (vertices : List (ℕ × Vertex)) (interfaces
   pub index : IsIndexOf a.lsas new.index
   pub gathered : IsGathered root vertices interfaces old new [] prefixes
 
--- only what is kept of routers followed: the named ones are as they are to be, and the others as before
+-- only what is kept of routers followed: the named ones are as they are to be, and the others as
+-- before
 pub record IsSettled (root : ℕ) (keys : List (Scope × Key)) (vertices : List (ℕ × Vertex)) (a : AreaValue) (old new : AreaIntraValue) : Type 0 where
   pub id : new.id ≡ old.id
   pub index : new.index ≡ old.index
@@ -51,11 +52,12 @@ pub record IsBroughtTo (root : ℕ) (keys : List (Scope × Key)) (vertices : Lis
   pub followed : IsFollowed root vertices interfaces prefixes a old (with_index_of old new)
   pub settled : IsSettled root keys vertices a (with_index_of old new) new
 
--- in one of the first areas, this many, something else is kept of the router
+-- in one of this many first areas something else is kept of the router
 abbrev pub HasOtherAmong : ℕ → List AreaIntraValue → List AreaIntraValue → ℕ → Type 0
 HasOtherAmong count old new router = (k : ℕ) × (k < count) × ((i : AreaIntraValue) → get (get_or new k i).reached router ≢ get (get_or old k i).reached router)
 
--- what is kept of each area belongs to the inputs, and the prefixes that may get another entry are among these
+-- what is kept of each area belongs to the inputs, and the prefixes that may get another entry are
+-- among these
 abbrev pub AreBroughtTo : InputsValue → Dirty → List Prefix → List AreaIntraValue → List AreaIntraValue → Type 0
 AreBroughtTo v dirty prefixes old new =
     AreFirst (IsBroughtTo v.root dirty.keys.items dirty.vertices.items dirty.interfaces.items prefixes) v.areas old new (length v.areas)

@@ -50,7 +50,7 @@ past_cut : (cut : Bool) (f : Findings) → IsClear (cond cut cut_findings f) →
 past_cut true f clear = let e : true ≡ false = clear.shape in absurd cc
 past_cut false f clear = record { uncut = refl; found = clear }
 
--- the bytes of a body are those of what it stands for
+-- the bytes of a body spell the fields that it stands for
 pub record BodyTaken (h : Header) (body : List ℕ) (b : Body) : Type 0 where
   pub long : 4 ≤ length body
   pub text : body_bytes b ≡ body

@@ -1,4 +1,4 @@
--- What a test says of its parts.
+-- The parts of a test, from its result.
 use Rattle.std.proofs.Common.{◌≡◌, Bool, true, false, ◌||◌, ◌&&◌, not, refl, inl, inr}
 use Rattle.std.specs.Prelude.{◌⊎◌}
 

@@ -1,4 +1,4 @@
--- What a comparison of header fields says of the tests.
+-- The tests of a header, from comparisons of its fields.
 use Rattle.std.proofs.Common.{◌≡◌, ℕ, ◌-◌, ◌<◌, ◌≤◌, Bool, true, false, eqb, ltb, List, length, take, drop, sym, ap, ◌∙◌}
 use Rattle.std.proofs.lemmas.Bool.{eq-eqb, ne_eqb, le-ltb, lt-ltb}
 use Rattle.ospf_types.specs.declared.lsa.Header.{Header}

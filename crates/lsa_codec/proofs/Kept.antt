@@ -1,4 +1,4 @@
--- What the readers of a checked advertisement rest on.
+-- The facts that the readers of a checked advertisement use.
 use Rattle.std.proofs.Common.{zero, suc, get_or, ◌≡◌, ℕ, ◌*◌, ◌/◌, ◌^◌, ◌<◌, ◌≤◌, Bool, true, ◌||◌, eqb, leb, List, [], ◌∷◌, ◌++◌, length, take, drop, Some, None, refl, sym, ap, subst, ◌∙◌, arith}
 use Rattle.std.specs.Prelude.{slice_index}
 use Rattle.std.specs.List.{flat_map, AllByRecursion}
@@ -39,7 +39,7 @@ unfolding spelling
 kept_kind bytes l e kept =
     ap (λ (b : List ℕ). slice_index b 3) (kept_spelled bytes l e kept) ∙ (kept_legal bytes l e kept).kind
 
--- ---- what is where, by the body
+-- ---- the fields at their places, by the body
 
 -- a router-LSA
 flags_in : (h : Header) (b : Body) (bytes : List ℕ) → bytes ≡ header_bytes h ++ body_bytes b → kind_of b ≡ 1 → Some (slice_index bytes 20) ≡ flags_of b

@@ -1,4 +1,5 @@
--- Walks over links and over Router IDs: what is at the start comes next, and what is after it is left.
+-- Walks over links and over Router IDs: what is at the start comes next, and what is after it is
+-- left.
 use Rattle.std.proofs.Common.{◌≡◌, ◌≢◌, ℕ, zero, suc, ◌-◌, ◌/◌, ◌<◌, ◌≤◌, Bool, true, false, List, [], ◌∷◌, length, map, take, drop, Some, refl, sym, ap, subst, ◌∙◌, arith}
 use Rattle.std.specs.Iterator.{MakesProgress, item_count}
 use Rattle.std.specs.List.{flat_map, AllByRecursion}

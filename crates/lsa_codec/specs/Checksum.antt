@@ -35,12 +35,13 @@ IsOnlySum bytes sum = (x y : ℕ) → 0 < x → x < 256 → 0 < y → y < 256 �
 abbrev pub residue : ℕ → ℕ
 residue n = (n + 254) % 255 + 1
 
--- Two bytes make the bytes sound in place of the checksum exactly if they are its own, a zero taken for 255, and one of them is not zero.
+-- Two bytes make the bytes sound in place of the checksum exactly if they are its own, a zero taken
+-- for 255, and one of them is not zero.
 abbrev pub IsSumUpToZeros : List ℕ → ℕ → Type 0
 IsSumUpToZeros bytes sum = (x y : ℕ) → x < 256 → y < 256 → IsSound (with_sum bytes x y) ↔ ((256 * residue x + residue y ≡ sum) × (256 * x + y ≢ 0))
 
--- The two check bytes for sums plain and weighted over count bytes, where 254 stands for -1: the first
--- is (count - 15) * plain - weighted, and the second - plain - first.
+-- The two check bytes for sums plain and weighted over count bytes, where 254 stands for -1: the
+-- first is (count - 15) * plain - weighted, and the second - plain - first.
 abbrev pub first_check : ℕ → ℕ → ℕ → ℕ
 first_check count plain weighted = residue ((count - 15) * plain + 254 * weighted)
 

@@ -43,7 +43,7 @@ is_wrong_length bytes = nat_lt (length bytes) 20 || not (length_field bytes == l
 abbrev pub is_mask : ℕ → Bool
 is_mask mask = mask == 2 ^ 32 - 2 ^ (32 - mask_length mask)
 
--- ---- the links of a router-LSA (A.4.2), as they stand
+-- ---- the links of a router-LSA (A.4.2), in their order
 
 pub record RawTos : Type 0 where
   pub tos : ℕ
@@ -106,11 +106,12 @@ is_incomplete count w = not (length w.met == count) || not (length w.left == 0)
 
 -- ---- bodies
 --
--- Records are met by a walk over a body: a link with its TOS entries, a Router ID, a TOS entry or an
--- external record is met where it lies whole in what is left of the body, and the walk over links stops
--- when as many were met as are counted. A body begins with a fixed part, and where that is not whole
--- nothing of the body is met. What is found of a body: a byte that is to be zero and is not, a mask that
--- is none, a link of no known type, and a shape other than a fixed part and whole records.
+-- Records are met by a walk over a body: a link with its TOS entries, a Router ID, a TOS entry or
+-- an external record is met where it lies whole in what is left of the body, and the walk over
+-- links stops when as many were met as are counted. A body begins with a fixed part, and where that
+-- is not whole nothing of the body is met. What is found of a body: a byte that is to be zero and
+-- is not, a mask that is none, a link of no known type, and a shape other than a fixed part and
+-- whole records.
 
 -- the fixed part of this many bytes is not whole
 abbrev pub is_cut : ℕ → List ℕ → Bool
@@ -157,7 +158,8 @@ network_findings body =
       shape = has_left 4 (drop 4 body);
     }
 
--- a summary-LSA for a network (A.4.4): a mask, a reserved byte and a metric, then TOS entries of 4 bytes
+-- a summary-LSA for a network (A.4.4): a mask, a reserved byte and a metric, then TOS entries of 4
+-- bytes
 abbrev pub summary_findings : List ℕ → Findings
 summary_findings body =
     if is_cut 8 body then cut_findings else record {
@@ -177,7 +179,7 @@ boundary_findings body =
       shape = has_left 4 (drop 8 body);
     }
 
--- an AS-external-LSA (A.4.5): a mask, then one record or more of 12 bytes. The first is that of TOS 0,
+-- an AS-external-LSA (A.4.5): a mask, then one record or more of 12 bytes. The first is for TOS 0,
 -- so that below bit E it has seven zeros.
 abbrev pub external_findings : List ℕ → Findings
 external_findings body =

@@ -1,4 +1,4 @@
--- What a walk over the records of a body has left.
+-- The bytes that a walk over the records of a body has left.
 use Rattle.std.specs.Prelude.{ℕ, ◌≡◌, List, length, map}
 use Rattle.ospf_types.specs.declared.lsa.Link.{Link}
 use Rattle.lsa_codec.specs.Faults.{walk}

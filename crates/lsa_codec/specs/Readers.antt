@@ -1,4 +1,4 @@
--- What the readers of an advertisement answer, by its fields.
+-- The results of the readers of an advertisement, by its fields.
 use Rattle.std.specs.Prelude.{ℕ, List, [], map, Option, Some, None}
 use Rattle.std.specs.List.{slice_get}
 use Rattle.ospf_types.specs.declared.lsa.Link.{Link}

@@ -1,5 +1,5 @@
--- The bytes of a link-state advertisement (RFC 2328, A.4). Each has one spelling, its fields one after
--- the other, the highest byte of a number first.
+-- The bytes of a link-state advertisement (RFC 2328, A.4). Each has one spelling, its fields one
+-- after the other, the highest byte of a number first.
 use Rattle.std.specs.Prelude.{◌≡◌, ◌≢◌, ℕ, ◌+◌, ◌-◌, ◌^◌, ◌<◌, ◌≤◌, cond, List, ◌∷◌, ◌++◌, length}
 use Rattle.std.specs.List.{flat_map, AllByRecursion}
 use Rattle.byteorder.specs.Endian.{big_bytes}

@@ -69,7 +69,7 @@ module _ {K X : Type 0} {R : K → K → Ordering} (o : IsTotalOrder R) (exact :
       let rest = len_is es (IsDistinct-tail (eq_by_cmp R) e.0 (keys_of es) unique) in
       len-insert o (from_entries es) e.0 e.1 ∙ ap (λ b. cond b (len (from_entries {R = R} es)) (len (from_entries {R = R} es) + 1)) absent ∙ ap (λ n. n + 1) rest ∙ omega arith
 
-  -- what is at the first place of a key is found under it
+  -- the entry at the first place of a key is found under it
   pub find_at : (es : List (K × X)) (k : K) (i : ℕ) (e : K × X) → position (eq_by_cmp R k) (keys_of es) ≡ Some i → slice_get es i ≡ Some e → find R k es ≡ Some e.1
   find_at es k i e at here = find-lookup R k es ∙ (Found-position (eq_by_cmp R k) es i at).value ∙ value_at es i e here
     where

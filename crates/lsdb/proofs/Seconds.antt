@@ -1,4 +1,4 @@
--- What a second does to the columns of a database.
+-- The effect of a second on the columns of a database.
 use Rattle.std.proofs.Common.{◌≡◌, ℕ, ◌+◌, ◌≤◌, Bool, true, false, cond, T, List, [], ◌∷◌, map, Some, count_by, refl, sym, ap, subst, ◌∙◌, arith}
 use Rattle.std.specs.Prelude.{◌&&◌, min, option_map, All}
 use Rattle.std.specs.Ordering.{is_lt}

@@ -1,4 +1,5 @@
--- The columns that a database is kept in: entries of key and LSA, and beside each its present age, its LS type and its Advertising Router.
+-- The columns of a database: entries of key and LSA, and for each its present age, its LS type and
+-- its Advertising Router.
 use Rattle.std.specs.Prelude.{ℕ, ◌≡◌, ◌<◌, ◌≤◌, ◌^◌, Bool, List, [], ◌∷◌, length, map}
 use Rattle.std.specs.FinMap.{from_entries}
 use Rattle.std.specs.List.{AllByRecursion, IsDistinct}

@@ -1,4 +1,4 @@
--- What is used of a database's LSAs (RFC 2328, 13.2), and what holds of every database.
+-- The used part of a database's LSAs (RFC 2328, 13.2), and the rules that hold for every database.
 use Rattle.std.specs.Prelude.{ℕ, ◌≡◌, ◌≢◌, ◌↔◌, Bool, false, Option, Some, None, IsSome, Contains, nat_lt, count_by, option_and_then, option_map, if◌then◌else◌}
 use Rattle.std.specs.Borrow.{Bor}
 use Rattle.std.specs.List.{AllPairs}
@@ -25,7 +25,8 @@ body_at d key = option_map (λ (used : ℕ × Body). used.1) (used_at d key)
 abbrev pub IsUsedAlike : Database → Lsa → Type 0
 IsUsedAlike d l = used_at d (key_of l) ≡ contents_of l
 
--- the result is false exactly if what is used of the LSA is what is used of the instance that the database has
+-- the result is false exactly if what is used of the LSA is what is used of the instance that the
+-- database has
 abbrev pub TellsUseOf : Database → Lsa → (changed : Bool) → Type 0
 TellsUseOf d l changed = (changed ≡ false) ↔ IsUsedAlike d l
 
@@ -37,7 +38,8 @@ TellsUseAt d key used = (used ≡ false) ↔ (used_at d key ≡ None)
 abbrev pub at_age_beside : Option (Bor Lsa × ℕ) → Option Lsa
 at_age_beside held = option_map (λ found. with_age found.0.now found.1) held
 
--- the result is false exactly if what is used of the LSA is what is used of the instance that is held at this age
+-- the result is false exactly if what is used of the LSA is what is used of the instance that is
+-- held at this age
 abbrev pub TellsUseBeside : (held : Option (Bor Lsa × ℕ)) → Lsa → (changed : Bool) → Type 0
 TellsUseBeside held l changed = (changed ≡ false) ↔ (option_and_then contents_of (at_age_beside held) ≡ contents_of l)
 

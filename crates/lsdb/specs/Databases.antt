@@ -1,4 +1,5 @@
--- A link-state database as a finite map from key to LSA, each at its present age (RFC 2328, 12 to 14).
+-- A link-state database as a finite map from key to LSA, each at its present age (RFC 2328, 12 to
+-- 14).
 use Rattle.std.specs.Prelude.{ℕ, ◌+◌, ◌≡◌, ◌==◌, ◌&&◌, ◌++◌, ◌⊎◌, Bool, true, false, List, [], ◌∷◌, Option, Some, None, map, min, nat_lt, nat_le, is_none, filter, slice_get, if◌then◌else◌}
 use Rattle.std.specs.FinMap.{FinMap, from_sorted, entries, get, insert, len}
 use Rattle.std.specs.Global.{Vec}

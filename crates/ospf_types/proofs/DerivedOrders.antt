@@ -1,4 +1,5 @@
--- The derived orders of keys, scopes, networks and destinations are those that the definitions state.
+-- The derived orders of keys, scopes, networks and destinations are those that the definitions
+-- state.
 use Rattle.std.proofs.Common.{◌≡◌, Ordering, refl, sym, subst}
 use Rattle.std.proofs.lemmas.Map.Lookups.{CmpEqualImpliesEq}
 use Rattle.ospf_types.specs.declared.key.Dest.{Dest}

@@ -1,4 +1,5 @@
--- The elements of a list: its first and those after it, those of this many from the front, and the elements of a mapped list.
+-- The elements of a list: its first and those after it, those of this many from the front, and the
+-- elements of a mapped list.
 use Rattle.std.proofs.Common.{◌≡◌, ℕ, ◌+◌, ◌<◌, List, [], ◌∷◌, ◌++◌, map, length, take, get_or, refl, sym, ap, subst, ◌∙◌, ◌⊎◌, inl, inr, ⊎_elim, arith}
 use Rattle.std.specs.Prelude.{◌↔◌}
 use Rattle.std.specs.List.{Contains}

@@ -1,4 +1,5 @@
--- The longest match of a forwarding address is the same whether an active range with an entry counts as a discard or not.
+-- The longest match of a forwarding address is the same whether an active range with an entry
+-- counts as a discard or not.
 use Rattle.std.proofs.Common.{ℕ, ◌<◌, ◌≤◌, ◌⊎◌, inl, inr, ⊎_elim, arith}
 use Rattle.std.specs.Prelude.{◌↔◌}
 use Rattle.std.proofs.lemmas.Bool.{cases_lt}

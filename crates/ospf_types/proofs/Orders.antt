@@ -1,4 +1,5 @@
--- The orders of networks, keys, scopes, destinations, costs in areas, next hops and paths are total, and only equal values tie.
+-- The orders of networks, keys, scopes, destinations, costs in areas, next hops and paths are
+-- total, and only equal values tie.
 use Rattle.std.proofs.Common.{◌≡◌, ℕ, Option, Some, None, Ordering, refl, sym, ap, subst, arith}
 use Rattle.std.specs.declared.cmp.Ordering.TheVariants.{Less, Equal, Greater}
 use Rattle.std.specs.Ordering.{nat_cmp, ordering_then}

@@ -1,4 +1,5 @@
--- The derived orders of next hops and of paths are `hop_cmp` and `path_cmp`, by kind, interface, address and advertiser; next hops are equal as values.
+-- The derived orders of next hops and of paths are `hop_cmp` and `path_cmp`, by kind, interface,
+-- address and advertiser; next hops are equal as values.
 use Rattle.std.proofs.Common.{◌≡◌, ℕ, Option, Some, None, Ordering, refl, sym, ap, subst, ◌&&◌, Decides, nat_eq}
 use Rattle.std.specs.Option.{option_cmp, option_eq}
 use Rattle.std.specs.Ordering.{nat_cmp, ordering_then}
@@ -44,7 +45,7 @@ path_cmp_is = λ i x y. path_cmp_at x y i
 pub path_order_exact : CmpEqualImpliesEq path_order.ghosts.cmp
 path_order_exact = subst (λ (R : Path → Path → Ordering). CmpEqualImpliesEq R) (sym path_cmp_is) path_exact
 
--- the derived equality of next hops is that of values
+-- the derived equality of next hops is the equality of values
 pub hop_eq-Decides : (x y : NextHop) → Decides (hop_equality.ghosts.eq x y) (x ≡ y)
 hop_eq-Decides (Direct a) (Direct b) = Decides-like (nat_eq a b) (λ h. ap Direct h) (λ e. cc) (Decides-eqb a b)
 hop_eq-Decides (Direct a) (Peer b) = (λ h. cc, λ e. cc)

@@ -1,4 +1,5 @@
--- Where one range is set or dropped, no two overlap that did not before, and there are no more than there may be.
+-- Where one range is set or dropped, no two overlap that did not before, and there are no more than
+-- there may be.
 use Rattle.std.proofs.Common.{◌≡◌, ℕ, ◌+◌, ◌≤◌, Bool, cond, true, false, List, [], ◌∷◌, length, map, refl, sym, ap, ◌∙◌, arith}
 use Rattle.std.specs.Prelude.{◌||◌, ◌&&◌, ◌==◌, not}
 use Rattle.std.specs.List.{list_any}

@@ -1,4 +1,4 @@
--- Of a value that has a code, what is not other is the same.
+-- If a value has a code, a value that is not another one is the same.
 use Rattle.std.proofs.Common.{◌≡◌, ℕ, refl, ap, inl, inr}
 use Rattle.std.specs.Coded.{Coded}
 use Rattle.std.proofs.lemmas.Bool.{cases_eq}

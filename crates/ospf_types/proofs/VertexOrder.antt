@@ -1,4 +1,5 @@
--- The order of vertices is total, only equal vertices tie, and `==` tests what it does not tell apart.
+-- The order of vertices is total, only equal vertices tie, and `==` tests what it does not tell
+-- apart.
 use Rattle.std.proofs.Common.{◌≡◌, ◌∙◌, ℕ, Bool, Decides, refl, sym, ap, arith}
 use Rattle.std.specs.Ordering.{nat_cmp, eq_by_cmp}
 use Rattle.std.specs.Cmp.{IsTotalOrder, eq_by_cmp_equiv, nat_cmp_total, unsigned_ties}

@@ -1,4 +1,4 @@
--- What a configuration must not be (RFC 2328, 3.5, 3.6 and C.2).
+-- The faults of a configuration (RFC 2328, 3.5, 3.6 and C.2).
 use Rattle.std.specs.Prelude.{◌==◌, ◌&&◌, ◌||◌, Bool, false, nat_lt, nat_le, List, [], ◌∷◌, length, Option, Some, None, is_some}
 use Rattle.std.specs.List.{list_any}
 use Rattle.ospf_types.specs.declared.config.Config.{Config}
@@ -52,6 +52,6 @@ areas_fault_of areas = first_of (
     ∷ (list_any (λ a. nat_lt 32 (length a.ranges)) areas, fault.RangeCount)
     ∷ [])
 
--- a configuration's faults belong to its areas
+-- a configuration has the faults of its areas
 abbrev pub config_fault_of : Config → Option ConfigFault
 config_fault_of c = areas_fault_of c.areas

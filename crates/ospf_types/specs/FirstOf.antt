@@ -1,4 +1,6 @@
 -- Tables of tests: each line a test with its answer, and the first that holds is the answer.
+-- The refusals of an event, the faults of a configuration and the faults of an LSA are such tables:
+-- the order of the table is the order of the list.
 use Rattle.std.specs.Prelude.{Bool, List, [], ◌∷◌, Option, Some, None, if◌then◌else◌}
 
 -- the answer of the first line whose test holds, or `None` if no test does

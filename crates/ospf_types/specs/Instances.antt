@@ -1,4 +1,5 @@
--- Which of two instances of an LSA is newer, and when their contents differ (RFC 2328, 13.1 and 13.2).
+-- Which of two instances of an LSA is newer, and when their contents differ (RFC 2328, 13.1 and
+-- 13.2).
 use Rattle.std.specs.Prelude.{ℕ, ◌+◌, ◌≡◌, ◌↔◌, nat_lt, ◌==◌, if◌then◌else◌}
 use Rattle.std.specs.Int.{w32, cast_signed}
 use Rattle.std.specs.Ordering.{nat_cmp, int_cmp, ordering_then}
@@ -13,7 +14,8 @@ use Rattle.ospf_types.specs.Lsa.{Lsa, MaxAge}
 abbrev pub MaxAgeDiff : ℕ
 MaxAgeDiff = 900
 
--- The greater is newer: the only one at MaxAge; else, if the ages differ by more than MaxAgeDiff, the younger (RFC 2328, 13.1).
+-- The greater is newer: the only one at MaxAge; else, if the ages differ by more than MaxAgeDiff,
+-- the younger (RFC 2328, 13.1).
 abbrev pub age_cmp : ℕ → ℕ → Ordering
 age_cmp x y =
     if x == y then Equal
@@ -40,7 +42,8 @@ swapped First = Second
 swapped Second = First
 swapped Same = Same
 
--- Neither Options, length nor body differ, and both are at MaxAge or neither is. Sequence number and checksum do not count.
+-- Neither Options, length nor body differ, and both are at MaxAge or neither is. Sequence number
+-- and checksum do not count.
 pub record HaveSameContents (l m : Lsa) : Type 0 where
   pub options : l.header.options ≡ m.header.options
   pub length : l.header.length ≡ m.header.length

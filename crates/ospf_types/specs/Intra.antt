@@ -36,7 +36,8 @@ inside_area h = record { hop = h; advertiser = None }
 abbrev pub LeadsToPrefix : Inputs → Area → ℕ → ℕ → Prefix → Type 0
 LeadsToPrefix s a id distance p = (mask : ℕ) × (routers : List ℕ) × IsNetwork a id mask routers × (network_of id mask ≡ p) × IsDistanceIn s a (Network id) distance
 
--- Of several such vertices the nearest stands for the prefix, and of those at one distance the one with the greatest number.
+-- The nearest of these vertices stands for the prefix; at one distance, the one with the greatest
+-- number.
 pub record StandsForPrefix (s : Inputs) (a : Area) (id distance : ℕ) (p : Prefix) : Type 0 where
   pub leads : LeadsToPrefix s a id distance p
   pub nearest : (other d : ℕ) → LeadsToPrefix s a other d p → distance ≤ d
@@ -51,7 +52,8 @@ abbrev pub HasStub : Area → ℕ → Prefix → ℕ → Type 0
 HasStub a router p metric = (flags : ℕ) × (links : List RouterLink) × (l : RouterLink)
     × IsRouter a router flags links × Contains links l × (l.kind ≡ Stub) × (network_of l.id l.detail ≡ p) × (l.metric ≡ metric)
 
--- a stub link of another router offers that router's distance and the metric, with that router's next hops
+-- a stub link of another router offers that router's distance and the metric, with that router's
+-- next hops
 abbrev pub StubOffers : Inputs → Area → Prefix → ℕ → Path → Type 0
 StubOffers s a p cost path = (router distance metric : ℕ) × (h : NextHop)
     × (router ≢ s.router) × HasStub a router p metric × Reaches s a (Router router) distance h
@@ -61,7 +63,8 @@ StubOffers s a p cost path = (router distance metric : ℕ) × (h : NextHop)
 abbrev pub LiesIn : Interface → Prefix → Type 0
 LiesIn i p = HasAddress p i.address ⊎ ((0 < i.peer) × HasAddress p i.peer)
 
--- a stub link of the root offers its metric, over each interface of the area that is up and lies in the prefix
+-- a stub link of the root offers its metric, over each interface of the area that is up and lies in
+-- the prefix
 abbrev pub OwnStubOffers : Inputs → Area → Prefix → ℕ → Path → Type 0
 OwnStubOffers s a p cost path = (id : ℕ) × (i : Interface)
     × HasStub a s.router p cost × IsUp s a id i × LiesIn i p × (path ≡ inside_area (hop.Direct id))

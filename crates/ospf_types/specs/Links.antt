@@ -18,7 +18,8 @@ pub record IsRouter (a : Area) (router : ℕ) (flags : ℕ) (links : List Router
 pub record IsNetworkLsa (a : Area) (id advertiser mask : ℕ) (routers : List ℕ) : Type 0 where
   pub lsa : (l : Lsa) × HasLsa a l × (l.header.id ≡ id) × (l.header.router ≡ advertiser) × (l.body ≡ NetworkLinks mask routers)
 
--- The network is a vertex. Of several network-LSAs with its ID, that of the greatest Advertising Router stands for it.
+-- The network is a vertex. If several network-LSAs have its ID, the one of the greatest Advertising
+-- Router counts.
 pub record IsNetwork (a : Area) (id mask : ℕ) (routers : List ℕ) : Type 0 where
   pub chosen : (advertiser : ℕ) × IsNetworkLsa a id advertiser mask routers
       × ((other m : ℕ) (rs : List ℕ) → IsNetworkLsa a id other m rs → other ≤ advertiser)
@@ -27,7 +28,9 @@ abbrev pub IsVertex : Area → Vertex → Type 0
 IsVertex a (Router r) = (flags : ℕ) × (links : List RouterLink) × IsRouter a r flags links
 IsVertex a (Network n) = (mask : ℕ) × (routers : List ℕ) × IsNetwork a n mask routers
 
--- What links rest on: the router whose databases these are, the routers with their flags and links, the networks with their masks and routers, and the interfaces that are up, by identifier and address. A database is one such view, and what a graph was handed is another.
+-- What links rest on: the router whose databases these are, the routers with their flags and links,
+-- the networks with their masks and routers, and the interfaces that are up, by identifier and
+-- address. A database is one such view, and what a graph was handed is another.
 pub record View : Type 1 where
   pub root : ℕ
   pub HasRouter : ℕ → ℕ → List RouterLink → Type 0
@@ -53,7 +56,8 @@ NamesNetwork w from to = (flags : ℕ) × (links : List RouterLink) × (l : Rout
 abbrev pub ListsRouter : View → ℕ → ℕ → Type 0
 ListsRouter w network router = (mask : ℕ) × (routers : List ℕ) × w.HasNetwork network mask routers × Contains routers router
 
--- The label of a link of a router with this Link Data. A link of the root counts only over an interface that is up and has that address.
+-- The label of a link of a router with this Link Data. A link of the root counts only over an
+-- interface that is up and has that address.
 abbrev pub IsLabel : View → ℕ → ℕ → Label → Type 0
 IsLabel w from detail (Over id) = (from ≡ w.root) × w.HasInterface id detail
 IsLabel w from detail Plain = from ≢ w.root
@@ -63,12 +67,14 @@ IsLabel w from detail (At addresses) = ⊥
 abbrev pub HasAddressOn : ℕ → List RouterLink → ℕ → Type 0
 HasAddressOn network links address = (l : RouterLink) × Contains links l × (l.kind ≡ Transit) × (l.id ≡ network) × (l.detail ≡ address)
 
--- the router's addresses on the network, ascending without duplicates, so that there is one list of them
+-- the router's addresses on the network, ascending without duplicates, so that there is one list of
+-- them
 pub record AreAddressesOn (network : ℕ) (links : List RouterLink) (addresses : List ℕ) : Type 0 where
   pub ascending : IsStrictlyIncreasing addresses
   pub same : (address : ℕ) → Contains addresses address ↔ HasAddressOn network links address
 
--- A link from one vertex to another at a cost. The other end links back; a metric of 0 gives no link.
+-- A link from one vertex to another at a cost. The other end links back; a metric of 0 gives no
+-- link.
 abbrev pub IsLinkOf : View → Vertex → Vertex → ℕ → Label → Type 0
 IsLinkOf w (Router from) (Router to) cost label =
     (flags : ℕ) × (links : List RouterLink) × (l : RouterLink)

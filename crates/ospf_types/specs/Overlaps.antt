@@ -1,4 +1,4 @@
--- Whether a range may be set in an area (RFC 2328, 3.5).
+-- The overlap of a range with the other ranges of an area (RFC 2328, 3.5).
 use Rattle.std.specs.Prelude.{◌&&◌, Bool, not, List}
 use Rattle.std.specs.List.{list_any}
 use Rattle.ospf_types.specs.declared.config.Range.{Range}

@@ -9,8 +9,8 @@
 //! - `Memory`, the error that memory ran out, and `Listed`, a vector that contracts see as a list.
 //!
 //! `specs/` has the definitions of all results: links, distances, routes, the choice between two
-//! instances of an LSA, and due summaries. So types that only these definitions need are here too,
-//! below the codec: `Header`, `Link`, `ExternalFields`, `Newer` and `Vertex`.
+//! instances of an LSA, and due summaries. So types that these definitions use are here too, below
+//! the codec: `Header`, `Link`, `ExternalFields`, `Newer` and `Vertex`.
 #![tactic(auto)]
 
 pub mod address;

@@ -1,4 +1,4 @@
--- What is in the bytes of a body.
+-- The fields in the bytes of a body.
 use Rattle.std.specs.Prelude.{ℕ, ◌≤◌, List, length, drop, slice_index}
 use Rattle.byteorder.specs.Endian.{big_number}
 use Rattle.ospf_types.specs.Lsa.{Tos}

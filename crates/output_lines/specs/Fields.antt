@@ -22,7 +22,8 @@ hexadecimal_line name bytes = name ++ codes ": " ++ encode_lower bytes ++ codes 
 abbrev pub age_note : ℕ → List ℕ
 age_note age = cond (age == MaxAge) (codes " (MaxAge)") (codes "")
 
--- after a metric of 24 bits, whether it is LSInfinity, that of a destination which is not reached (B)
+-- after a metric of 24 bits, whether it is LSInfinity, that of a destination which is not reached
+-- (B)
 abbrev pub metric_note : ℕ → List ℕ
 metric_note metric = cond (metric == 0xff_ffff) (codes " (LSInfinity)") (codes "")
 

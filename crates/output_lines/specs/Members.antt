@@ -41,6 +41,6 @@ hex_data bytes = string (encode_lower bytes)
 
 -- ---- for private clauses
 
--- the member is put in its place by its name, beside what the object had
+-- the member is put in its place by its name, in addition to the members that the object had
 abbrev pub PutsMember : (name : List ℕ) (value : Data) (old new : List (String Global × Value)) → Type 0
 PutsMember name value old new = members_view new ≡ put name value (members_view old)

@@ -23,7 +23,7 @@ type_line kind = codes "LS type: " ++ decimal kind ++ codes " (" ++ type_text ki
 abbrev pub length_line : ℕ → List ℕ
 length_line size = codes "Length: " ++ decimal size ++ codes " bytes\n"
 
--- what tells one instance from another, and the length
+-- the fields that distinguish two instances, and the length
 abbrev pub instance_words : Header → List ℕ
 instance_words h =
     hexadecimal_line (codes "LS sequence number") (to_be_bytes w32 h.seq) ++ hexadecimal_line (codes "LS checksum") (to_be_bytes w16 h.sum) ++ length_line h.length
@@ -39,7 +39,7 @@ abbrev pub link_tos_line : ℕ → Tos → List ℕ
 link_tos_line number t =
     codes "Link " ++ decimal number ++ codes ", TOS " ++ decimal t.tos ++ codes ": metric " ++ decimal t.metric ++ codes "\n"
 
--- what a link says beside its type
+-- the fields of a link other than its type
 abbrev pub link_end : RouterLink → List ℕ
 link_end l =
     codes ", Link ID " ++ address_text l.id ++ codes ", Link Data " ++ address_text l.detail ++ codes ", metric " ++ decimal l.metric ++ codes "\n"

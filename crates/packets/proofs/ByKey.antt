@@ -1,4 +1,4 @@
--- What is kept of a datagram, by its place and by its key.
+-- The kept part of a datagram, by its place and by its key.
 use Rattle.std.proofs.Common.{◌≡◌, ℕ, ◌<◌, true, false, List, [], ◌∷◌, ◌++◌, length, get_or, set, refl, sym, ap, ◌∙◌, inl, inr, Option, Some, None, arith}
 use Rattle.std.specs.List.{list_any, find, position, remove, slice_get}
 use Rattle.std.specs.Option.{unwrap_or}

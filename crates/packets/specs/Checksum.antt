@@ -1,7 +1,8 @@
 -- The Internet checksum (RFC 1071).
 use Rattle.std.specs.Prelude.{ℕ, ◌≡◌, ◌⊎◌, ◌+◌, ◌*◌, ◌-◌, ◌/◌, ◌%◌, ◌^◌, List, [], ◌∷◌}
 
--- the words of 16 bits that the bytes are, the high byte of each first; an odd last byte has a zero after it
+-- the words of 16 bits that the bytes are, the high byte of each first; an odd last byte has a zero
+-- after it
 abbrev pub words : List ℕ → List ℕ
 words [] = []
 words (high ∷ []) = 256 * high ∷ []

@@ -1,4 +1,4 @@
--- What is where in a frame that carries an IPv4 packet, by the link type of its capture.
+-- The layout of a frame that carries an IPv4 packet, by the link type of its capture.
 use Rattle.std.specs.Borrow.{Bor}
 use Rattle.std.specs.Prelude.{ℕ, ◌≡◌, ◌⊎◌, ◌↔◌, Option, Some, option_map, ◌/◌, List, [], ◌∷◌, ◌++◌, length, slice_index}
 

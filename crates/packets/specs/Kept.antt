@@ -1,4 +1,4 @@
--- What is kept of the fragments of one datagram.
+-- The kept fragments of one datagram.
 use Rattle.std.specs.Prelude.{ℕ, ◌≡◌, ◌+◌, ◌-◌, ◌&&◌, ◌||◌, ◌==◌, not, Bool, false, nat_lt, if◌then◌else◌, List, [], ◌∷◌, ◌++◌, length, take, drop, map, replicate, get_or, Option, Some, None, is_some}
 use Rattle.std.specs.List.{list_all, count_by}
 use Rattle.std.specs.Option.{unwrap_or}
@@ -6,14 +6,15 @@ use Rattle.packets.specs.declared.datagram.Datagram.{Datagram}
 use Rattle.packets.specs.declared.key.Key.{Key}
 use Rattle.packets.specs.Parts.{Part, end_of, byte_at, extent, has_last, AreAgreed}
 
--- the two addresses, the identification and the protocol tell a datagram from others
+-- the two addresses, the identification and the protocol, which separate a datagram from others
 abbrev pub key_of : Datagram → Key
 key_of d = record { source = d.source; destination = d.destination; identification = d.identification; protocol = d.protocol }
 
 abbrev pub same_key : Key → Key → Bool
 same_key a b = (a.source == b.source) && (a.destination == b.destination) && (a.identification == b.identification) && (a.protocol == b.protocol)
 
--- the bytes that came, each at its place, and whether the last fragment is among them: then the datagram ends where they end
+-- the bytes received, each at its place, and whether the last fragment is among them: then the
+-- datagram ends where they end
 pub record Kept : Type 0 where
   pub key : Key
   pub has_end : Bool
@@ -53,7 +54,8 @@ is_whole kept = kept.has_end && list_all is_some kept.bytes
 abbrev pub payload_of : Kept → List ℕ
 payload_of kept = map (λ b. unwrap_or b 0) kept.bytes
 
--- how it is stored: the bytes, and which of them came. There may be more bytes than places.
+-- how it is stored: the bytes, and which of them were received. There may be more bytes than
+-- places.
 abbrev pub cells : List Bool → List ℕ → List (Option ℕ)
 cells [] bytes = []
 cells (came ∷ others) [] = []

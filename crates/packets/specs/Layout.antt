@@ -1,4 +1,4 @@
--- The header of an IPv4 datagram (RFC 791, 3.1): what is where, and why bytes are none.
+-- The fields of an IPv4 datagram's header (RFC 791, 3.1), and why bytes are not a datagram.
 use Rattle.std.specs.Prelude.{ℕ, ◌+◌, ◌*◌, ◌-◌, ◌/◌, ◌%◌, ◌==◌, ◌&&◌, ◌||◌, not, nat_lt, ◌≤◌, Bool, List, [], ◌∷◌, length, take, drop, slice_index, Option}
 use Rattle.byteorder.specs.Endian.{big_number}
 use Rattle.ospf_types.specs.FirstOf.{first_of}

@@ -36,7 +36,7 @@ authentication_field bytes = big_number 2 (drop 14 bytes)
 abbrev pub authentication_data : List ℕ → List ℕ
 authentication_data bytes = take 8 (drop 16 bytes)
 
--- what is after the length is no part of the packet
+-- bytes after the length do not belong to the packet
 abbrev pub packet_in : List ℕ → List ℕ
 packet_in bytes = take (length_field bytes) bytes
 
@@ -57,7 +57,8 @@ number_of_kind LinkStateRequest = 3
 number_of_kind LinkStateUpdate = 4
 number_of_kind LinkStateAcknowledgment = 5
 
--- Cryptographic authentication has two reserved bytes, Key ID, the digest's length and a sequence number (D.3).
+-- Cryptographic authentication has two reserved bytes, Key ID, the digest's length and a sequence
+-- number (D.3).
 abbrev pub authentication_of : List ℕ → Authentication
 authentication_of bytes =
     if authentication_field bytes == 0 then Null else (if authentication_field bytes == 1 then Password (authentication_data bytes) else (if authentication_field bytes == 2 then Cryptographic (slice_index bytes 18) (slice_index bytes 19) (big_number 4 (drop 20 bytes)) else Other (authentication_field bytes)))
@@ -78,7 +79,8 @@ has_wrong_sum packet = not (authentication_field packet == 2) && not (has_right_
 
 -- ---- the faults in their order
 
--- the packet's length, where this many bytes are there, is less than the header's or more than these
+-- the packet's length, where this many bytes are there, is less than the header's or more than
+-- these
 abbrev pub is_wrong_length : ℕ → ℕ → Bool
 is_wrong_length size present = nat_lt size 24 || nat_lt present size
 

@@ -1,5 +1,5 @@
--- What the fragments of one datagram say of its payload (RFC 791, 3.2). They are listed from the last one that
--- came to the first.
+-- The payload that the fragments of one datagram give (RFC 791, 3.2). They are listed from the last
+-- one received to the first.
 use Rattle.std.specs.Prelude.{ℕ, ◌≡◌, ◌≤◌, ◌<◌, ◌+◌, ◌-◌, ◌&&◌, Bool, true, nat_le, nat_lt, max, if◌then◌else◌, List, [], ◌∷◌, length, slice_index, Option, Some, None}
 use Rattle.std.specs.List.{list_any, AllByRecursion}
 use Rattle.packets.specs.declared.datagram.Datagram.{Datagram}
@@ -21,7 +21,7 @@ end_of p = p.offset + length p.payload
 abbrev pub has_place : ℕ → Part → Bool
 has_place place p = nat_le p.offset place && nat_lt place (end_of p)
 
--- the byte at the place: where fragments overlap, that of the one that came last
+-- the byte at the place: where fragments overlap, the byte received last
 abbrev pub byte_at : List Part → ℕ → Option ℕ
 byte_at [] place = None
 byte_at (p ∷ parts) place = if has_place place p then Some (slice_index p.payload (place - p.offset)) else byte_at parts place

@@ -3,7 +3,7 @@ use Rattle.std.specs.Prelude.{ℕ, ◌≡◌, not, List}
 use Rattle.packets.specs.declared.datagram.Datagram.{Datagram}
 use Rattle.packets.specs.Layout.{has_more, offset_field, identification_field, protocol_field, source_field, destination_field, payload_field}
 
--- each field belongs to the header
+-- each field is read from the header
 pub record IsDatagram (bytes : List ℕ) (d : Datagram) : Type 0 where
   pub source : d.source ≡ source_field bytes
   pub destination : d.destination ≡ destination_field bytes

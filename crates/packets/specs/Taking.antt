@@ -1,4 +1,5 @@
--- What one more fragment does, said of all the fragments that came of a datagram and of which it was not forgotten.
+-- The effect of one more fragment, stated over all fragments of a datagram that were received and
+-- not forgotten.
 use Rattle.std.specs.Global.{Vec}
 use Rattle.std.specs.Prelude.{ℕ, ◌≡◌, ◌≢◌, ◌⊎◌, ◌↔◌, List, [], ◌∷◌, Option, Some, None, IsSome, option_map, Result, IfOk}
 use Rattle.packets.specs.declared.key.Key.{Key}
@@ -7,8 +8,9 @@ use Rattle.packets.specs.Parts.{Part, AreAgreed, IsWhole, part_of}
 use Rattle.packets.specs.Kept.{Kept, nothing_of, IsMadeOf, key_of}
 use Rattle.packets.specs.Keeping.{kept_of, kept_after, whole_with}
 
--- the payload is answered just if the fragments make it whole. Then the datagram is forgotten, and also where its
--- fragments contradict each other; else what is kept of it is made of them. What is kept of others stays, or is forgotten.
+-- the payload is answered just if the fragments make it whole. Then the datagram is forgotten, and
+-- also where its fragments contradict each other; else what is kept of it is made of them. What is
+-- kept of others stays, or is forgotten.
 pub record IsTaken (key : Key) (p : Part) (old new : List Kept) (answer : Option (List ℕ)) : Type 0 where
   pub whole : (parts : List Part) → IsMadeOf parts (kept_of key old) → (payload : List ℕ) → (answer ≡ Some payload) ↔ IsWhole (p ∷ parts) payload
   pub forgotten : (parts : List Part) → IsMadeOf parts (kept_of key old) → ((AreAgreed (p ∷ parts) → ⊥) ⊎ IsSome answer) → IsMadeOf [] (kept_of key new)

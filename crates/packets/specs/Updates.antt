@@ -1,5 +1,5 @@
--- The body of a Link State Update (RFC 2328, A.3.5): the number of LSAs in four bytes, then the LSAs, one
--- after the other.
+-- The body of a Link State Update (RFC 2328, A.3.5): the number of LSAs in four bytes, then the
+-- LSAs, one after the other.
 use Rattle.std.specs.Prelude.{ℕ, zero, suc, ◌≡◌, ◌≤◌, ◌<◌, ◌+◌, ◌⊎◌, Bool, ◌&&◌, nat_le, if◌then◌else◌, List, [], ◌∷◌, ◌++◌, length, map, take, drop, Result, Ok, Err}
 use Rattle.std.specs.List.{concat, AllByRecursion}
 use Rattle.std.specs.Result.{result_map_both}
@@ -21,7 +21,7 @@ pub record IsOneLsa (lsa : List ℕ) : Type 0 where
   pub header : 20 ≤ length lsa
   pub whole : lsa_length lsa ≡ length lsa
 
--- an LSA, or the fault where one is to stand
+-- an LSA, or the fault where one is expected
 abbrev pub Piece : Type 0
 Piece = Result (List ℕ) UpdateFault
 
@@ -39,14 +39,15 @@ pub record IsWhole (found count : ℕ) (end : List Piece) : Type 0 where
   pub all : found ≡ count
   pub nothing : end ≡ []
 
--- fewer were found, no LSA is at the start of the rest, and a fault that tells the place comes after the last
+-- fewer were found, no LSA is at the start of the rest, and a fault that tells the place comes
+-- after the last
 pub record IsCut (found count place : ℕ) (rest : List ℕ) (end : List Piece) : Type 0 where
   pub fewer : found < count
   pub none : StartsWithLsa rest → ⊥
   pub fault : end ≡ Err (LsaLength place) ∷ []
 
--- This many LSAs are to be in the bytes, and the place is how many bytes of the body are before. The bytes are LSAs
--- and a rest; the pieces are these LSAs and their end.
+-- This many LSAs are to be in the bytes, and the place is how many bytes of the body are before.
+-- The bytes are LSAs and a rest; the pieces are these LSAs and their end.
 pub record ArePieces (count place : ℕ) (bytes : List ℕ) (pieces : List Piece) : Type 0 where
   pub lsas : List (List ℕ)
   pub rest : List ℕ

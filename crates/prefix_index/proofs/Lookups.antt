@@ -1,4 +1,4 @@
--- What a search tells.
+-- The results of a search.
 use Rattle.std.proofs.Common.{◌≡◌, ◌≢◌, ℕ, ◌+◌, ◌<◌, List, [], ◌∷◌, length, get_or, Option, Some, None, is_some, cond, suc, zero, refl, sym, ap, subst, ◌∙◌, arith}
 use Rattle.std.specs.FinMap.{get, len, len-empty, len-insert}
 use Rattle.std.specs.List.{AllPairs}

@@ -31,7 +31,7 @@ pub some_number : (hashing : WordHash) (bits : ℕ) (p : Network) (i : ℕ) → 
 unfolding base_of
 some_number hashing bits p i = omega arith
 
--- the place that a number tells
+-- the place that a number gives
 pub place_back : (n base i : ℕ) → n < 2 ^ 32 → n ≡ base + i → (n + (2 ^ 64 - base)) % 2 ^ 64 ≡ i
 place_back n base i fits is =
     let whole : n + (2 ^ 64 - base) ≡ 1 * 2 ^ 64 + i = omega arith in

@@ -1,4 +1,4 @@
--- What each change makes of a map.
+-- The map after each change.
 use Rattle.std.proofs.Common.{◌≡◌, ◌≢◌, ℕ, ◌+◌, ◌-◌, ◌^◌, ◌<◌, ◌≤◌, List, [], ◌∷◌, ◌++◌, length, get_or, Some, None, is_some, true, inl, inr, refl, sym, ap, subst, ◌∙◌, length-append, arith}
 use Rattle.std.specs.FinMap.{FinMap, get, insert, remove}
 use Rattle.std.specs.List.{slice_get}
@@ -136,7 +136,7 @@ pub record IsSwapped {V : Type 0} (es fs : List (Network × V)) (i : ℕ) : Type
   pub others : (q : ℕ) (d : Network × V) → q ≢ i → q + 1 < length es → get_or fs q d ≡ get_or es q d
 
 module _ {V : Type 0} (es fs : List (Network × V)) (i : ℕ) (swapped : IsSwapped es fs i) where
-  -- an entry that is left was the last one, or stood where it stands
+  -- an entry that is left was the last one, or has its old place
   before : {C : Type 0} (q : ℕ) (f : Network × V) → slice_get fs q ≡ Some f → (q ≡ i → i + 1 < length es → slice_get es (length es - 1) ≡ Some f → C) → (q ≢ i → q + 1 < length es → slice_get es q ≡ Some f → C) → C
   before q f is last other =
       let less = swapped.less in

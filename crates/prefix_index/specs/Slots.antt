@@ -49,7 +49,7 @@ IsMissing {V} hashing s entries p = LeadsNowhere s.numbers.items (home_of hashin
 abbrev pub IsOtherNumber : {V : Type 0} → (number base : ℕ) → List (Network × V) → Network → Type 0
 IsOtherNumber {V} number base entries p = (i : ℕ) → HasNetwork entries i p → number ≢ base + i
 
--- a search that came to another number comes to it
+-- a search that reached another number reaches it
 abbrev pub KeepsNumbers : (before after : List ℕ) → (number : ℕ) → Type 0
 KeepsNumbers before after number = (h n : ℕ) → n ≢ number → IsPlaced before h n → IsPlaced after h n
 
@@ -57,7 +57,7 @@ KeepsNumbers before after number = (h n : ℕ) → n ≢ number → IsPlaced bef
 abbrev pub IsRenumbered : (before after : List ℕ) → (old new : ℕ) → Type 0
 IsRenumbered before after old new = (slot : ℕ) × (slice_index before slot ≡ old) × (slice_index after slot ≡ new)
 
--- a search that came to another number than that of the network's entry at the place comes to it
+-- a search that reached a number other than that of the network's entry at the place reaches it
 abbrev pub KeepsOthers : WordHash → (s t : Slots) → Network → ℕ → Type 0
 KeepsOthers hashing s t p i = KeepsNumbers s.numbers.items t.numbers.items (base_of hashing s.bits p + i)
 

@@ -44,7 +44,7 @@ not_sorted cmp key (x ∷ xs) k within h sorted =
     Less-from_sorted cmp (map key (x ∷ xs)) k (k + 1) (key x) sorted (omega arith) (omega (arith, length-map xs key)) in
     false≢true (h x ∙ ap is_lt (rw (here, next) at less))
 
--- what `is_sorted_by` answers where its closure compares keys
+-- the result of `is_sorted_by` if its closure compares keys
 pub ascends : {X K : Type 0} (cmp : K → K → Ordering) → IsTotalOrder cmp → (key : X → K) (xs : List X) (r : Bool)
     → IsAllAdjacentAnswer (λ x y b. b ≡ is_lt (cmp (key x) (key y))) xs r → IsTrue r ↔ IsStrictlySortedBy cmp (map key xs)
 ascends cmp total key xs true h = (λ _. sorted_from_below cmp total key xs h, λ _. refl)

@@ -145,7 +145,7 @@ none_is : {X : Type 0} (o : Option X) → is_none o ≡ true → o ≡ None
 none_is None h = refl
 none_is (Some x) h = cc
 
--- what two tests tell of a base in order
+-- the results of two tests of a base in order
 pub sound_told : (b : Base) → IsBaseOrdered b → is_none (config_fault_of b.config) ≡ true → (r : Bool) → r ≡ is_none (unfit_of standard_limits b) → IsTrue r ↔ (base_fault_of standard_limits b ≡ None)
 sound_told b ordered config r told = (
   λ here. ordered_sound b ordered (none_is (config_fault_of b.config) config) (none_is (unfit_of standard_limits b) (sym told ∙ here)),

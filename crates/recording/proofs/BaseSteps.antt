@@ -130,7 +130,7 @@ second_true : (a b : Bool) → a ≡ false → (a || b) ≡ true → b ≡ true
 second_true true b first h = cc
 second_true false b first h = h
 
--- bytes that are read tell the whole place
+-- bytes that are read give the whole place
 place_past : (last : Option (Scope × Lsa)) (at : Scope) (bytes : List ℕ) → is_past_lsa last at bytes ≡ true → fault_of bytes ≡ None → is_past_place last (lsa_place (at, lsa_of bytes)) ≡ true
 place_past last at bytes past readable =
     let two = and_parts (is_past_scope last at) (is_some (fault_of bytes) || is_past_place last (lsa_place (at, lsa_of bytes))) past in

@@ -53,7 +53,7 @@ decimal_digits n fits = (decimal_is_IsNumeral n (omega arith)).0.1
 pub decimal_value : (n : ℕ) → n < 2 ^ 64 → digits_value 10 (decimal n) ≡ n
 decimal_value n fits = (decimal_is_IsNumeral n (omega arith)).1
 
--- digits without a zero in front are those of their number
+-- digits without a zero in front spell their number
 pub unpadded_is : (word : List ℕ) → IsUnpadded word → AllDigits 10 word → digits_value 10 word < 2 ^ 64 → word ≡ decimal (digits_value 10 word)
 unpadded_is word h digits small = sym (decimal-digits_value (numerals_by_value _ tells_digits) word digits h.some h.alone (omega arith))
 

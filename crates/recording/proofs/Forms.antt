@@ -1,4 +1,4 @@
--- What a line says: its words again, and that no line says two things.
+-- The meaning of a line: its words again, and that no line says two things.
 use Rattle.std.proofs.Common.{ℕ, ◌≡◌, ◌/◌, ◌%◌, ◌^◌, ◌<◌, ◌≤◌, Bool, true, false, cond, List, [], ◌∷◌, ◌++◌, length, get_or, drop, Option, Some, None, All, codes, decimal, refl, sym, ap, ◌∙◌, zero, suc, ◌==◌, inl, inr, arith, ltb, append_assoc, lit≤}
 use Rattle.std.proofs.lemmas.Bool.{ne_eqb, false_from_ne_true}
 use Rattle.std.proofs.lemmas.Bool.Decides.{Decides-by_and, Decides-ltb}
@@ -295,7 +295,7 @@ address_again : (n : ℕ) → n < 2 ^ 32 → address_in (address_text n) ≡ n
 unfolding address_of
 address_again n fits = ap address_of (read_ipv4_complete (address_text n) (to_be_bytes w32 n) [] (address_dotted n fits) (lit≤ tt)) ∙ from_be_bytes-to_be_bytes_4 n fits
 
--- no text is that of two addresses
+-- no text spells two addresses
 pub address_one : (m n : ℕ) → m < 2 ^ 32 → n < 2 ^ 32 → address_text m ≡ address_text n → m ≡ n
 address_one m n first second same = sym (address_again m first) ∙ ap address_in same ∙ address_again n second
 
@@ -412,11 +412,11 @@ form_again (RangeLine area range) h =
     ap (λ a. RangeLine a (range_in (prefix_text range.prefix ∷ cond range.advertise (codes "advertise") (codes "hide") ∷ []))) (address_again area h.0) ∙ ap (RangeLine area) (range_again range h.1)
 form_again (BodyLine body) h = is_body body ∙ ap BodyLine (body_again body h)
 
--- no words are those of two forms
+-- no words belong to two forms
 pub words_one : (f g : Form) → IsForm f → IsForm g → words_of f ≡ words_of g → f ≡ g
 words_one f g first second same = sym (form_again f first) ∙ ap form_in same ∙ form_again g second
 
--- no line is that of two forms
+-- no line belongs to two forms
 pub line_one : (f g : Form) → IsForm f → IsForm g → line_text f ≡ line_text g → f ≡ g
 line_one f g first second same = words_one f g first second (sym (line_split f first) ∙ ap (slice_split (λ b. b == 32)) same ∙ line_split g second)
 

@@ -1,4 +1,4 @@
--- What the lines of the front begin with.
+-- The first words of the lines of the front.
 use Rattle.std.proofs.Common.{ℕ, ◌≡◌, List, refl, ap, ◌∙◌}
 use Rattle.recording.specs.Forms.{Form, VersionLine, RouterLine, CompatLine, SerialLine, AreaLine, RangeLine, HasInterfaceLine, HasLsaLine, BodyLine, InterfaceLine, InstallLine, FlushLine, PurgeLine, RangeSetLine, RangeDropLine, SecondLine, LookupLine, RollLine, Says, words_of}
 use Rattle.recording.specs.Places.{is_front_word, is_preamble_line}
@@ -25,7 +25,7 @@ first_told (BodyLine SecondLine) = refl
 first_told (BodyLine (LookupLine address)) = refl
 first_told (BodyLine RollLine) = refl
 
--- the first word of a line tells whether what it says is of the front
+-- by the first word of a line, its meaning belongs to the front or not
 pub front_told : (v : Version) (line : List ℕ) (form : Form) → Says v line form → is_front_word (first_word (cut line)) ≡ is_preamble_line form
 front_told v line form said =
     ap (λ (l : List ℕ). is_front_word (first_word (cut l))) said.spelled

@@ -1,4 +1,4 @@
--- What the lines of a base say so far.
+-- The base that the lines give so far.
 use Rattle.std.proofs.Common.{ℕ, ◌≡◌, ◌++◌, ◌||◌, Bool, true, false, List, [], ◌∷◌, map, refl, sym, ap, ◌∙◌, append-nil}
 use Rattle.std.specs.List.{flat_map, list_any, AllPass}
 use Rattle.std.proofs.lemmas.List.Concat.{flat_map-append}

@@ -46,7 +46,7 @@ text_grows {bytes} {line} {r} {l} h of = record {
 
 -- ---- a line that is none of what happened, or has no line feed
 
--- there is no line feed in it
+-- it has no line feed
 no_feed : (line : List ℕ) → All (λ b. b ≢ 10) line → All (λ b. (b == 10) ≡ false) line
 no_feed [] all = All-nil (λ b. (b == 10) ≡ false)
 no_feed (c ∷ line) all =

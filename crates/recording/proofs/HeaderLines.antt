@@ -1,4 +1,4 @@
--- What a line of the header, or the end of what is left, makes of a header.
+-- The header after one more line, or at the end of what is left.
 use Rattle.std.proofs.Common.{ℕ, ◌≡◌, ◌≢◌, ◌+◌, Bool, true, false, List, [], ◌∷◌, refl, sym, subst, inl, inr}
 use Rattle.event_state.specs.declared.base.Base.{Base}
 use Rattle.recording.specs.declared.fault.Fault.{Fault}

@@ -261,7 +261,7 @@ module _ {v : Version} {text : List ℕ} {taken : ℕ} {left : List (List ℕ)} 
         ordered = ordered_more b.config.areas form h.ordered next;
       }
 
-  -- where want of memory comes at a line of the header
+  -- if memory runs out at a line of the header
   pub header_more : (line : List ℕ) (rest : List (List ℕ)) → left ≡ line ∷ rest → 0 < length rest → (form : Form) → Says v line form → is_of_header form ≡ true → IsMemoryAt text (taken + 1)
   header_more line rest is full form said here = record {
     there = line_there (read_line h.read line rest is full);

@@ -112,7 +112,7 @@ either_is : (a b : Bool) → b ≡ true → (a || b) ≡ true
 either_is true b is = refl
 either_is false b is = is
 
--- a line of what happened came
+-- a line of what happened was added
 happened : (hs bs : List Form) (lines : List Line) → lines ≢ [] → list_any is_of_body (hs ++ (bs ++ map form_of lines)) ≡ true
 happened hs bs [] some = absurd (some refl)
 happened hs bs (l ∷ lines) some =
@@ -174,7 +174,7 @@ module _ {text : List ℕ} {taken : ℕ} {left : List (List ℕ)} {r : Recording
     version = version_push h.before line not_first ∙ h.version;
   }
 
-  -- a line of the header cannot stand here
+  -- a line of the header cannot come here
   no_next : (line : List ℕ) (rest : List (List ℕ)) → left ≡ line ∷ rest → 0 < length rest → (form : Form) → Says r.version line form → is_of_header form ≡ true → (forms : List Form) → AreSaid r.version h.before forms → is_next (front_of forms) form ≡ true → ⊥
   no_next line rest is full form said here forms all next =
       let none : has_ended (later_forms r) ≡ false = ap has_ended (sym (later_are forms all)) ∙ not_ended (front_of forms) form here next in

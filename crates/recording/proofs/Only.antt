@@ -438,7 +438,8 @@ no_lines : (fs : List Form) (lines : List Line) → fs ++ map form_of lines ≡ 
 no_lines fs [] none = refl
 no_lines fs (l ∷ lines) none = absurd (pushed fs (form_of l) (map form_of lines) none)
 
--- Reading a text from line to line that begins with the lines of the recording. After them stand the parts of `end`.
+-- Reading a text from line to line that begins with the lines of the recording. After them stand
+-- the parts of `end`.
 pub run_to : {whole text : List ℕ} {r : RecordingValue} (end : List (List ℕ)) → IsText whole r → parts_of text ≡ map line_text (forms_of r) ++ end → 0 < length end → (r.lines ≡ [] → EndsHeader r.version end) → Lined text end r
 run_to {whole} {text} {r} end h begins full ends_header =
     let v : Version = r.version in

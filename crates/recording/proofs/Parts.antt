@@ -47,8 +47,8 @@ pub version_push : (before : List (List ℕ)) (line : List ℕ) → before ≢ [
 version_push [] line some = absurd (some refl)
 version_push (first ∷ before) line some = refl
 
--- in a recording of the version the line of this number comes after these lines and before those parts, so that it has
--- its line feed
+-- in a recording of the version the line of this number comes after these lines and before those
+-- parts, so that it has its line feed
 pub record IsLineAt (v : Version) (text : List ℕ) (number : ℕ) (before : List (List ℕ)) (line : List ℕ) (rest : List (List ℕ)) : Type 0 where
   pub parts : parts_of text ≡ before ++ line ∷ rest
   pub full : 0 < length rest

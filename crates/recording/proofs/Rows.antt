@@ -100,7 +100,7 @@ row_more lsas x row counted =
 
 -- ---- places
 
--- where the scope is told, and the answer to whether it may are there
+-- the test of the scope is made, and its result is there
 pub past_of : (lsas : List (Scope × Lsa)) (l : Scope × Lsa) (at : Scope) (o : Ordering) → last_of lsas ≡ Some l → scope_cmp at l.0 ≡ o → is_past_scope (last_of lsas) at ≡ not (is_less o)
 past_of lsas l at o last is = ap (λ (x : Option (Scope × Lsa)). is_past_scope x at) last ∙ ap (λ (p : Ordering). not (is_less p)) is
 

@@ -1,4 +1,4 @@
--- What the words of a line say, by the first of them.
+-- The meaning of a line's words, by the first of them.
 use Rattle.std.proofs.Common.{ℕ, ◌≡◌, Bool, true, false, cond, List, [], ◌∷◌, Option, Ok, codes, decimal, refl, sym, ap, subst, ◌∙◌}
 use Rattle.std.proofs.lemmas.List.Splits.{join_with_byte-slice_split}
 use Rattle.std.proofs.lemmas.Bool.{both_ways}

@@ -1,4 +1,5 @@
--- Why bytes are no recording: the first line that has a fault, and of its faults the first in their order.
+-- The reason why bytes are not a recording: the first line that has a fault, and the first of its
+-- faults in their order.
 use Rattle.std.specs.Prelude.{ℕ, ◌≡◌, ◌≢◌, ◌<◌, ◌≤◌, ◌+◌, ◌==◌, ◌⊎◌, ◌++◌, List, [], ◌∷◌, length, Some, true, false}
 use Rattle.std.specs.List.{slice_split}
 use Rattle.event_state.specs.declared.base_fault.EntryFault.{EntryFault}
@@ -12,11 +13,13 @@ use Rattle.recording.specs.declared.version.Version.{Version}
 use Rattle.recording.specs.Forms.{Form, VersionLine, Says, line_text}
 use Rattle.recording.specs.Places.{AreSaid, IsPlaced, areas_of, first_lines, front_of, has_ended, is_of_header, unfit_at, version_of, wire_fault_in}
 
--- The parts that line feeds end, and last what comes after the last line feed: a line without one, or nothing.
+-- The parts that line feeds end, and last what comes after the last line feed: a line without one,
+-- or nothing.
 abbrev pub parts_of : List ℕ → List (List ℕ)
 parts_of bytes = slice_split (λ b. b == 10) bytes
 
--- The header ends here: the next line has its line feed and is none of the header, or there is no next line.
+-- The header ends here: the next line has its line feed and is none of the header, or there is no
+-- next line.
 abbrev pub EndsHeader : Version → List (List ℕ) → Type 0
 EndsHeader v [] = ⊥
 EndsHeader v (left ∷ []) = left ≡ []
@@ -34,7 +37,7 @@ pub record HasConfigFault (v : Version) (lines after : List (List ℕ)) (f : Con
 abbrev pub IsMisplaced : Version → List (List ℕ) → List ℕ → Type 0
 IsMisplaced v before line = (form : Form) × Says v line form × (¬ IsPlaced v before form)
 
--- the bytes that the line has are no LSA
+-- the bytes of the line are not a valid LSA
 abbrev pub HasWireFault : Version → List ℕ → WireFault → Type 0
 HasWireFault v line f = (form : Form) × Says v line form × (wire_fault_in form ≡ Some f)
 
@@ -50,7 +53,8 @@ pub record HasUnfit (v : Version) (before : List (List ℕ)) (line : List ℕ) (
 abbrev pub IsNoVersion : List ℕ → Type 0
 IsNoVersion line = (version : Version) → line ≢ line_text (VersionLine version)
 
--- a line that has its line feed has this fault in a recording of the version, after these lines and before those parts
+-- a line that has its line feed has this fault in a recording of the version, after these lines and
+-- before those parts
 abbrev pub IsFaultIn : Version → List (List ℕ) → List ℕ → List (List ℕ) → Fault → Type 0
 IsFaultIn v before line after fault.Truncated = ⊥
 IsFaultIn v before line after fault.Version = (before ≡ []) × IsNoVersion line
@@ -61,7 +65,7 @@ IsFaultIn v before line after (fault.Config f) = HasConfigFault v (before ++ lin
 IsFaultIn v before line after (fault.Base u) = HasUnfit v before line u
 IsFaultIn v before line after fault.Memory = ⊥
 
--- the version belongs to the first line, which may be this one
+-- the version is given by the first line, which may be this one
 abbrev pub IsFaultOfLine : List (List ℕ) → List ℕ → List (List ℕ) → Fault → Type 0
 IsFaultOfLine before line after f = IsFaultIn (version_of (before ++ line ∷ [])) before line after f
 

@@ -14,7 +14,8 @@ use Rattle.ospf_types.specs.Text.{address_text, prefix_text}
 use Rattle.recording.specs.declared.version.Version.{Version}
 use Rattle.recording.specs.declared.version.Version.TheVariants.{One, Two, Three}
 
--- what a line of what happened says: an event, an address that is looked up, or that the journal is rolled
+-- what a line of what happened says: an event, an address that is looked up, or that the journal is
+-- rolled
 pub data Body : Type 0 where
   InterfaceLine : (id area address peer : ℕ) (up : Bool) → Body
   InstallLine : (at : Scope) (bytes : List ℕ) → Body
@@ -26,8 +27,8 @@ pub data Body : Type 0 where
   LookupLine : (address : ℕ) → Body
   RollLine : Body
 
--- what a line says, by where it may stand: one of the first lines, one of the header, one of the base after it, or one
--- of what happened
+-- the meaning of a line, by where it may be: one of the first lines, one of the header, one of the
+-- base after it, or one of what happened
 pub data Form : Type 0 where
   VersionLine : (version : Version) → Form
   RouterLine : (router : ℕ) → Form
@@ -166,8 +167,8 @@ IsBodyOf v (RangeDropLine area prefix) = v ≡ Three
 IsBodyOf v RollLine = v ≡ Three
 IsBodyOf v _ = Unit {0}
 
--- the form is one of this version: its own first line, from version 2 on a `compat` line, and in version 3 the serial, the
--- lines of the base, ranges that change, and rolls
+-- the form is one of this version: its own first line, from version 2 on a `compat` line, and in
+-- version 3 the serial, the lines of the base, ranges that change, and rolls
 abbrev pub IsOfVersion : Version → Form → Type 0
 IsOfVersion v (VersionLine version) = version ≡ v
 IsOfVersion v (CompatLine compat) = v ≢ One

@@ -1,4 +1,4 @@
--- What a reader of lines has before it.
+-- The lines that a reader has left.
 use Rattle.std.specs.Prelude.{ℕ, ◌≡◌, ◌+◌, List, [], ◌∷◌, Option, Some, None, Result, IfOk, IfSome, drop, length}
 use Rattle.ospf_types.specs.declared.key.Scope.{Scope}
 use Rattle.ospf_types.specs.Lsa.{Lsa}

@@ -1,4 +1,4 @@
--- Where in a recording a line may stand.
+-- The places of lines in a recording.
 use Rattle.std.specs.Prelude.{ℕ, ◌≡◌, ◌≤◌, ◌-◌, ◌==◌, ◌&&◌, ◌||◌, ◌++◌, Bool, true, false, not, nat_lt, nat_le, List, [], ◌∷◌, length, drop, slice_get, Option, Some, None, MatchOption, is_some, is_none, codes, cond}
 use Rattle.std.specs.List.{flat_map, list_any}
 use Rattle.std.specs.Ordering.{ordering_then}
@@ -130,11 +130,12 @@ abbrev pub is_past_id : Option (ℕ × Interface) → ℕ → Bool
 is_past_id None id = true
 is_past_id (Some last) id = nat_lt last.0 id
 
--- an interface of this id may come after these: no LSA does, and no interface has the id or a greater one
+-- an interface of this id may come after these: no LSA does, and no interface has the id or a
+-- greater one
 abbrev pub is_next_interface : List (Scope × Lsa) → List (ℕ × Interface) → ℕ → Bool
 is_next_interface lsas interfaces id = is_none (last_of lsas) && is_past_id (last_of interfaces) id
 
--- where an LSA stands: by its scope, and then by its key
+-- the order of an LSA: by its scope, and then by its key
 abbrev pub place_cmp : Scope × Key → Scope × Key → Ordering
 place_cmp p q = ordering_then (scope_cmp p.0 q.0) (key_cmp p.1 q.1)
 
@@ -156,7 +157,7 @@ abbrev pub is_past_place : Option (Scope × Lsa) → Scope × Key → Bool
 is_past_place None place = true
 is_past_place (Some last) place = is_less (place_cmp (lsa_place last) place)
 
--- The scope tells before the bytes are read, and the key if they belong to an LSA.
+-- The scope decides before the bytes are read, and the key if they belong to an LSA.
 abbrev pub is_past_lsa : Option (Scope × Lsa) → Scope → List ℕ → Bool
 is_past_lsa last at bytes = is_past_scope last at && (is_some (fault_of bytes) || is_past_place last (lsa_place (at, lsa_of bytes)))
 
@@ -167,7 +168,8 @@ abbrev pub version_of : List (List ℕ) → Version
 version_of [] = One
 version_of (line ∷ lines) = cond (bytes_eq line (codes "abr 3")) Three (cond (bytes_eq line (codes "abr 2")) Two One)
 
--- This many lines come first, each in its place: `abr` and `router`, from version 2 on `compat`, and in version 3 `serial`.
+-- This many lines come first, each in its place: `abr` and `router`, from version 2 on `compat`,
+-- and in version 3 `serial`.
 abbrev pub first_lines : Version → ℕ
 first_lines One = 2
 first_lines Two = 3
@@ -178,7 +180,7 @@ pub record Front : Type 0 where
   pub areas : List AreaConfig
   pub interfaces : List (ℕ × Interface)
   pub lsas : List (Scope × Lsa)
-  pub ended : Bool  -- one of them is no line of the header
+  pub ended : Bool  -- one of them does not belong to the header
   pub begun : Bool  -- one of them is a line of what happened
 
 abbrev pub front_of : List Form → Front
@@ -211,8 +213,8 @@ pub record AreSaid (v : Version) (before : List (List ℕ)) (forms : List Form) 
   pub many : first_lines v ≤ length before
   pub said : AllSay v (drop (first_lines v) before) forms
 
--- The line may come after these lines: one of the first ones and one of what happened by its number, and one of the
--- header or of the base by what the lines before it say.
+-- The line may come after these lines: one of the first ones and one of what happened by its
+-- number, and one of the header or of the base by what the lines before it say.
 abbrev pub IsPlaced : Version → List (List ℕ) → Form → Type 0
 IsPlaced v before (VersionLine version) = before ≡ []
 IsPlaced v before (RouterLine router) = length before ≡ 1
@@ -227,7 +229,7 @@ abbrev pub body_wire_fault : Body → Option WireFault
 body_wire_fault (InstallLine at bytes) = fault_of bytes
 body_wire_fault _ = None
 
--- why the bytes that the line has are no LSA
+-- the reason why the bytes of the line are not a valid LSA
 abbrev pub wire_fault_in : Form → Option WireFault
 wire_fault_in (HasLsaLine at bytes) = fault_of bytes
 wire_fault_in (BodyLine body) = body_wire_fault body
@@ -242,15 +244,15 @@ most_in limits scope.As = limits.externals
 abbrev pub has_address : Interface → Interface → Bool
 has_address i other = other.up && (i.up && (other.address == i.address))
 
--- an interface beside these: its area is not configured, or one of them has its address
+-- an interface after these: its area is not configured, or one of them has its address
 abbrev pub unfit_interface : List AreaConfig → List (ℕ × Interface) → Interface → Option EntryFault
 unfit_interface areas interfaces i = first_of (
     (is_none (place_of areas (scope.Area i.area)), unfit.NoArea)
     ∷ (list_any (λ y. has_address i y.1) interfaces, unfit.AddressTaken)
     ∷ [])
 
--- an LSA of this LS type in a scope that has this many: its area is not configured, it belongs to another scope, or the scope
--- is full
+-- an LSA of this LS type in a scope that has this many: its area is not configured, it belongs to
+-- another scope, or the scope is full
 abbrev pub unfit_under : List AreaConfig → Scope → (kind row : ℕ) → Option EntryFault
 unfit_under areas at kind row = first_of (
     (is_none (place_of areas at), unfit.NoArea)
@@ -261,8 +263,9 @@ unfit_under areas at kind row = first_of (
 abbrev pub unfit_lsa : List AreaConfig → List (Scope × Lsa) → Scope × Lsa → Option EntryFault
 unfit_lsa areas lsas x = unfit_under areas x.0 (key_of x.1).kind (length (lsas_under lsas x.0))
 
--- What no event could have made of the lines before and this one: an area that is not configured, an LSA of another scope,
--- one more LSA than its scope may have, or an address that an interface has which is up too.
+-- The fault of a base that no event could have made, by the lines before and this one: an area that
+-- is not configured, an LSA of another scope, one more LSA than its scope may have, or an address
+-- that an interface has which is up too.
 abbrev pub unfit_at : Front → Form → Option EntryFault
 unfit_at f (HasInterfaceLine id interface) = unfit_interface f.areas f.interfaces interface
 unfit_at f (HasLsaLine at bytes) = unfit_lsa f.areas f.lsas (at, lsa_of bytes)

@@ -17,10 +17,11 @@ use Rattle.recording.specs.declared.version.Version.{Version}
 use Rattle.recording.specs.Places.{based, body_wire_fault, has_ended, is_of_base, is_next, is_next_area, is_next_range, unfit_at, version_of, wire_fault_in, with_form}
 use Rattle.recording.specs.Recordings.{RecordingValue, CanSpell, HasKind, HasWholeLsa, AreWhole, IsLineIn, IsOrdered, IsRecording, IsWhole, area_forms, form_of, forms_of, has_forms, header_forms}
 
--- Each of these says of a text that this many of its lines were taken, and that the parts in `rest` are left.
+-- Each of these says of a text that this many of its lines were taken, and that the parts in `rest`
+-- are left.
 
--- The lines taken say this, and are a header as far as it goes. They have no fault, but that the last may have that of a
--- header which ends there.
+-- The lines taken say this, and are a header as far as it goes. They have no fault, but that the
+-- last may have that of a header which ends there.
 pub record HasRead (v : Version) (text : List ℕ) (taken : ℕ) (rest : List (List ℕ)) (forms : List Form) : Type 0 where
   pub earlier : List (List ℕ)
   pub last : List ℕ
@@ -60,7 +61,8 @@ pub record HasHeader (v : Version) (text : List ℕ) (taken : ℕ) (rest : List 
 abbrev pub later_forms : RecordingValue → List Form
 later_forms r = flat_map area_forms r.base.config.areas ++ (has_forms r.base ++ map form_of r.lines)
 
--- The lines taken are the whole header and lines after it, and say this recording. They have no fault.
+-- The lines taken are the whole header and lines after it, and say this recording. They have no
+-- fault.
 pub record HasLines (text : List ℕ) (taken : ℕ) (rest : List (List ℕ)) (r : RecordingValue) : Type 0 where
   pub before : List (List ℕ)
   pub parts : parts_of text ≡ before ++ rest
@@ -75,7 +77,7 @@ pub record HasLines (text : List ℕ) (taken : ℕ) (rest : List (List ℕ)) (r 
 
 -- ---- a line of the header
 
--- the line may stand next in the header of this base
+-- the line may come next in the header of this base
 abbrev pub IsNextIn : Base → Form → Type 0
 IsNextIn b form = is_next_area b.config.areas form ≡ true
 
@@ -126,7 +128,8 @@ pub record IsTaken (b : Base) (form : Form) : Type 0 where
 abbrev pub IsTakenIf : (added : Bool) → Base → Form → Type 0
 IsTakenIf added b form = added ≡ true → IsTaken b form
 
--- The base ends here: the next line has its line feed and is none of a base, or there is no next line.
+-- The base ends here: the next line has its line feed and is none of a base, or there is no next
+-- line.
 abbrev pub EndsBase : Version → List (List ℕ) → Type 0
 EndsBase v (line ∷ next ∷ more) = (form : Form) → Says v line form → is_of_base form ≢ true
 EndsBase v _ = Unit {0}
@@ -155,7 +158,7 @@ IsFaultBehind v line (fault.Config f) = ⊥
 IsFaultBehind v line (fault.Base u) = ⊥
 IsFaultBehind v line fault.Memory = Unit {0}
 
--- why bytes are no LSA, or that memory ran out
+-- the reason why bytes are not a valid LSA, or 30 Memory
 abbrev pub IsFaultOfBytes : List ℕ → Fault → Type 0
 IsFaultOfBytes bytes fault.Truncated = ⊥
 IsFaultOfBytes bytes fault.Version = ⊥

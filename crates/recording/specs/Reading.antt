@@ -1,4 +1,4 @@
--- What a line that was read says.
+-- The contents of a line that was read.
 use Rattle.std.specs.Prelude.{ℕ, Bool, cond, ◌≡◌, ◌≢◌, ◌<◌, ◌≤◌, ◌^◌, ◌⊎◌, ◌++◌, ◌==◌, List, [], ◌∷◌, length, slice_index, Option, Some, None, MatchOption, Result, Ok, Err, All}
 use Rattle.std.specs.Borrow.{Bor}
 use Rattle.std.specs.List.{slice_split}
@@ -40,7 +40,7 @@ said_by read.Second = BodyLine SecondLine
 said_by (read.Lookup address) = BodyLine (LookupLine address)
 said_by read.Roll = BodyLine RollLine
 
--- the digits of an LSA are those of bytes
+-- the digits of an LSA spell bytes
 abbrev pub HasDigits : LineForm → Type 0
 HasDigits (read.Install at digits) = decode_of digits.now ≡ Ok (bytes_of digits.now)
 HasDigits (read.HasLsa at digits) = decode_of digits.now ≡ Ok (bytes_of digits.now)
@@ -83,7 +83,8 @@ IsFirstWord before after read = MatchOption read ((before ≡ []) × (after ≡ 
 abbrev pub either_word : (first second : List ℕ) → Bool → List ℕ
 either_word first second = λ b. cond b first second
 
--- the value of a number of at most 64 bits that decimal digits write, or `None` if the text is no such number
+-- the value of a number of at most 64 bits that decimal digits write, or `None` if the text is no
+-- such number
 abbrev pub IsDecimalValue : List ℕ → Option ℕ → Type 0
 IsDecimalValue text read =
     MatchOption read (AllDigits 10 text → 2 ^ 64 ≤ digits_value 10 text) (λ n. AllDigits 10 text × (n ≡ digits_value 10 text) × IsSerial n)
@@ -104,7 +105,7 @@ pub record IsUnpadded (text : List ℕ) : Type 0 where
 abbrev pub IsLowerDigit : ℕ → Type 0
 IsLowerDigit b = ((48 ≤ b) × (b ≤ 57)) ⊎ ((97 ≤ b) × (b ≤ 102))
 
--- the text is that of bytes
+-- the text spells bytes
 abbrev pub AreDigits : List ℕ → Type 0
 AreDigits text = (bytes : List ℕ) × All (λ b. b < 2 ^ 8) bytes × (text ≡ encode_lower bytes)
 

@@ -70,8 +70,8 @@ form_of l = BodyLine (body_of l)
 abbrev pub area_forms : AreaConfig → List Form
 area_forms a = AreaLine a.id a.stub ∷ map (λ (range : Range). RangeLine a.id range) a.ranges
 
--- From version 2 on the third line says whether RFC1583Compatibility is enabled, and in version 3 the fourth says the
--- serial of the base.
+-- From version 2 on the third line says whether RFC1583Compatibility is enabled, and in version 3
+-- the fourth says the serial of the base.
 abbrev pub setting_forms : Version → Bool → ℕ → List Form
 setting_forms One compat serial = []
 setting_forms Two compat serial = CompatLine compat ∷ []
@@ -161,7 +161,8 @@ HasKind line.Roll = Unit {0}
 abbrev pub AreByIds : List (ℕ × Interface) → Type 0
 AreByIds interfaces = IsStrictlySortedBy nat_cmp (map (λ x. x.0) interfaces)
 
--- its LSAs ascend by scope, areas before the AS, and then by LS type, Link State ID and Advertising Router
+-- its LSAs ascend by scope, areas before the AS, and then by LS type, Link State ID and Advertising
+-- Router
 abbrev pub AreByPlaces : List (Scope × Lsa) → Type 0
 AreByPlaces lsas = IsStrictlySortedBy place_cmp (map lsa_place lsas)
 
@@ -171,8 +172,8 @@ pub record IsBaseOrdered (b : Base) : Type 0 where
   pub interfaces : AreByIds b.interfaces
   pub lsas : AreByPlaces b.lsas
 
--- The version has lines for all of the base. In version 1 RFC1583Compatibility is disabled, and only version 3 says a
--- serial, interfaces and LSAs.
+-- The version has lines for all of the base. In version 1 RFC1583Compatibility is disabled, and
+-- only version 3 says a serial, interfaces and LSAs.
 pub record CanSpell (v : Version) (b : Base) : Type 0 where
   pub compat : v ≡ One → b.config.compat ≡ false
   pub serial : v ≢ Three → b.serial ≡ 0
@@ -227,6 +228,6 @@ pub record IsText (bytes : List ℕ) (r : RecordingValue) : Type 0 where
   pub lsas : All HasWholeLsa r.lines
   pub kept : IsRecording r
 
--- the answer is this recording, or that memory ran out
+-- the result is this recording, or the error that memory ran out
 abbrev pub IsReadAs : RecordingValue → Result RecordingValue LineFault → Type 0
 IsReadAs r read = MatchResult read (λ found. found ≡ r) (λ e. e.fault ≡ fault.Memory)

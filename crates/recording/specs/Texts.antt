@@ -1,4 +1,5 @@
--- The printed text of a fault: its line, its number and its name, and those of the fault that is given too.
+-- The printed text of a fault: its line, its number and its name, and those of the fault that is
+-- given too.
 use Rattle.std.specs.Prelude.{ℕ, List, ◌++◌, codes, decimal}
 use Rattle.ospf_types.specs.Text.{memory_text}
 use Rattle.lsa_codec.specs.Text.{wire_fault_text}

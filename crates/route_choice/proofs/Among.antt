@@ -1,4 +1,5 @@
--- What some destinations are, as a list: just those of which there is one among them; and destinations in order.
+-- What some destinations are, as a list: just those of which there is one among them; and
+-- destinations in order.
 use Rattle.std.proofs.Common.{◌≡◌, List, [], ◌∷◌, ◌++◌, map, Option, Some, None, refl, sym, ap, subst, ◌∙◌, inl, inr}
 use Rattle.std.specs.Prelude.{ℕ, ◌↔◌}
 use Rattle.std.specs.List.{AllByRecursion, Contains, filter_map}

@@ -80,7 +80,7 @@ module _ {K V N : Type 0} (cmp : K → K → Ordering) (IsChosen : K → Option 
         in_order = subst (IsStrictlySortedBy cmp) (ap (λ (ks : List K). done.differing ++ ks) (drop_all i keys past) ∙ append-nil done.differing) done.in_order;
       }
 
-  -- at the keys the results are recomputed, and at all others there stood what has to
+  -- at the keys the results are recomputed, and at all others the old results are right
   pub all_chosen : IsTotalOrder cmp → IsAntisymmetric cmp → (old new : K → Option V) (named keys : List K) (told : List N) → ((k : K) → Contains keys k ↔ Contains named k)
       → AreChosenExcept IsChosen named old → AreRechosen cmp IsChosen named_as old new keys told → AreChosen IsChosen new
   all_chosen total exact old new named keys told same stood anew k = elim (listed_or_not total exact k keys) [
@@ -88,7 +88,7 @@ module _ {K V N : Type 0} (cmp : K → K → Ordering) (IsChosen : K → Option 
     | inr absent ↦ subst (IsChosen k) (sym (anew.others k absent)) (stood k (λ c. absent ((same k).1 c)))
   ]
 
--- keys that are told themselves
+-- keys that are reported themselves
 pub told_themselves : {K V : Type 0} (cmp : K → K → Ordering) (IsChosen : K → Option V → Type 0) (old new : K → Option V) (keys told : List K) → (anew : AreRechosen cmp IsChosen (λ k. k) old new keys told) → told ≡ anew.differing
 told_themselves cmp IsChosen old new keys told anew = anew.reported_as ∙ map-id anew.differing
 
@@ -99,7 +99,7 @@ module _ {K V N : Type 0} (cmp : K → K → Ordering) (total : IsTotalOrder cmp
   untouched : mid key ≡ old key
   untouched = done.others key (not_before cmp total keys i key sorted lt at)
 
-  -- all other keys are told as before
+  -- all other keys are reported as before
   elsewhere : (k : K) → k ≢ key → HasChanged old new k ↔ Contains done.differing k
   elsewhere k other = (
     λ differs. (done.exact k).1 (λ e. differs (step.others k other ∙ e)),

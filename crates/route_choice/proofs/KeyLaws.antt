@@ -1,4 +1,4 @@
--- What the laws of a key say of its named order.
+-- The named order of a key, by the laws of the key.
 use Rattle.std.proofs.Common.{◌≡◌, Bool, Ordering, Decides, sym, ap, subst, ◌∙◌}
 use Rattle.std.specs.Ordering.{eq_by_cmp, is_eq}
 use Rattle.std.specs.Cmp.{IsTotalOrder, eq_by_cmp_equiv}

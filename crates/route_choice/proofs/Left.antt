@@ -1,4 +1,5 @@
--- How many places a change notes: each belongs to another key with a result, so that there are no more of them than of results.
+-- How many places a change notes: each belongs to another key with a result, so that there are no
+-- more of them than of results.
 use Rattle.std.proofs.Common.{◌≡◌, ◌≢◌, ℕ, suc, ◌+◌, ◌<◌, ◌≤◌, List, [], ◌∷◌, ◌++◌, append_assoc, length, get_or, take, drop, Option, Some, None, Ordering, true, true≢false, refl, sym, ap, subst, ◌∙◌, inl, inr, arith, add-one, drop-cons, append-nil}
 use Rattle.std.specs.Prelude.{IsSome, IfSome}
 use Rattle.std.specs.FinMap.{IsAntisymmetric, get-from_entries}

@@ -1,4 +1,4 @@
--- What is at a place among entries, and whether another result is at a key than before.
+-- The result at a place among entries, and whether another result is at a key than before.
 use Rattle.std.proofs.Common.{◌≡◌, ◌≢◌, Bool, cond, true, false, List, [], ◌∷◌, length, Option, Some, None, Ordering, refl, sym, ap, subst, ◌∙◌, arith}
 use Rattle.std.specs.Prelude.{◌↔◌, IsTrue, not}
 use Rattle.std.specs.Cmp.{IsEquivalence, eq_by_cmp_equiv}

@@ -1,4 +1,4 @@
--- What a choice takes, part by part.
+-- The offers that a choice takes, part by part.
 use Rattle.std.proofs.Common.{◌≡◌, ℕ, ◌+◌, ◌<◌, ◌≤◌, List, [], ◌∷◌, ◌++◌, length, get_or, drop, Option, None, Ordering, ◌⊎◌, inl, inr, ⊎_elim, sym, ap, subst, append_assoc, append-nil, add-one, arith}
 use Rattle.std.specs.Prelude.{◌↔◌}
 use Rattle.std.specs.List.{Contains}

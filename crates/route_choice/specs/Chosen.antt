@@ -1,9 +1,9 @@
--- Which results are those that have to stand: a result at each key, none at some.
+-- The results that have to be there: a result at each key, `None` at some.
 use Rattle.std.specs.Prelude.{◌≡◌, ◌≢◌, ◌⊎◌, ◌↔◌, ◌++◌, List, [], ◌∷◌, Option, Contains, map}
 use Rattle.std.specs.List.Sorted.{IsStrictlySortedBy}
 use Rattle.std.specs.declared.cmp.Ordering.{Ordering}
 
--- at each key there stands what has to
+-- at each key there is the result that has to be there
 abbrev pub AreChosen : {K V : Type 0} → (K → Option V → Type 0) → (K → Option V) → Type 0
 AreChosen {K} IsChosen results = (k : K) → IsChosen k (results k)
 
@@ -15,13 +15,15 @@ AreChosenExcept {K} IsChosen keys results = (k : K) → (Contains keys k → ⊥
 abbrev pub HasChanged : {K V : Type 0} → (K → Option V) → (K → Option V) → K → Type 0
 HasChanged old new key = new key ≢ old key
 
--- only the result at the key is recomputed, and the key is told, by a name, where another stands now
+-- only the result at the key is recomputed, and the key is reported, by a name, if another result
+-- is there now
 pub record IsRechosen {K V N : Type 0} (IsChosen : K → Option V → Type 0) (named_as : K → N) (old new : K → Option V) (key : K) (before after : List N) : Type 0 where
   pub here : IsChosen key (new key)
   pub others : (k : K) → k ≢ key → new k ≡ old k
   pub told : ((after ≡ before) × (new key ≡ old key)) ⊎ ((after ≡ before ++ named_as key ∷ []) × HasChanged old new key)
 
--- only the results at these keys are recomputed; those with another result now are told, each by its name, in the order of the keys
+-- only the results at these keys are recomputed; keys with another result now are reported, each by
+-- its name, in the order of the keys
 pub record AreRechosen {K V N : Type 0} (cmp : K → K → Ordering) (IsChosen : K → Option V → Type 0) (named_as : K → N) (old new : K → Option V) (keys : List K) (told : List N) : Type 0 where
   pub here : (k : K) → Contains keys k → IsChosen k (new k)
   pub others : (k : K) → (Contains keys k → ⊥) → new k ≡ old k

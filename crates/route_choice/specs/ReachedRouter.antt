@@ -1,4 +1,5 @@
--- Area border routers and AS boundary routers that are reached (RFC 2328, 16.1): what is kept of one.
+-- Area border routers and AS boundary routers that are reached (RFC 2328, 16.1): what is kept of
+-- one.
 use Rattle.std.specs.Prelude.{ℕ, ◌==◌, ◌||◌, ◌≡◌, ◌<◌, Bool, List, Contains, Option, Some, None, nat_lt, bit_and, if◌then◌else◌}
 use Rattle.std.specs.FinMap.{FinMap}
 use Rattle.std.specs.Ordering.{nat_cmp}
@@ -18,7 +19,8 @@ ReachedByRouter = FinMap nat_cmp ReachedValue
 abbrev pub is_abr_or_asbr : ℕ → Bool
 is_abr_or_asbr flags = nat_lt 0 (bit_and flags B) || nat_lt 0 (bit_and flags E)
 
--- what is kept of a router: none of the root, of one that is not reached, and of one without both bits
+-- what is kept of a router: none of the root, of one that is not reached, and of one without both
+-- bits
 abbrev pub reached_by : ℕ → ℕ → Option ℕ → Option ℕ → List NextHop → Option ReachedValue
 reached_by root router (Some flags) (Some distance) hops =
     if router == root then None else (if is_abr_or_asbr flags then Some (record { flags = flags; distance = distance; hops = hops }) else None)

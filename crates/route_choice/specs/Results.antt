@@ -37,10 +37,10 @@ StandsAt {V = V} cmp entries key place = (value : V) × (slice_get entries place
 abbrev pub OthersUnchanged : {K V : Type 0} → (K → Option V) → (K → Option V) → K → Type 0
 OthersUnchanged {K} old new key = (k : K) → k ≢ key → new k ≡ old k
 
--- the answer tells whether the result at the key differs
+-- the result is true exactly if the result at the key differs
 abbrev pub ReportsDifference : {K V : Type 0} → (K → Option V) → (K → Option V) → K → Bool → Type 0
 ReportsDifference old new key differs = IsTrue differs ↔ (old key ≢ new key)
 
--- where the answer is `false`, the result at the key stays
+-- if the result is `false`, the result at the key stays
 abbrev pub ReportsSame : {K V : Type 0} → (K → Option V) → (K → Option V) → K → Bool → Type 0
 ReportsSame old new key differs = differs ≡ false → new key ≡ old key

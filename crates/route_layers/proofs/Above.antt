@@ -1,7 +1,9 @@
--- What the layers above intra-area routes are calculated from: that the definitions speak of it, and what differs in it.
+-- The inputs of the layers above intra-area routes: that the definitions speak of them,
+-- and what differs in them.
 --   configured: the areas of the definitions are those that are configured
 --   apart_areas: no two of them have one Area ID
---   inter_are, external_are: what inter-area and external routes are calculated from is what the definitions speak of
+--   inter_are, external_are: what inter-area and external routes are calculated from is what the
+--     definitions speak of
 --   inter_made, external_made: inputs of the same root, setting, areas and LSAs are the same
 --   examined_there: the examined area has a database
 --   kept_ids: what is kept of the areas has their Area IDs

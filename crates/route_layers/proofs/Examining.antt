@@ -1,5 +1,6 @@
 -- The area whose summaries are examined, as it is found (RFC 2328, 16.2).
---   all_left, one_left, one_up, last_left, left_up, last_up, none_up: whether one of the interfaces is up in an area, one by one
+--   all_left, one_left, one_up, last_left, left_up, last_up, none_up: whether one of the
+--     interfaces is up in an area, one by one
 --   none_found, none_more, first_found: the areas that have an interface that is up, one by one
 --   one_examined, not_examined: what is examined where there is one at most
 --   backbone_examined, no_backbone: and where there is another

@@ -1,4 +1,4 @@
--- What it says that the trees of all areas have followed a state.
+-- The meaning of a step in which the trees of all areas have followed a state.
 --   followed_long: there are as many as before
 --   followed_trees: they are the trees of the state
 --   followed_inputs: what routes are calculated from differs in no more than is named

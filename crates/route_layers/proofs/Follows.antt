@@ -53,7 +53,8 @@ module _ (s t : State) (keys : List (Scope × Key)) (ids : List ℕ) (differ : S
     λ w. (are u).1 (w.0, (interface_kept u.id w.0 (not_among ids none u.id)).0 w.1, w.2, w.3, w.4),
   )
 
-  -- the tree of the LSAs after, and of the interfaces before, belongs to the state after, where no interfaces are named
+  -- the tree of the LSAs after, and of the interfaces before, belongs to the state after, where no
+  -- interfaces are named
   pub tree_by_keys : ids ≡ [] → (area : ℕ) (ups : List Up) (x : AreaTreeValue) → AreUpsOf s area ups → IsAreaTree s.config.router (lsas_in (database_of t (Area area))) ups x → IsTreeFor t area x
   tree_by_keys none area ups x are is = (ups, ups_kept none area ups are, subst (λ (r : ℕ). IsAreaTree r (lsas_in (database_of t (Area area))) ups x) (sym router_kept) is)
 

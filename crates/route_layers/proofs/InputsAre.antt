@@ -1,4 +1,5 @@
--- What routes are calculated from is what the definitions speak of, and is ready to be calculated from.
+-- What routes are calculated from is what the definitions speak of, and is ready to be calculated
+-- from.
 --   ready_of: each area's tree belongs to its database
 --   area_is: an area with its database and its interfaces that are up is one of the definitions
 --   inputs_are: what is kept of a state is calculated from what the definitions speak of

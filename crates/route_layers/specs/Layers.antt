@@ -1,4 +1,4 @@
--- What the layers of routes are calculated from, as a state has it.
+-- The inputs of the layers of routes, taken from a state.
 use Rattle.std.specs.Prelude.{ℕ, ◌≡◌, ◌↔◌, IsTrue, List, Contains, Option, Some, None, map as list_map}
 use Rattle.std.specs.FinMap as map
 use Rattle.std.specs.FinMap.{entries}

@@ -44,7 +44,8 @@ AreTreesOf s (a ∷ areas) (t ∷ trees) = IsTreeFor s a.id t × AreTreesOf s ar
 AreTreesOf s [] (t ∷ trees) = ⊥
 AreTreesOf s (a ∷ areas) [] = ⊥
 
--- the states differ in no more than these LSAs or these interfaces, and in the ranges of areas where these may differ
+-- the states differ in no more than these LSAs or these interfaces, and in the ranges of areas
+-- where these may differ
 pub record StatesDifferAmong (keys : List (Scope × Key)) (ids : List ℕ) (ranged : Bool) (before after : State) : Type 0 where
   pub areas : without_ranges after.config ≡ without_ranges before.config
   pub ranges : ranged ≡ false → after.config ≡ before.config

@@ -16,7 +16,8 @@ use Rattle.event_state.specs.States.{State, database_of, lsas_of, inputs_of}
 abbrev pub area_of : State → AreaConfig → Area
 area_of s a = record { id = a.id; stub = a.stub; ranges = a.ranges; lsas = lsas_of (database_of s (area_scope a.id)) }
 
--- the work that was done in each of these areas, as they are configured before and after, is bounded by what differs between the states
+-- the work that was done in each of these areas, as they are configured before and after, is
+-- bounded by what differs between the states
 abbrev pub AreWorksOf : State → State → List AreaConfig → List AreaConfig → List Touched → Type 0
 AreWorksOf s t [] [] [] = Unit {0}
 AreWorksOf s t (a ∷ areas) (b ∷ others) (w ∷ works) =

@@ -26,7 +26,7 @@ module _ (w : View) where
   interface_of detail Plain is = absurd (is refl)
   interface_of detail (At addresses) is = absurd is
 
-  -- out of the root a link goes over an interface
+  -- out of the root a link leads over an interface
   over : (to : Vertex) (cost : ℕ) (label : Label) → IsLinkOf w (Router w.root) to cost label → IsOverInterface (IsVertexOf w (Router w.root)) label
   over (Router t) cost label taken = let i = interface_of taken.2.detail label taken.9 in record { has = (taken.0, taken.1, taken.3); interface = i.0; labelled = i.1 }
   over (Network t) cost label taken = let i = interface_of taken.2.detail label taken.9 in record { has = (taken.0, taken.1, taken.3); interface = i.0; labelled = i.1 }
@@ -48,7 +48,8 @@ module _ (w : View) where
       listed_router router (Router t) cost label taken = all router taken.0 taken.1 taken.3
       listed_router router (Network t) cost label taken = all router taken.0 taken.1 taken.3
 
-  -- Where a router has one list of links, as where its LSAs have one key, each link out of a network has an address.
+  -- Where a router has one list of links, as where its LSAs have one key, each link out of a
+  -- network has an address.
   module _ (one : (router flags other : ℕ) (xs ys : List RouterLink) → w.HasRouter router flags xs → w.HasRouter router other ys → xs ≡ ys) where
     -- the Link Data of the link back is an address on the network
     address_of : (network : ℕ) (to : Vertex) (cost : ℕ) (label : Label) (addresses : List ℕ) → IsLinkOf w (Network network) to cost label → label ≡ At addresses → (address : ℕ) × Contains addresses address

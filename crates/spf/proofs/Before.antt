@@ -1,4 +1,4 @@
--- The links before, from those after and the lists of those that went and came.
+-- The links before, from the links after and the lists of removed and added links.
 use Rattle.std.proofs.Common.{◌≡◌, ◌≢◌, List, Bool, refl, ap, ◌⊎◌, inl, inr}
 use Rattle.std.specs.Bool.{Decides}
 use Rattle.std.specs.Str.{bytes_eq}
@@ -50,7 +50,8 @@ pub cases_among : (links : List Link) → AreDecided (Among links)
 cases_among links from to cost label = cases_element cases_link links (link_value from to cost label)
 
 module _ (after : Links) (gone come : List Link) where
-  -- Whatever the lists have, from the links that they give as those before to those after they name every change.
+  -- Whatever the lists have, from the links that they give as those before to those after they name
+  -- every change.
   pub earlier_changes : AreChanges (Earlier after gone come) after (Among gone) (Among come)
   earlier_changes = record {
     went = λ from to cost label was. elim was [ inl stands ↦ inl stands.0 | inr went ↦ inr went ];

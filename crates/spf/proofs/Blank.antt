@@ -1,4 +1,5 @@
--- The blank tree is right for the links of a graph but those out of the root, and nothing of it is lost: so a tree is built as the repair for which the root's links came.
+-- The blank tree is right for the links of a graph but those out of the root, and nothing of it is
+-- lost: so a tree is built as the repair for which the root's links are added.
 use Rattle.std.proofs.Common.{◌≡◌, ℕ, List, [], Some, None, refl, sym, subst, ◌∙◌, inl, inr}
 use Rattle.std.specs.FinMap.{get, get-empty}
 use Rattle.std.specs.List.{Contains}

@@ -70,11 +70,11 @@ module _ {before after gone come : Links} {root : ℕ} {had_root has_root : Type
     abbrev AllHeads : List Vertex
     AllHeads = heads ++ (first_out ++ second_out)
 
-    -- the heads of what went or came are among them
+    -- the heads of the removed or added links are among them
     in_heads : (v : Vertex) → Contains heads v → Contains AllHeads v
     in_heads v c = Contains-append_left heads (first_out ++ second_out) v c
 
-    -- so are those of links out of what differs first
+    -- so are the heads of links out of what differs first
     in_first_out : (v : Vertex) → Contains first_out v → Contains AllHeads v
     in_first_out v c = Contains-append_right heads (first_out ++ second_out) v (Contains-append_left first_out second_out v c)
 
@@ -101,7 +101,8 @@ module _ {before after gone come : Links} {root : ℕ} {had_root has_root : Type
     due_owed written differ to (OutOfMoved from cost label taken c) = Contains-append_right (first ++ second) AllHeads to (head_owed from to cost label taken (moved_differs from c))
     due_owed written differ to (OutOfWritten from cost label taken c) = Contains-append_right (first ++ second) AllHeads to (head_owed from to cost label taken (differ from c))
 
-    -- So the vertices that are taken, first for their distances and then for their next hops, are no more than twice what differs, and the heads.
+    -- So the vertices that are taken, first for their distances and then for their next hops, are
+    -- no more than twice what differs, and the heads.
     pub taken_bound : (written again : List Vertex) → HasNoDoubles moved → HasNoDoubles again → ((v : Vertex) → Contains written v → Contains (first ++ second) v)
         → ((v : Vertex) → Contains again v → IsDue after gone come lost moved written v)
         → length moved + length again ≤ 2 * (length first + length second) + (length heads + (length first_out + length second_out))

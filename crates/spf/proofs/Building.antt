@@ -1,4 +1,5 @@
--- The first tree is built as a repair of the blank one: no links were there, nothing was reached, and the links of the root are those that came.
+-- The first tree is built as a repair of the blank one: no links were there, nothing was reached,
+-- and the links of the root are the added ones.
 use Rattle.std.proofs.Common.{ℕ, [], Option, ◌⊎◌, inr}
 use Rattle.ospf_types.specs.declared.entry.Vertex.{Vertex}
 use Rattle.ospf_types.specs.declared.entry.Vertex.TheVariants.{Router}
@@ -12,7 +13,7 @@ use Rattle.spf.proofs.LoseSupportLoop.{lose_support_start}
 use Rattle.spf.proofs.Whole.{NoLinks, no_distances, blank_tree}
 
 module _ (after : Links) (root : ℕ) (has_root : Type 0) where
-  -- no link went
+  -- no link was removed
   pub none_went : AreGone NoLinks after NoLinks
   none_went = record { went = λ from to cost label taken. absurd taken }
 
@@ -20,7 +21,7 @@ module _ (after : Links) (root : ℕ) (has_root : Type 0) where
   pub none_lost : AreLosingSupport NoLinks after NoLinks root ⊥ has_root no_distances [] [] []
   none_lost = lose_support_start (blank_tree root).distances none_went [] [] (λ from to cost label other least. absurd least.taken) (λ v none. absurd (no_element v none))
 
-  -- Only the root has a distance at the start, so it is enough that its links came.
+  -- Only the root has a distance at the start, so it is enough that its links are added.
   pub root_came : (come : Links) (start : Vertex → Option ℕ) → has_root ⊎ (has_root → ⊥) → IsReset root has_root no_distances [] start
       → ((to : Vertex) (cost : ℕ) (label : Label) → after (Router root) to cost label → come (Router root) to cost label) → AreCome NoLinks after come start
   root_came come start flag reset came = record { came = λ from to cost label d taken at. inr (go from to cost label d taken (starts flag reset from d at)) }

@@ -1,4 +1,5 @@
--- What callers of a tree use: it is right before the changes that the graph names, and its building is work for each vertex that is reached.
+-- What callers of a tree use: it is right before the changes that the graph names, and its building
+-- is work for each vertex that is reached.
 use Rattle.std.proofs.Common.{◌≡◌, ◌≢◌, ℕ, List, Some, None, sym, subst, ◌∙◌, inl, inr, arith}
 use Rattle.std.specs.Prelude.{◌↔◌}
 use Rattle.std.specs.FinMap.{get}
@@ -68,7 +69,7 @@ module _ {g : GraphValue} {t : TreeValue} (is : IsTreeOf g t) where
         λ same. no_hop_of_root (LinksOf g) g.root (HasRoot g) h (subst (λ w. IsHop (LinksOf g) g.root (HasRoot g) w h) same hop),
       )
 
-  -- What has other next hops than none is reached.
+  -- A vertex with next hops is reached.
   reached_of_other : (v : Vertex) → HasOtherHops blank_value t v → IsReachedIn g t v
   reached_of_other v other = elim (cases_vertex v (Router g.root)) [
     | inl is_root ↦ absurd (other (λ h. (λ x. absurd ((reached_of_hop v h x).1 is_root), λ x. absurd (hopless v h x))))
@@ -97,7 +98,8 @@ module _ {g : GraphValue} {t : TreeValue} (is : IsTreeOf g t) where
       λ reached. (work.written_exact v).1 (inl (other_hops v reached)),
     )
 
-    -- And building a tree takes each reached vertex but the root twice, and writes next hops for each.
+    -- And building a tree takes each reached vertex but the root twice, and writes next hops for
+    -- each.
     pub built_work : IsWorkForAll g t taken hop_sets
     built_work =
         let least = work.taken_least work.written work.written work.written_apart work.written_apart (λ v c. let r = (built v).0 c in (r, farther v r)) (λ v c. let r = (built v).0 c in (r, λ same. farther v r same.0)) in

@@ -1,4 +1,5 @@
--- What the parts of a repair leave, taken together: what each next part starts from, the tree, the work, and which vertices differ.
+-- The results of the parts of a repair, taken together: what each next part starts from, the tree,
+-- the work, and which vertices differ.
 use Rattle.std.proofs.Common.{◌≡◌, ◌≢◌, ℕ, ◌+◌, List, false, ◌∷◌, ◌++◌, length, Option, Some, None, refl, sym, ap, subst, ◌∙◌, ◌⊎◌, inl, inr, arith}
 use Rattle.std.specs.Prelude.{◌↔◌}
 use Rattle.std.specs.FinMap.{get}
@@ -142,7 +143,7 @@ module _ {g : GraphValue} {gone come : List Link} {t : TreeValue} (u : TreeValue
       sets_most = λ first second heads first_out second_out owed. written_bound owed written s.written_apart (written_owed owed);
     }
 
-    -- What is reached and differs was taken for its next hops.
+    -- A vertex that is reached and differs was taken for its next hops.
     taken_if_differs : (v : Vertex) → IsReachedIn g u v → Differs t u v → Contains s.taken v
     taken_if_differs v r differs = elim (cases_contains moved v) [
       | inl m ↦ s.moved_taken v (record { number = r.0.0; at = r.0.1; other = r.1 }) m
@@ -155,7 +156,7 @@ module _ {g : GraphValue} {gone come : List Link} {t : TreeValue} (u : TreeValue
       ]
     ]
 
-    -- What was reached and is so no more was lost.
+    -- A vertex that was reached and no longer is was lost.
     lost_if_unreached : (v : Vertex) (d : ℕ) → v ≢ Router g.root → get t.distances v ≡ Some d → get u.distances v ≡ None → Contains lost v
     lost_if_unreached v d other was none = elim (cases_contains lost v) [
       | inl c ↦ c

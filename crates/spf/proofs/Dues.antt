@@ -21,7 +21,9 @@ module _ {after gone come : Links} where
   due_more lost more_lost moved more_moved written more_written l m w v (OutOfMoved from cost label taken c) = OutOfMoved from cost label taken (m from c)
   due_more lost more_lost moved more_moved written more_written l m w v (OutOfWritten from cost label taken c) = OutOfWritten from cost label taken (w from c)
 
-  -- What is stale is due: at the start by a removed link, while support is lost by a link out of what is lost, then by an added link, and while distances are relaxed by a link out of what is moved.
+  -- A stale vertex is due: at the start by a removed link, while support is lost by a link out of
+  -- what is lost, then by an added link, and while distances are relaxed by a link out of what is
+  -- moved.
   pub due_went : (stale : List Vertex) → ((v : Vertex) → Contains stale v → (from : Vertex) × (cost : ℕ) × (label : Label) × gone from v cost label) → AreDue after gone come [] [] [] stale
   due_went stale by = record { due = λ v c. let w = by v c in Went w.0 w.1 w.2 w.3 }
 
@@ -35,7 +37,7 @@ module _ {after gone come : Links} where
     ];
   }
 
-  -- where the heads of links that came become stale
+  -- where the heads of added links become stale
   pub due_came : (lost stale wider : List Vertex) → AreDue after gone come lost [] [] stale
       → ((w : Vertex) → Contains wider w → Contains stale w ⊎ ((from : Vertex) × (cost : ℕ) × (label : Label) × come from w cost label)) → AreDue after gone come lost [] [] wider
   due_came lost stale wider d by = record { due = λ w c. elim (by w c) [ inl was ↦ d.due w was | inr came ↦ Came came.0 came.1 came.2 came.3 ] }
@@ -50,7 +52,7 @@ module _ {after gone come : Links} where
     ];
   }
 
-  -- What is moved or stale is queued for its next hops.
+  -- A moved or stale vertex is queued for its next hops.
   pub due_queued : (lost moved stale : List Vertex) (queue : Vertex → Option ℕ) → AreDue after gone come lost moved [] stale → ((v : Vertex) (k : ℕ) → queue v ≡ Some k → Contains moved v ⊎ Contains stale v)
       → AreQueuedDue after gone come lost moved [] queue
   due_queued lost moved stale queue d by = record { due = λ v k at. elim (by v k at) [ inl m ↦ Moved m | inr s ↦ d.due v s ] }
@@ -59,7 +61,8 @@ module _ {after gone come : Links} where
   pub none_due : (lost moved written : List Vertex) → AreDue after gone come lost moved written []
   none_due lost moved written = record { due = λ v none. absurd (no_element v none) }
 
-  -- In each round of updating next hops what is taken was queued, and what is put is the head of a link out of what is written.
+  -- In each round of updating next hops what is taken was queued, and what is put is the head of a
+  -- link out of what is written.
   pub due_updated : {root : ℕ} {distance queue more : Vertex → Option ℕ} {now new : Vertex → NextHop → Type 0} (lost moved written wider taken all : List Vertex) (v : Vertex) (k : ℕ)
       → AreQueuedDue after gone come lost moved written queue → AreDue after gone come lost moved written taken
       → IsUpdated after root distance queue more now new written wider v k → IsAdded taken all v → ((w : Vertex) → Contains written w → Contains wider w)

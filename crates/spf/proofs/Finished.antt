@@ -17,7 +17,7 @@ use Rattle.spf.specs.TreeValues.{TreeValue, IsTreeOf, IsTreeBefore, IsBegun, Dif
 use Rattle.spf.proofs.Idle.{idle}
 use Rattle.spf.proofs.CarriedOut.{tree_after, bounded, work_done, changed_by}
 
--- What was taken in both parts is what was moved, and what was taken in the third.
+-- The vertices taken in both parts are those moved, and those taken in the third.
 counted : (moved near taken : ℕ) → near ≡ moved → near ≤ taken → moved + (taken - near) ≡ taken
 counted moved near taken all more = omega arith
 
@@ -36,7 +36,7 @@ carried_out {g} {gone} {come} {t} u {lost} {stale} {wider} {moved} {written} {ne
     total : length moved + (taken - near) ≡ taken
     total = counted (length moved) near taken all more
 
--- A repair is begun once it is known what lost its support, of the tree as it stands.
+-- A repair is begun after the vertices that lost their support are found, in the old tree.
 pub begun : {g : GraphValue} {gone come : List Link} (i t : TreeValue) {slice : List Link} {lost stale : List Vertex} → i ≡ t → slice ≡ come → IsTreeBefore g gone come t → AreLost g gone come (get i.distances) lost stale → IsBegun g gone slice t lost stale
 begun {g} {gone} {come} i t {slice} {lost} {stale} view same before losses =
     subst (λ (links : List Link). IsBegun g gone links t lost stale) (sym same) (record { before = before; losses = subst (λ (w : TreeValue). AreLost g gone come (get w.distances) lost stale) view losses })
@@ -57,7 +57,7 @@ farther_is remembered vertices old new all v = (
   λ c. (get old v, subst (λ (ps : List (Vertex × Option ℕ)). Contains ps (v, get old v)) (sym all) (mapped_element (with_distance old) vertices v c.0), c.1),
 )
 
--- What is listed as changed is what differs.
+-- The vertices listed as changed are those that differ.
 pub listed : (root : ℕ) (t u : TreeValue) (lost moved written changed : List Vertex) (remembered : List (Vertex × Option ℕ)) → remembered ≡ map (with_distance t.distances) (Router root ∷ lost)
     → ((v : Vertex) → Contains changed v ↔ (IsFarther remembered u.distances v ⊎ (IsNearer moved lost v ⊎ Contains written v)))
     → ((v : Vertex) → IsChangedBy root t u lost moved written v ↔ Differs t u v) → (v : Vertex) → Contains changed v ↔ Differs t u v
@@ -114,7 +114,8 @@ pub carried_out_at : {g : GraphValue} {slice come : List Link} (i t u : TreeValu
 carried_out_at {g} {slice} {come} i t u {lost} {stale} {moved} {written} {taken} {hop_sets} view same fresh r =
     subst (λ (links : List Link). IsCarriedOut g links t u lost stale moved written taken hop_sets) same (subst (λ (w : TreeValue). IsCarriedOut g slice w u lost stale moved written taken hop_sets) view (carried_out_of i u fresh r))
 
--- The list is that of what differs, where the root and what was lost were remembered as the tree was.
+-- The list has the vertices that differ, where the root and what was lost were remembered as the
+-- tree was.
 pub changed_list : (i t u : TreeValue) (root at_root : ℕ) (lost at_lost left moved written changed : List Vertex) (remembered slice : List (Vertex × Option ℕ)) → i ≡ t → at_root ≡ root → at_lost ≡ lost → left ≡ lost → slice ≡ remembered
     → remembered ≡ map (with_distance i.distances) (Router at_root ∷ at_lost) → IsStrictlySortedBy vertex_cmp changed
     → ((v : Vertex) → Contains changed v ↔ (IsFarther slice u.distances v ⊎ (IsNearer moved left v ⊎ Contains written v)))

@@ -15,7 +15,7 @@ second_step (Router r) (Over i) next h first = (hop.Peer i, refl, first)
 second_step (Network n) (Over i) (At addresses) h first = (hop.Direct i, refl, first)
 second_step _ _ _ h first = absurd first
 
--- what is handed on of the hop of one step is the hop of two
+-- a hop passed on from the hop of one step is the hop of two
 from_first_step : (v : Vertex) (l next : Label) (g h : NextHop) → FirstOnly v l g → HandsOn g next h → FirstOf v l next h
 from_first_step (Router r) (Over i) next g h first hands = subst (λ (x : NextHop). HandsOn x next h) first hands
 from_first_step (Network n) (Over i) (At addresses) g h first hands = subst (λ (x : NextHop). HandsOn x (At addresses) h) first hands
@@ -29,7 +29,7 @@ handed_on_itself (Router r) (Over i) next label h first = subst (λ (x : NextHop
 handed_on_itself (Network n) (Over i) (At addresses) label h first = subst (λ (x : NextHop). HandsOn x label x) (sym first.2) refl
 handed_on_itself _ _ _ label h first = absurd first
 
--- what is handed on later is the same hop
+-- a hop passed on later is the same hop
 same_handed_on : (v : Vertex) (l next label : Label) (g h : NextHop) → FirstOf v l next g → HandsOn g label h → h ≡ g
 same_handed_on (Router r) (Over i) next label g h first hands = let is : h ≡ hop.Peer i = subst (λ (x : NextHop). HandsOn x label h) first hands in cc
 same_handed_on (Network n) (Over i) (At addresses) label g h first hands =
@@ -38,7 +38,8 @@ same_handed_on (Network n) (Over i) (At addresses) label g h first hands =
     cc
 same_handed_on _ _ _ label g h first hands = absurd first
 
--- A next hop of a path that goes on by one step is handed on by that step, from a next hop of the path before it.
+-- A next hop of a path that goes on by one step is passed on by that step, from a next hop of the
+-- path before it.
 pub first_before : (step last : TakenLink) (way : List TakenLink) (h : NextHop) → IsFirst ((step ∷ way) ++ last ∷ []) h → (g : NextHop) × IsFirst (step ∷ way) g × HandsOn g last.label h
 first_before step last [] h first = second_step step.to step.label last.label h first
 first_before step last (next ∷ way) h first = (h, first, handed_on_itself step.to step.label next.label last.label h first)

@@ -1,4 +1,5 @@
--- The vertices of a graph: which links lead to, how many are routers, and so how far its vertices are from the root.
+-- The vertices of a graph: which links lead to, how many are routers, and so how far its vertices
+-- are from the root.
 use Rattle.std.proofs.Common.{◌≡◌, ℕ, ◌<◌, ◌≤◌, List, [], ◌∷◌, ◌++◌, length, map, Option, Some, None, refl, sym, ap, subst, ◌∙◌, ◌⊎◌, inl, inr, arith}
 use Rattle.std.specs.Prelude.{IsSome, is_some}
 use Rattle.std.specs.List.{Contains}

@@ -177,7 +177,8 @@ union_unaddressed i Given none old new u =
     let IsHop : ℕ → NextHop → Type 0 = λ a h. h ≡ hop.Router i a in
     union_same old new (IsOfSome [] IsHop) Given (λ h. (λ some. absurd (of_none IsHop h some), λ given. absurd (none h given))) u
 
--- what a link out of a network that is attached to the root passes on, by the addresses of its label
+-- what a link out of a network that is attached to the root passes on, by the addresses of its
+-- label
 pub union_addresses : (i : ℕ) (label : Label) (old new : List NextHop) → IsUnion old new (IsOfSome (addresses_of label) (λ (a : ℕ) (h : NextHop). h ≡ hop.Router i a)) → IsUnion old new (HandsOn (hop.Direct i) label)
 union_addresses i (At addresses) old new u = u
 union_addresses i (Over other) old new u = union_unaddressed i (HandsOn (hop.Direct i) (Over other)) (λ h given. given) old new u

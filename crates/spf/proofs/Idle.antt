@@ -1,4 +1,4 @@
--- Where no link went and none came, nothing is lost, moved, taken or written.
+-- Where no link was removed and none was added, nothing is lost, moved, taken or written.
 use Rattle.std.proofs.Common.{◌≡◌, ◌≢◌, ℕ, ◌+◌, List, [], ◌∷◌, length, refl, sym, ◌∙◌, inl, inr, arith}
 use Rattle.std.specs.FinMap.{get}
 use Rattle.std.specs.List.{Contains}

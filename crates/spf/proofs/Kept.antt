@@ -1,4 +1,4 @@
--- What is not listed as changed keeps its distance and its list of next hops.
+-- A vertex that is not listed as changed keeps its distance and its list of next hops.
 use Rattle.std.proofs.Common.{◌≡◌, List, Option, Some, None, refl, sym, subst, ◌⊎◌, inl, inr}
 use Rattle.std.specs.Prelude.{◌↔◌, IfSome}
 use Rattle.std.specs.FinMap.{get}
@@ -59,7 +59,7 @@ others_kept old new were are changed v other =
       is_so (cases_hops (listed_hops after) (listed_hops before)) (λ fails. alike (λ both. fails (same_listed after before (listed_in_order after (are v)) (listed_in_order before (were v)) both.1))),
     )
 
--- What is kept once the vertices were listed.
+-- The kept values after the vertices were listed.
 pub others_listed : (was view new : TreeValue) (changed : List Vertex) → view ≡ new → AreHopsInOrder was.hops → AreHopsInOrder new.hops → AreChanged was (with_changed view changed) changed → AreOthersKept was (with_changed view changed)
 others_listed was view new changed view_is were are exact =
     others_kept was (with_changed view changed) were (subst (λ (t : TreeValue). AreHopsInOrder t.hops) (sym view_is) are) exact

@@ -44,7 +44,7 @@ first_hops_are (Network n) (At addresses) h = (no_element h, λ none. absurd non
 first_hops_are (Router r) Plain h = (no_element h, λ none. absurd none)
 first_hops_are (Network n) Plain h = (no_element h, λ none. absurd none)
 
--- the list of what is handed on
+-- the list of the hops that are passed on
 pub handed_on_is : (g : NextHop) (l : Label) (h : NextHop) → Contains (handed_on g l) h ↔ HandsOn g l h
 handed_on_is (hop.Direct i) (At addresses) h = (
   λ c. let w = mapped_from (λ a. hop.Router i a) addresses h c in (w.0, w.1, sym w.2),

@@ -1,4 +1,5 @@
--- Which vertices lose their distance when links go: what is not lost keeps a path, and what is lost has none left at its old distance.
+-- Which vertices lose their distance when links go: what is not lost keeps a path, and what is lost
+-- has none left at its old distance.
 use Rattle.std.proofs.Common.{◌≡◌, ◌≢◌, ℕ, ◌+◌, ◌<◌, ◌≤◌, List, [], ◌∷◌, ◌++◌, Option, Some, refl, sym, ap, subst, ◌∙◌, ◌⊎◌, inl, inr, arith}
 use Rattle.std.specs.List.{Contains}
 use Rattle.std.proofs.lemmas.Bool.{cases_lt}
@@ -38,7 +39,8 @@ pub path_to_root : (link : Links) (root : ℕ) (has_root : Type 0) (limit : ℕ)
 path_to_root link root has_root limit has = record { way = []; path = (has, refl); most = omega arith }
 
 module _ {before after gone : Links} {root : ℕ} {had_root : Type 0} {old : Vertex → Option ℕ} (changes : AreGone before after gone) (were : AreDistances before root had_root old) where
-  -- Where nothing is lost yet, and the head of each least link that went is suspected, all are held: a vertex that is not suspected keeps a least link.
+  -- Where nothing is lost yet, and the head of each removed least link is suspected, all are
+  -- held: a vertex that is not suspected keeps a least link.
   pub held_at_start : (suspects : List Vertex) → ((from to : Vertex) (cost : ℕ) (label : Label) → to ≢ Router root → IsLeast gone old from to cost label → Contains suspects to)
       → AreHeld after root old [] suspects
   held_at_start suspects suspected = record {
@@ -78,7 +80,8 @@ module _ {after : Links} {root : ℕ} {old : Vertex → Option ℕ} where
         ];
   }
 
-  -- A suspect without support is lost, and the heads of its links that it might have supported are suspected.
+  -- A suspect without support is lost, and the heads of its links that it might have supported are
+  -- suspected.
   pub held_lost : (lost more suspects rest : List Vertex) (v : Vertex) → AreHeld after root old lost suspects
       → ((w : Vertex) → Contains suspects w → (w ≡ v) ⊎ Contains rest w)
       → ((w : Vertex) → Contains lost w → Contains more w) → Contains more v → ((w : Vertex) → Contains more w → (w ≡ v) ⊎ Contains lost w)
@@ -144,7 +147,7 @@ module _ {after : Links} {root : ℕ} {has_root : Type 0} {old : Vertex → Opti
   kept_path to d is = by_rank old KeepsPath keeps_path to d is d is
 
 module _ (after : Links) (has_root : Type 0) {before : Links} {root : ℕ} {had_root : Type 0} {old : Vertex → Option ℕ} (were : AreDistances before root had_root old) where
-  -- what is both before and after stood before
+  -- a link that is both before and after was before
   stood : (from to : Vertex) (cost : ℕ) (label : Label) → Between before after from to cost label → before from to cost label
   stood from to cost label taken = taken.0
 

@@ -38,7 +38,7 @@ no_queue = empty
 none_queued : (v : Vertex) (k : ℕ) → get no_queue v ≡ Some k → ⊥
 none_queued v k at = let both : Some k ≡ None = sym at ∙ get-empty vertex_cmp v in cc
 
--- what is offered at the start, over links into what is lost and over links that came
+-- the offers at the start, over links into what is lost and over added links
 abbrev AtStart : Links → ℕ → (Vertex → Option ℕ) → List Vertex → List Link → Vertex → ℕ → Type 0
 AtStart after root start lost came v e = Into after root start lost v e ⊎ OverReached root start came v e
 

@@ -1,4 +1,4 @@
--- What is said of a value that is there, or of one that is not.
+-- The cases of a value that is there, or is not.
 use Rattle.std.proofs.Common.{◌≡◌, Option, Some, None, refl, ◌⊎◌, inl, inr}
 use Rattle.std.specs.Prelude.{is_some, IfSome, IfNone, true, false}
 

@@ -57,7 +57,7 @@ module _ (link : Links) (root : ℕ) where
   empty_to_root [] leads = refl
   empty_to_root (step ∷ way) leads = absurd ((last_step (Router root) (Router root) step way leads).other refl)
 
-  -- the cost of a way is that of what comes before its last step, and the last step's
+  -- the cost of a way is the cost before its last step, and the cost of the last step
   pub cost_before : (from to : Vertex) (way : List TakenLink) (e : EndsIn link root from way to) → cost_of way ≡ cost_of e.before + e.cost
   cost_before from to way e = rw e.whole (cost_of-push e.before (step_to to e.cost e.label))
 

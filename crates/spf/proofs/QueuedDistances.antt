@@ -1,4 +1,5 @@
--- How the distances after are found: from those that are kept, by taking the nearest queued vertex again and again.
+-- How the distances after are found: from those that are kept, by taking the nearest queued vertex
+-- again and again.
 use Rattle.std.proofs.Common.{◌≡◌, ◌≢◌, ℕ, ◌+◌, ◌<◌, ◌≤◌, List, [], Option, Some, None, refl, sym, ap, subst, ◌∙◌, ◌⊎◌, inl, inr, arith}
 use Rattle.std.specs.List.{Contains}
 use Rattle.ospf_types.specs.declared.entry.Vertex.{Vertex}
@@ -77,7 +78,8 @@ module _ {link : Links} {root : ℕ} {has_root : Type 0} where
     ];
   }
 
--- The vertex that is taken is nearer than it was. What else was queued stays so, or nearer, and each link out of the vertex is offered: then the links stay fair.
+-- The vertex that is taken is nearer than it was. What else was queued stays so, or nearer, and
+-- each link out of the vertex is offered: then the links stay fair.
 pub fair_taken : {link : Links} {root : ℕ} (distance queue new more : Vertex → Option ℕ) (v : Vertex) (k : ℕ) → AreFair link root distance queue → queue v ≡ Some k → IsSet distance new v k
     → ((d : ℕ) → distance v ≡ Some d → k ≤ d)
     → ((w : Vertex) (e : ℕ) → w ≢ v → queue w ≡ Some e → IsWithin (more w) e)
@@ -114,7 +116,8 @@ fair_taken {link} {root} distance queue new more v k fair waits set nearer stays
     ]
 
 module _ {link : Links} {root : ℕ} {has_root : Type 0} (links : AreLinks link root has_root) where
-  -- Where the vertex of least rank is taken, and what is put is offered over its links, nothing queued has a lesser rank than what was taken.
+  -- Where the vertex of least rank is taken, and what is put is offered over its links, nothing
+  -- queued has a lesser rank than what was taken.
   pub forward_taken : (distance queue new more : Vertex → Option ℕ) (taken all : List Vertex) (v : Vertex) (k : ℕ) → AreForward distance queue taken → queue v ≡ Some k → IsSet distance new v k
       → ((w : Vertex) (e : ℕ) → queue w ≡ Some e → rank v k ≤ rank w e)
       → ((w : Vertex) (e : ℕ) → more w ≡ Some e → (queue w ≡ Some e) ⊎ ((cost : ℕ) × (label : Label) × link v w cost label × (k + cost ≤ e)))
@@ -135,7 +138,8 @@ module _ {link : Links} {root : ℕ} {has_root : Type 0} (links : AreLinks link 
         ];
   }
 
-  -- So no link out of the vertex that is taken leads nearer to one that was taken before: none is taken twice.
+  -- So no link out of the vertex that is taken leads nearer to one that was taken before: none is
+  -- taken twice.
   pub none_nearer : (distance queue : Vertex → Option ℕ) (taken : List Vertex) (v done : Vertex) (k d cost : ℕ) (label : Label) → AreForward distance queue taken → queue v ≡ Some k → Contains taken done → distance done ≡ Some d
       → link v done cost label → d ≤ k + cost
   none_nearer distance queue taken v done k d cost label before waits in_taken at over =

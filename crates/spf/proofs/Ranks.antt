@@ -1,4 +1,5 @@
--- The rank grows along every link that goes no nearer, and so along every least link: what is shown of a vertex may rest on its tails.
+-- The rank grows along every link that goes no nearer, and so along every least link: what is shown
+-- of a vertex may rest on its tails.
 use Rattle.std.proofs.Common.{◌≡◌, ℕ, ◌+◌, ◌<◌, ◌≤◌, zero, suc, Option, Some, sym, ◌∙◌, arith}
 use Rattle.ospf_types.specs.declared.entry.Vertex.{Vertex}
 use Rattle.ospf_types.specs.declared.entry.Vertex.TheVariants.{Router, Network}

@@ -1,4 +1,5 @@
--- Distances are bounded: a least path leaves each router once, and costs at most the greatest cost of a link for each.
+-- Distances are bounded: a least path leaves each router once, and costs at most the greatest cost
+-- of a link for each.
 use Rattle.std.proofs.Common.{◌≡◌, ℕ, zero, suc, ◌+◌, ◌*◌, ◌<◌, ◌≤◌, List, [], ◌∷◌, ◌++◌, length, Option, Some, sym, ap, subst, inl, inr, length-append, arith}
 use Rattle.std.specs.List.{Contains}
 use Rattle.std.proofs.lemmas.Nat.{mul-le}
@@ -14,7 +15,8 @@ use Rattle.ospf_types.proofs.Elements.{no_element}
 use Rattle.spf.proofs.Paths.{last_step, cost_before, beginning, same_distance}
 
 module _ {link : Links} {root : ℕ} {has_root : Type 0} {most : ℕ} {routers : List ℕ} (are : AreLinks link root has_root) (costs : AreCosts link most routers) where
-  -- the routers that a least path of this cost leaves: each once, each nearer than the cost, which is no more than the greatest cost of a link for each
+  -- the routers that a least path of this cost leaves, without duplicates, each nearer than the
+  -- cost, which is no more than the greatest cost of a link for each
   record LeavesRouters (d : ℕ) : Type 0 where
     pub left : List ℕ
     pub apart : HasNoDoubles left

@@ -1,4 +1,4 @@
--- What a repair ends with: the tree of the links after, and work that is bounded by what differs.
+-- The end of a repair: the tree of the links after, and work that is bounded by what differs.
 use Rattle.std.proofs.Common.{◌≡◌, ◌≢◌, ℕ, ◌+◌, ◌*◌, ◌≤◌, List, [], ◌++◌, length, Option, Some, None, ◌⊎◌, inl, inr, sym, ◌∙◌}
 use Rattle.std.specs.Prelude.{◌↔◌}
 use Rattle.std.specs.List.{Contains}
@@ -18,7 +18,7 @@ use Rattle.spf.proofs.Whole.{tree_unions}
 use Rattle.spf.proofs.RelaxLoop.{relax_end}
 use Rattle.spf.proofs.UpdateNextHopsLoop.{update_next_hops_start, update_next_hops_end}
 
--- what is told of the lost stays so where more is stale
+-- the facts of the lost stay so where more is stale
 pub told_wider : {after gone : Links} {root : ℕ} {old : Vertex → Option ℕ} {lost : List Vertex} (stale wider : List Vertex) → AreToldLost after gone root old lost stale → ((v : Vertex) → Contains stale v → Contains wider v)
     → AreToldLost after gone root old lost wider
 told_wider stale wider t widens = record {
@@ -30,7 +30,8 @@ module _ {before after gone come : Links} {root : ℕ} {had_root has_root : Type
     (links_before : AreLinks before root had_root) (links : AreLinks after root has_root) (was : IsTree before root had_root old sets)
     (l : AreLosingSupport before after gone root had_root has_root old lost [] told) (reset : IsReset root has_root old lost start)
     (n : AreRelaxing after come root has_root start distance queue moved stale) (none : IsEmptyQueue queue) where
-  -- Between relaxing and updating next hops: all that was moved or is stale is queued, and the sets of what is reached are unchanged.
+  -- Between relaxing and updating next hops: all that was moved or is stale is queued, and the sets
+  -- of what is reached are unchanged.
   pub update_next_hops_opened : AreGone before after gone → AreCome before after come start → ((v : Vertex) → Contains told v → Contains stale v)
       → (now : Vertex → NextHop → Type 0) (again : Vertex → Option ℕ)
       → ((v : Vertex) (d : ℕ) → distance v ≡ Some d → (h : NextHop) → now v h ↔ sets v h)
@@ -62,7 +63,8 @@ module _ {before after gone come : Links} {root : ℕ} {had_root has_root : Type
       → IsTree after root has_root distance now
   tree_after h none_again blank_root blank = update_next_hops_end h links (relax_end n none) none_again blank_root blank
 
-  -- And the work of all three is bounded: what is taken from the queues, and the sets that are written, those of lost vertices that stay unreached among them.
+  -- And the work of all three is bounded: what is taken from the queues, and the sets that are
+  -- written, those of lost vertices that stay unreached among them.
   module _ {begun now : Vertex → NextHop → Type 0} {again : Vertex → Option ℕ} {taken written : List Vertex} {first second heads first_out second_out : List Vertex} (changes : AreChanges before after gone come)
       (owed : AreOwed root before after gone come had_root has_root first second heads first_out second_out)
       (h : AreUpdatingNextHops after root distance again begun now taken written) (after_tree : IsTree after root has_root distance now)
@@ -89,7 +91,7 @@ module _ {before after gone come : Links} {root : ℕ} {had_root has_root : Type
       | inr gone_v ↦ Contains-append_left first second v (lost_differs owed changes was.distances after_tree.distances l.dear (λ u x. let r = l.reached u x in (r.number, r.at)) reset n.ended n.moved_other v gone_v)
     ])
 
-    -- What is reached and has other next hops than before is written.
+    -- A vertex that is reached and has other next hops than before is written.
     pub written_if_other : (v : Vertex) (d : ℕ) → distance v ≡ Some d → (((g : NextHop) → IsHop before root had_root v g ↔ IsHop after root has_root v g) → ⊥) → Contains written v
     written_if_other v d at differs = elim (cases_contains written v) [
       | inl w ↦ w

@@ -1,4 +1,4 @@
--- What the distances are once those of lost vertices were taken out, and that of the root set.
+-- The distances after those of lost vertices were removed, and the root's was set.
 use Rattle.std.proofs.Common.{◌≡◌, ℕ, ◌+◌, ◌<◌, ◌==◌, Bool, true, not, List, [], ◌∷◌, length, take, get_or, Option, refl, sym, ap, subst, ◌∙◌, inl, inr}
 use Rattle.std.specs.List.{Contains}
 use Rattle.std.specs.FinMap.{get, insert, remove}

@@ -1,4 +1,5 @@
--- What holds over links holds over the same links, given another way: paths, distances, next hops and trees.
+-- What holds over links holds over the same links, given another way: paths, distances, next hops
+-- and trees.
 use Rattle.std.proofs.Common.{◌≡◌, ℕ, List, Option, sym, ◌∙◌, inl, inr}
 use Rattle.std.specs.Prelude.{◌↔◌}
 use Rattle.ospf_types.specs.declared.entry.Vertex.{Vertex}

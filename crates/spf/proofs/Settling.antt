@@ -1,4 +1,5 @@
--- What was neither moved nor told is settled: its least links are those of before, so its next hops are right if those of their tails stayed.
+-- A vertex that was neither moved nor stale is settled: its least links are as before, so its next
+-- hops are right if those of their tails stayed.
 use Rattle.std.proofs.Common.{◌≡◌, ◌≢◌, ℕ, ◌+◌, List, Option, Some, None, sym, ap, subst, ◌∙◌, ◌⊎◌, inl, inr, arith}
 use Rattle.std.specs.Prelude.{◌↔◌}
 use Rattle.std.specs.List.{Contains}
@@ -26,7 +27,8 @@ given_more A B root near far sets more to h least kept given = record {
   gives = gives_more root sets more given.from to given.label h (kept given.from given.cost given.label given.least) given.gives;
 }
 
--- Where the vertex that is taken tells the heads of its links that are as near over it, all are told.
+-- Where the heads of the links of the vertex that is taken become stale if they are as near, all
+-- are stale.
 pub told_taken : {after come : Links} {root : ℕ} (distance queue new more : Vertex → Option ℕ) (moved all stale wider : List Vertex) (v : Vertex) (k : ℕ) → AreTold after come root distance queue moved stale → IsSet distance new v k
     → ((w : Vertex) → Contains moved w → Contains all w) → Contains all v → ((w : Vertex) → Contains all w → (w ≡ v) ⊎ Contains moved w)
     → ((w : Vertex) → Contains stale w → Contains wider w)
@@ -73,7 +75,8 @@ module _ {before after gone come : Links} {root : ℕ} {had_root has_root : Type
   not_queued v q = let differ : Some q.0 ≡ None = sym q.1 ∙ none v in cc
 
   module _ (to : Vertex) (d : ℕ) (other : to ≢ Router root) (at : distance to ≡ Some d) (still : Contains moved to → ⊥) (fresh : Contains stale to → ⊥) where
-    -- A least link of before is one after: it did not go, its tail was not lost, and a nearer tail would have moved its head.
+    -- A least link of before is one after: it did not go, its tail was not lost, and a nearer tail
+    -- would have moved its head.
     pub still_least : (from : Vertex) (cost : ℕ) (label : Label) → IsLeast before old from to cost label → IsLeast after distance from to cost label
     still_least from cost label least = elim (are_gone.went from to cost label least.taken) [
       | inr went ↦ absurd (fresh (told_lost.went from to cost label other (record { taken = went; near = least.near; tail = least.tail; head = least.head })))
@@ -123,7 +126,8 @@ module _ {before after gone come : Links} {root : ℕ} {had_root has_root : Type
           | inr from_other ↦ sym (unmoved from least.near from_other least.tail (λ m. untold (inr m))).1 ∙ least.tail
         ]
 
-  -- Where the sets of what is reached stand as they were, the set of what was neither moved nor told is what its least links give it.
+  -- Where the sets of reached vertices are unchanged, the set of a vertex that was neither moved
+  -- nor stale is what its least links give it.
   pub right_where_fresh : (sets now : Vertex → NextHop → Type 0) → AreUnions before root old sets
       → ((v : Vertex) (d : ℕ) → distance v ≡ Some d → (h : NextHop) → now v h ↔ sets v h)
       → (to : Vertex) (d : ℕ) → distance to ≡ Some d → to ≢ Router root → (Contains moved to → ⊥) → (Contains stale to → ⊥)

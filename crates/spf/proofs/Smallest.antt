@@ -1,4 +1,5 @@
--- A tree of one link, built step by step, and left when the link goes: each record of the loops can be met.
+-- A tree of one link, built step by step, and left when the link goes: each record of the loops can
+-- be met.
 use Rattle.std.proofs.Common.{◌≡◌, ◌≢◌, ℕ, zero, suc, ◌+◌, List, [], ◌∷◌, Option, Some, None, refl, sym, ap, subst, ◌∙◌, ◌⊎◌, inl, inr, arith}
 use Rattle.std.specs.Prelude.{◌↔◌}
 use Rattle.std.specs.List.{Contains}
@@ -91,7 +92,7 @@ differ e = cc
 reset : IsReset 0 (Unit {0}) no_distances [] start
 reset = record { rooted = λ has. refl; rootless = λ none. absurd (none tt); blank = λ v other none. absurd (no_element v none); kept = λ v other kept. unset v other }
 
--- the link came, and is offered
+-- the link was added, and is offered
 opened : IsOpened one_link one_link 0 [] start queue []
 opened = record {
   into_lost = λ from to cost label d none. absurd (no_element to none);

@@ -1,4 +1,5 @@
--- The search for what is lost, piece by piece: who is told over a list of links, what comes of one suspect, and that the suspects run out.
+-- The search for what is lost, piece by piece: who becomes stale over a list of links, what comes
+-- of one suspect, and that the suspects run out.
 use Rattle.std.proofs.Common.{◌≡◌, ℕ, Bool, true, ◌+◌, ◌-◌, ◌*◌, ◌<◌, ◌≤◌, List, [], ◌∷◌, ◌++◌, Option, Some, length, get_or, take, refl, sym, ap, subst, ◌∙◌, ◌⊎◌, inl, inr, arith, length-append}
 use Rattle.std.specs.List.{All, Contains}
 use Rattle.std.specs.FinMap.{get, len}
@@ -24,7 +25,7 @@ use Rattle.spf.proofs.Before.{earlier_changes}
 use Rattle.spf.proofs.Falling.{lose_support_falls}
 use Rattle.spf.proofs.LoseSupportLoop.{lose_support_start, lose_support_passed, lose_support_lost}
 
--- ---- who is told
+-- ---- the vertices that become stale
 
 -- what was pushed, or was there, has no doubles
 pub member_apart : (old new : List Vertex) (v : Vertex) (fresh : Bool) → IsWithMember old new v fresh → HasNoDoubles old → HasNoDoubles new
@@ -36,7 +37,7 @@ pub member_fresh : (old new : List Vertex) (v : Vertex) (fresh : Bool) → IsWit
 member_fresh old new v fresh (inl one) is = one.2
 member_fresh old new v fresh (inr same) is = λ there. let no = same.0 in absurd cc
 
--- what is lost or suspected is still stale after more were told
+-- a lost or suspected vertex is still stale after more became stale
 pub within_told : {Told : Vertex → Type 0} (lost stale wider suspects more : List Vertex) → AreWithin lost suspects stale → AreToldOf Told lost stale wider suspects more → AreWithin lost more wider
 within_told lost stale wider suspects more within told v (inl gone) = told.widens v (within v (inl gone))
 within_told lost stale wider suspects more within told v (inr waits) = elim (told.suspects_only v waits) [ inl was ↦ told.widens v (within v (inr was)) | inr is ↦ (told.told v is).0 ]
@@ -150,7 +151,7 @@ module _ (Passes : Link → Type 0) (links : List Link) where
     head_here : Passes l → (v : Vertex) → l.to ≡ v → HeadsBefore (i + 1) v
     head_here passes v is = (l, subst (λ (ls : List Link). Contains ls l) (sym next_is) (Contains-push (take i links) l), passes, is)
 
-    -- a link that passes, and whose head is told
+    -- a link that passes, and whose head becomes stale
     pub told_next : (lost stale wide wider suspects some more : List Vertex) → AreToldOf (HeadsBefore i) lost stale wide suspects some → Passes l
         → AreToldOf (λ v. l.to ≡ v) lost wide wider some more → AreToldOf (HeadsBefore (i + 1)) lost stale wider suspects more
     told_next lost stale wide wider suspects some more before passes now =
@@ -229,7 +230,7 @@ module _ (g : GraphValue) (old : Vertex → Option ℕ) (lost suspects stale : L
 -- ---- the loop
 
 module _ (g : GraphValue) (gone come : List Link) (old : Vertex → Option ℕ) (is : IsBefore g gone come old) where
-  -- at the start the heads of the removed least links are told
+  -- at the start the heads of the removed least links become stale
   pub suspected_at_start : (suspects stale : List Vertex) → AreToldOf (IsHead (WasLeast g.root old) gone) [] [] stale [] suspects → AreSuspected g gone come old [] suspects stale
   suspected_at_start suspects stale told = record {
     losing_support = lose_support_start is.distances (record { went = (earlier_changes (LinksOf g) gone come).went }) suspects stale
@@ -250,7 +251,7 @@ module _ (g : GraphValue) (gone come : List Link) (old : Vertex → Option ℕ) 
   }
 
   module _ (lost more suspects rest again stale wider : List Vertex) (v : Vertex) (popped : suspects ≡ rest ++ v ∷ []) where
-    -- the suspect that was taken out stood among them
+    -- the suspect that was removed was among them
     one_out : IsAdded rest suspects v
     one_out = subst (λ (vs : List Vertex). IsAdded rest vs v) (sym popped) (added_end v rest)
 
@@ -290,7 +291,8 @@ module _ (g : GraphValue) (gone come : List Link) (old : Vertex → Option ℕ) 
 pub lost_at_end : (g : GraphValue) (gone come : List Link) (old : Vertex → Option ℕ) (lost stale : List Vertex) → AreSuspected g gone come old lost [] stale → AreLost g gone come old lost stale
 lost_at_end g gone come old lost stale s = record { losing_support = s.losing_support; why = s.why }
 
--- No more are lost, and no more suspected, than have a distance. So each round comes nearer to the end.
+-- No more are lost, and no more suspected, than have a distance. So each round comes nearer to the
+-- end.
 pub suspects_fall : (g : GraphValue) (gone come : List Link) (m : DistanceMap) (lost more suspects rest again stale wider : List Vertex) (v : Vertex) → suspects ≡ rest ++ v ∷ []
     → IsJudged g (get m) lost more rest again stale wider v → AreSuspected g gone come (get m) more again wider
     → (len m - length more) * (len m + 1) + length again < (len m - length lost) * (len m + 1) + length suspects

@@ -1,4 +1,5 @@
--- What is taken from the queue of distances is right at once: the value at which the vertex of least rank is queued is its distance.
+-- A vertex taken from the queue of distances is right at once: the value at which the vertex of
+-- least rank is queued is its distance.
 use Rattle.std.proofs.Common.{◌≡◌, ℕ, ◌+◌, ◌≤◌, List, [], ◌∷◌, Option, Some, subst, inl, inr, arith}
 use Rattle.ospf_types.specs.declared.entry.Vertex.{Vertex}
 use Rattle.ospf_types.specs.declared.entry.Vertex.TheVariants.{Router, Network}
@@ -17,7 +18,8 @@ no_farther (Network a) (Network b) k e most = omega arith
 module _ {after come : Links} {root : ℕ} {has_root : Type 0} {start distance queue : Vertex → Option ℕ} {moved stale : List Vertex}
     (n : AreRelaxing after come root has_root start distance queue moved stale) where
   module _ (v : Vertex) (k : ℕ) (waits : queue v ≡ Some k) (least : (w : Vertex) (e : ℕ) → queue w ≡ Some e → rank v k ≤ rank w e) where
-    -- a way from a reached vertex costs, with its distance, as much as the vertex of least rank is queued at: it leads over what is reached, or over what is queued as far
+    -- a way from a reached vertex costs, with its distance, as much as the vertex of least rank is
+    -- queued at: it leads over what is reached, or over what is queued as far
     way_as_long : (from : Vertex) (d : ℕ) (way : List TakenLink) → distance from ≡ Some d → Leads after root from way v → k ≤ d + cost_of way
     way_as_long from d [] is leads = omega (arith, n.less v k d waits (subst (λ w. distance w ≡ Some d) leads is))
     way_as_long from d (step ∷ way) is leads = elim (n.fair.fair from step.to step.cost step.label d leads.0 leads.1 is) [

@@ -1,4 +1,5 @@
--- Updating next hops: the invariant of the loop holds in each round, and gives the next hops at the end.
+-- Updating next hops: the invariant of the loop holds in each round, and gives the next hops at the
+-- end.
 use Rattle.std.proofs.Common.{◌≡◌, ◌≢◌, ℕ, ◌+◌, ◌≤◌, List, [], Option, Some, None, refl, sym, subst, ◌∙◌, inl, inr, arith, ◌⊎◌}
 use Rattle.std.specs.Prelude.{◌↔◌}
 use Rattle.std.specs.List.{Contains}
@@ -37,7 +38,8 @@ module _ {link : Links} {root : ℕ} {distance queue : Vertex → Option ℕ} {s
   pub kept_until_taken : (v : Vertex) → (Contains taken v → ⊥) → (h : NextHop) → now v h ↔ sets v h
   kept_until_taken v none = n.unwritten v (λ c. none (n.within v c))
 
-  -- with nothing queued, and no next hops at the root and at what is not reached, the tree belongs to the links
+  -- with nothing queued, and no next hops at the root and at what is not reached, the tree belongs
+  -- to the links
   pub update_next_hops_end : {has_root : Type 0} → AreLinks link root has_root → AreDistances link root has_root distance → IsEmptyQueue queue
       → ((h : NextHop) → sets (Router root) h → ⊥) → ((to : Vertex) → distance to ≡ None → (h : NextHop) → sets to h → ⊥)
       → IsTree link root has_root distance now

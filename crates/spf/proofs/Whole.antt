@@ -1,4 +1,5 @@
--- The tree before and after a repair: the blank tree, from which the first is built, and what the end of a repair gives.
+-- The tree before and after a repair: the blank tree, from which the first is built, and what the
+-- end of a repair gives.
 use Rattle.std.specs.Prelude.{◌↔◌}
 use Rattle.std.proofs.Common.{◌≡◌, ℕ, Option, Some, None}
 use Rattle.ospf_types.specs.declared.entry.Vertex.{Vertex}
@@ -41,7 +42,7 @@ module _ {before after gone come : Links} where
   pub are_gone : AreChanges before after gone come → AreGone before after gone
   are_gone changes = record { went = changes.went }
 
-  -- and those that came, whatever has a distance at the start
+  -- and the added links, whatever has a distance at the start
   pub are_come : AreChanges before after gone come → (start : Vertex → Option ℕ) → AreCome before after come start
   are_come changes start = record { came = λ from to cost label d taken is. changes.came from to cost label taken }
 
@@ -56,7 +57,9 @@ module _ {link : Links} {root : ℕ} {has_root : Type 0} {distance : Vertex → 
         );
   }
 
-  -- What a repair leaves is the tree: nothing is queued, the links are fair and the distances real; then no set is queued, and each is right; the root and what is not reached have none.
+  -- The result of a repair is the tree: nothing is queued, the links are fair and the distances
+  -- real;
+  -- then no set is queued, and each is right; the root and what is not reached have none.
   pub tree_at_end : AreLinks link root has_root → (queue again : Vertex → Option ℕ) → (has_root → distance (Router root) ≡ Some 0) → IsEmptyQueue queue → AreFair link root distance queue → AreReal link root has_root distance
       → IsEmptyQueue again → AreRightOrQueued link root distance again hops
       → ((h : NextHop) → hops (Router root) h → ⊥) → ((to : Vertex) → distance to ≡ None → (h : NextHop) → hops to h → ⊥)

@@ -1,4 +1,5 @@
--- How the next hops after are found: a set that is written breaks only what its least links pass on, and those are looked at later.
+-- How the next hops after are found: a set that is written breaks only what its least links pass
+-- on, and those are looked at later.
 use Rattle.std.proofs.Common.{◌≡◌, ◌≢◌, ℕ, ◌+◌, ◌<◌, List, Option, Some, None, refl, sym, ap, subst, ◌∙◌, ◌⊎◌, inl, inr, arith}
 use Rattle.std.specs.Prelude.{◌↔◌}
 use Rattle.std.specs.List.{Contains}
@@ -45,7 +46,8 @@ module _ {link : Links} {root : ℕ} {has_root : Type 0} (links : AreLinks link 
   none_again distance queue taken v done k d cost label before waits at least at_done in_taken =
       omega (arith, before.forward done v d k in_taken at_done waits, least_later distance v done cost label k d least at at_done)
 
-  -- A set is written from the sets as they stand, and the heads of its least links are queued, or it stays as it was. Then each set is right or queued.
+  -- A set is written from the sets as they stand, and the heads of its least links are queued, or
+  -- it is unchanged. Then each set is right or queued.
   pub right_written : (distance queue more : Vertex → Option ℕ) (sets new : Vertex → NextHop → Type 0) (v : Vertex) → AreRightOrQueued link root distance queue sets
       → ((w : Vertex) → w ≢ v → IsQueued queue w → IsQueued more w)
       → ((h : NextHop) → new v h ↔ IsGiven link root distance sets v h)

@@ -1,4 +1,4 @@
--- The changes of links as lists: those that went and those that came.
+-- The changes of links as lists: the removed links and the added links.
 use Rattle.std.specs.Prelude.{◌↔◌, ℕ, ◌⊎◌, List, Contains}
 use Rattle.ospf_types.specs.declared.entry.Vertex.{Vertex}
 use Rattle.ospf_types.specs.declared.label.Label.{Label}
@@ -13,7 +13,7 @@ link_value v w c l = record { from = v; to = w; cost = c; label = l }
 abbrev pub Among : List Link → Links
 Among links from to cost label = Contains links (link_value from to cost label)
 
--- the links before: those after that did not come, and those that went
+-- the links before: the links after that were not added, and the removed links
 abbrev pub Earlier : Links → List Link → List Link → Links
 Earlier after gone come from to cost label = (after from to cost label × (Among come from to cost label → ⊥)) ⊎ Among gone from to cost label
 

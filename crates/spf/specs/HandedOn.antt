@@ -1,4 +1,5 @@
--- The steps that update next hops: what a link gives, what is put into the queue, what is written at one vertex.
+-- The steps that update next hops: what a link gives, what is put into the queue, what is written
+-- at one vertex.
 use Rattle.std.specs.Prelude.{◌↔◌, ◌⊎◌, ℕ, ◌+◌, ◌≡◌, ◌≢◌, ◌++◌, ◌∷◌, List, [], length, Contains, Option, Some, None}
 use Rattle.ospf_types.specs.declared.entry.Vertex.{Vertex}
 use Rattle.ospf_types.specs.declared.entry.Vertex.TheVariants.{Router}
@@ -95,7 +96,8 @@ AreReachedPut root distances vertices old new =
 abbrev pub IsReachedPut : ℕ → DistanceMap → Vertex → Queue → Queue → Type 0
 IsReachedPut root distances v old new = ArePut (get distances) (IsReachedAt root (get distances) v) (get old) (get new)
 
--- the heads of the least links of the graph out of the vertex are put into the queue, but not the root
+-- the heads of the least links of the graph out of the vertex are put into the queue, but not the
+-- root
 abbrev pub AreHeadsPut : GraphValue → DistanceMap → Vertex → Queue → Queue → Type 0
 AreHeadsPut g distances v old new =
     ArePut (get distances) (IsLeastHead (LinksOf g) g.root (get distances) v) (get old) (get new)
@@ -106,7 +108,8 @@ IsHeadPut root distances l old new = ArePut (get distances) (IsHeadOver root (ge
 
 -- ---- what is written
 
--- What is in the list and is not reached is written, without duplicates, and has no next hops. The others stay.
+-- The vertices of the list that are not reached are written, without duplicates, and have no next
+-- hops. The others stay.
 pub record AreBlanked (distance : Vertex → Option ℕ) (vertices : List Vertex) (old new : HopMap) (written : List Vertex) : Type 0 where
   pub exact : (v : Vertex) → Contains written v ↔ (Contains vertices v × (distance v ≡ None))
   pub apart : HasNoDoubles written
@@ -117,19 +120,22 @@ pub record AreBlanked (distance : Vertex → Option ℕ) (vertices : List Vertex
 abbrev pub AreBlank : DistanceMap → List Vertex → HopMap → HopMap → List Vertex → Type 0
 AreBlank distances lost old new written = AreBlanked (get distances) lost old new written
 
--- The vertex has what its least links give it. If that is another set, it was written, and the heads of its least links are put into the queue.
+-- The vertex has what its least links give it. If that is another set, it was written, and the
+-- heads of its least links are put into the queue.
 pub record IsSettled (link : Links) (root : ℕ) (distance : Vertex → Option ℕ) (queue more : Queue) (now new : Vertex → NextHop → Type 0) (written wider : List Vertex) (v : Vertex) : Type 0 where
   pub union : (h : NextHop) → new v h ↔ IsGiven link root distance now v h
   pub elsewhere : (w : Vertex) → w ≢ v → (h : NextHop) → new w h ↔ now w h
   pub outcome : ((wider ≡ written ++ v ∷ []) × (((h : NextHop) → new v h ↔ now v h) → ⊥) × ArePut distance (IsLeastHead link root distance v) (get queue) (get more))
       ⊎ ((wider ≡ written) × ((h : NextHop) → new v h ↔ now v h) × (more ≡ queue))
 
--- the vertex has what the least links of the graph give it, where next hops and what was written are from before to after
+-- the vertex has what the least links of the graph give it, where next hops and what was written
+-- are from before to after
 abbrev pub IsSettledIn : GraphValue → DistanceMap → Vertex → Queue → Queue → HopMap → HopMap → List Vertex → List Vertex → Type 0
 IsSettledIn g distances v queue more old new written wider =
     IsSettled (LinksOf g) g.root (get distances) queue more (hops_of old) (hops_of new) written wider v
 
--- While vertices wait: those that were taken, and those that were written since what is lost is blank. The counts are from the start to now.
+-- While vertices wait: those that were taken, and those that were written since what is lost is
+-- blank. The counts are from the start to now.
 pub record IsAmidst (g : GraphValue) (distance : Vertex → Option ℕ) (begun now : Vertex → NextHop → Type 0) (queue : Queue) (blanked moved stale written : List Vertex) (start number sets : ℕ) : Type 0 where
   pub taken : List Vertex
   pub set : List Vertex

@@ -1,4 +1,5 @@
--- The loops of a repair: losing support, relaxing, updating next hops. Each has its invariant as one record, and another for what one round does.
+-- The loops of a repair: losing support, relaxing, updating next hops. Each has its invariant as
+-- one record, and another for what one round does.
 use Rattle.std.specs.Prelude.{◌↔◌, ℕ, ◌+◌, ◌≡◌, ◌≢◌, ◌<◌, ◌≤◌, ◌⊎◌, List, Contains, Option, Some}
 use Rattle.ospf_types.specs.declared.entry.Vertex.{Vertex}
 use Rattle.ospf_types.specs.declared.entry.Vertex.TheVariants.{Router}
@@ -23,7 +24,8 @@ pub record AreLosingSupport (before after gone : Links) (root : ℕ) (had_root h
   pub reached : (v : Vertex) → Contains lost v → IsReached root old v
   pub suspected : (v : Vertex) → Contains suspects v → IsReached root old v
 
--- A suspect without support is lost. The heads of its links that it might have supported are stale, and suspected unless they are lost.
+-- A suspect without support is lost. The heads of its links that it might have supported are stale,
+-- and suspected unless they are lost.
 pub record IsLost (after : Links) (root : ℕ) (old : Vertex → Option ℕ) (lost more rest suspects stale wider : List Vertex) (v : Vertex) : Type 0 where
   pub unsupported : (d : ℕ) → old v ≡ Some d → IsSupported after old lost v d → ⊥
   pub adds : IsAdded lost more v
@@ -33,7 +35,8 @@ pub record IsLost (after : Links) (root : ℕ) (old : Vertex → Option ℕ) (lo
       → Contains wider to × (Contains more to ⊎ Contains suspects to)
   pub only : (w : Vertex) → Contains suspects w → Contains rest w ⊎ IsReached root old w
 
--- What opens the queue of distances: every link into what is lost is offered, and every added link. What is offered is nearer, and what is as near is told.
+-- The opening of the queue of distances: every link into what is lost is offered, and every added
+-- link. What is offered is nearer, and a vertex as near becomes stale.
 pub record IsOpened (after come : Links) (root : ℕ) (lost : List Vertex) (start queue : Vertex → Option ℕ) (stale : List Vertex) : Type 0 where
   pub into_lost : (from to : Vertex) (cost : ℕ) (label : Label) (d : ℕ) → Contains lost to → to ≢ Router root → after from to cost label → start from ≡ Some d → IsWithin (queue to) (d + cost)
   pub over_new : (from to : Vertex) (cost : ℕ) (label : Label) (d : ℕ) → come from to cost label → to ≢ Router root → start from ≡ Some d → IsWithin (start to) (d + cost) ⊎ IsWithin (queue to) (d + cost)
@@ -64,7 +67,8 @@ pub record IsPut (link : Links) (root : ℕ) (distance : Vertex → Option ℕ) 
   pub sum : e ≡ k + cost
   pub nearer : (d : ℕ) → distance to ≡ Some d → e < d
 
--- The vertex of least rank is taken from the queue and gets its distance. Each link out of it is offered, and tells its head if that is as near over it.
+-- The vertex of least rank is taken from the queue and gets its distance. Each link out of it is
+-- offered, and tells its head if that is as near over it.
 pub record IsTaken (link : Links) (root : ℕ) (distance queue new more : Vertex → Option ℕ) (stale wider : List Vertex) (v : Vertex) (k : ℕ) : Type 0 where
   pub waits : queue v ≡ Some k
   pub least : (w : Vertex) (e : ℕ) → queue w ≡ Some e → rank v k ≤ rank w e
@@ -94,7 +98,8 @@ pub record IsPutAgain (link : Links) (root : ℕ) (distance : Vertex → Option 
   pub other : to ≢ Router root
   pub at : distance to ≡ Some e
 
--- The vertex of least rank is taken from the queue, and its set becomes what its least links give. If that is another set, it is written, and the heads of the least links out of it are queued.
+-- The vertex of least rank is taken from the queue, and its set becomes what its least links give.
+-- If that is another set, it is written, and the heads of the least links out of it are queued.
 pub record IsUpdated (link : Links) (root : ℕ) (distance queue more : Vertex → Option ℕ) (now new : Vertex → NextHop → Type 0) (written wider : List Vertex) (v : Vertex) (k : ℕ) : Type 0 where
   pub waits : queue v ≡ Some k
   pub least : (w : Vertex) (e : ℕ) → queue w ≡ Some e → rank v k ≤ rank w e

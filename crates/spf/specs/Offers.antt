@@ -1,4 +1,5 @@
--- What links offer vertices: each a distance at which it can be reached. A nearer one is queued; over one that is as near the vertex has another least link.
+-- What links offer vertices: each a distance at which it can be reached. A nearer one is queued;
+-- over one that is as near the vertex has another least link.
 use Rattle.std.specs.Prelude.{ℕ, ◌+◌, ◌≡◌, ◌≢◌, ◌<◌, ◌⊎◌, List, Contains, Option, Some, None}
 use Rattle.std.specs.FinMap.{get}
 use Rattle.ospf_types.specs.declared.entry.Vertex.{Vertex}
@@ -39,7 +40,8 @@ OutOf link root from near to e = (cost : ℕ) × (label : Label) × link from to
 abbrev pub Into : Links → ℕ → (Vertex → Option ℕ) → List Vertex → Offers
 Into link root distance vertices to e = (from : Vertex) × (cost : ℕ) × (label : Label) × (near : ℕ) × Contains vertices to × link from to cost label × (distance from ≡ Some near) × (to ≢ Router root) × (e ≡ near + cost)
 
--- The offers were made: what is nearer is queued, and of each vertex the nearest; what is as near makes its vertex stale.
+-- The offers were made: what is nearer is queued, and of each vertex the nearest; what is as near
+-- makes its vertex stale.
 pub record AreMade (offers : Offers) (distance queue more : Vertex → Option ℕ) (stale wider : List Vertex) : Type 0 where
   pub keeps : (v : Vertex) (e : ℕ) → queue v ≡ Some e → IsWithin (more v) e
   pub put : (v : Vertex) (e : ℕ) → more v ≡ Some e → (queue v ≡ Some e) ⊎ (offers v e × ((d : ℕ) → distance v ≡ Some d → e < d))

@@ -1,4 +1,5 @@
--- What holds while a tree is brought from the links before to those after: first the vertices that lose their distance, then the distances after, then the next hops.
+-- What holds while a tree is brought from the links before to those after: first the vertices that
+-- lose their distance, then the distances after, then the next hops.
 use Rattle.std.specs.Prelude.{◌↔◌, ℕ, ◌+◌, ◌≡◌, ◌≢◌, ◌<◌, ◌≤◌, ◌⊎◌, List, Contains, Option, Some, None}
 use Rattle.ospf_types.specs.declared.entry.Vertex.{Vertex}
 use Rattle.ospf_types.specs.declared.entry.Vertex.TheVariants.{Router}
@@ -7,7 +8,7 @@ use Rattle.ospf_types.specs.declared.label.Label.{Label}
 use Rattle.ospf_types.specs.Distances.{Links, TakenLink, IsPath, cost_of, IsDistance, IsHop}
 use Rattle.spf.specs.Trees.{IsWithin, IsLeast, rank, IsGiven}
 
--- the links that stand both before and after
+-- the links that are there both before and after
 abbrev pub Between : Links → Links → Links
 Between before after from to cost label = before from to cost label × after from to cost label
 
@@ -19,12 +20,14 @@ pub record AreGone (before after gone : Links) : Type 0 where
 pub record AreCome (before after come : Links) (start : Vertex → Option ℕ) : Type 0 where
   pub came : (from to : Vertex) (cost : ℕ) (label : Label) (d : ℕ) → after from to cost label → start from ≡ Some d → before from to cost label ⊎ come from to cost label
 
--- Each removed link is among those gone, and each added link among those come. To name more does no harm.
+-- Each removed link is among those gone, and each added link among those come. To name more does no
+-- harm.
 pub record AreChanges (before after gone come : Links) : Type 0 where
   pub went : (from to : Vertex) (cost : ℕ) (label : Label) → before from to cost label → after from to cost label ⊎ gone from to cost label
   pub came : (from to : Vertex) (cost : ℕ) (label : Label) → after from to cost label → before from to cost label ⊎ come from to cost label
 
--- a link after from a reached vertex that is not lost, over which the vertex is no farther than the limit
+-- a link after from a reached vertex that is not lost, over which the vertex is no farther than the
+-- limit
 pub record IsSupported (after : Links) (old : Vertex → Option ℕ) (lost : List Vertex) (to : Vertex) (limit : ℕ) : Type 0 where
   pub from : Vertex
   pub cost : ℕ
@@ -43,7 +46,8 @@ pub record AreHeld (after : Links) (root : ℕ) (old : Vertex → Option ℕ) (l
 pub record AreDear (link : Links) (root : ℕ) (has_root : Type 0) (old : Vertex → Option ℕ) (lost : List Vertex) : Type 0 where
   pub dear : (to : Vertex) (d : ℕ) → Contains lost to → old to ≡ Some d → (way : List TakenLink) → IsPath link root has_root way to → d < cost_of way
 
--- The distances from which those after are sought: none at what is lost, the root's by whether it is a vertex, the others as they were.
+-- The distances from which those after are sought: none at what is lost, the root's by whether it
+-- is a vertex, the others as they were.
 pub record IsReset (root : ℕ) (has_root : Type 0) (old : Vertex → Option ℕ) (lost : List Vertex) (distance : Vertex → Option ℕ) : Type 0 where
   pub rooted : has_root → distance (Router root) ≡ Some 0
   pub rootless : (has_root → ⊥) → distance (Router root) ≡ None
@@ -55,13 +59,15 @@ pub record IsSet (old new : Vertex → Option ℕ) (v : Vertex) (k : ℕ) : Type
   pub here : new v ≡ Some k
   pub elsewhere : (w : Vertex) → w ≢ v → new w ≡ old w
 
--- What was moved is reached, and nearer than at the start if it was reached there. The others stay.
+-- Each moved vertex is reached, and nearer than at the start if it was reached there. The others
+-- stay.
 pub record AreMoved (start distance : Vertex → Option ℕ) (moved : List Vertex) : Type 0 where
   pub reached : (v : Vertex) → Contains moved v → (e : ℕ) × (distance v ≡ Some e)
   pub nearer : (v : Vertex) (d e : ℕ) → Contains moved v → start v ≡ Some d → distance v ≡ Some e → e < d
   pub same : (v : Vertex) → (Contains moved v → ⊥) → distance v ≡ start v
 
--- each link from a reached vertex leads to one that is reached or queued at no more than it costs over that link
+-- each link from a reached vertex leads to one that is reached or queued at no more than it costs
+-- over that link
 pub record AreFair (link : Links) (root : ℕ) (distance queue : Vertex → Option ℕ) : Type 0 where
   pub fair : (from to : Vertex) (cost : ℕ) (label : Label) (d : ℕ) → link from to cost label → to ≢ Router root → distance from ≡ Some d
       → IsWithin (distance to) (d + cost) ⊎ IsWithin (queue to) (d + cost)
@@ -93,12 +99,14 @@ IsQueued queue v = (k : ℕ) × (queue v ≡ Some k)
 pub record AreRightOrQueued (link : Links) (root : ℕ) (distance queue : Vertex → Option ℕ) (hops : Vertex → NextHop → Type 0) : Type 0 where
   pub right : (to : Vertex) (d : ℕ) → distance to ≡ Some d → to ≢ Router root → IsQueued queue to ⊎ ((h : NextHop) → hops to h ↔ IsGiven link root distance hops to h)
 
--- The heads of the removed least links are stale, and so are those that what is lost might have reached over a link after.
+-- The heads of the removed least links are stale, and so are those that what is lost might have
+-- reached over a link after.
 pub record AreToldLost (after gone : Links) (root : ℕ) (old : Vertex → Option ℕ) (lost stale : List Vertex) : Type 0 where
   pub went : (from to : Vertex) (cost : ℕ) (label : Label) → to ≢ Router root → IsLeast gone old from to cost label → Contains stale to
   pub led : (from to : Vertex) (cost : ℕ) (label : Label) (d e : ℕ) → Contains lost from → after from to cost label → to ≢ Router root → old from ≡ Some d → old to ≡ Some e → d + cost ≤ e → Contains stale to
 
--- The head of each added least link, or that leads out of a moved vertex, is stale, moved or queued.
+-- The head of each added least link, or that leads out of a moved vertex, is stale, moved or
+-- queued.
 pub record AreTold (after come : Links) (root : ℕ) (distance queue : Vertex → Option ℕ) (moved stale : List Vertex) : Type 0 where
   pub told : (from to : Vertex) (cost : ℕ) (label : Label) → to ≢ Router root → IsLeast after distance from to cost label → come from to cost label ⊎ Contains moved from
       → Contains stale to ⊎ (Contains moved to ⊎ IsQueued queue to)
@@ -112,7 +120,8 @@ pub record IsSame (root : ℕ) (A : Links) (has_A : Type 0) (B : Links) (has_B :
 pub record HasDiffering (root : ℕ) (A : Links) (has_A : Type 0) (B : Links) (has_B : Type 0) (vertices : List Vertex) : Type 0 where
   pub differing : (v : Vertex) → (IsSame root A has_A B has_B v → ⊥) → Contains vertices v
 
--- the lists that bound the work: what differs from before to between and from between to after, the heads of the links that were removed or added, and those of the links out of what differs
+-- the lists that bound the work: what differs from before to between and from between to after, the
+-- heads of the links that were removed or added, and those of the links out of what differs
 pub record AreOwed (root : ℕ) (before after gone come : Links) (had_root has_root : Type 0) (first second heads first_out second_out : List Vertex) : Type 0 where
   pub first_differ : HasDiffering root before had_root (Between before after) (had_root × has_root) first
   pub second_differ : HasDiffering root (Between before after) (had_root × has_root) after has_root second
@@ -121,7 +130,8 @@ pub record AreOwed (root : ℕ) (before after gone come : Links) (had_root has_r
   pub out_of_first : (from to : Vertex) (cost : ℕ) (label : Label) → Between before after from to cost label → Contains first from → Contains first_out to
   pub out_of_second : (from to : Vertex) (cost : ℕ) (label : Label) → after from to cost label → Contains second from → Contains second_out to
 
--- why a vertex is looked at again: it was moved, it is the head of a link that was removed or added, or of a link after out of what is lost, moved or written
+-- why a vertex is looked at again: it was moved, it is the head of a link that was removed or
+-- added, or of a link after out of what is lost, moved or written
 pub data IsDue (after gone come : Links) (lost moved written : List Vertex) (to : Vertex) : Type 0 where
   Moved : Contains moved to → IsDue after gone come lost moved written to
   Went : (from : Vertex) (cost : ℕ) (label : Label) → gone from to cost label → IsDue after gone come lost moved written to

@@ -27,7 +27,7 @@ NoneSupports distances lost limit links = All (λ l. Supports (get distances) lo
 abbrev pub SomeSupports : DistanceMap → List Vertex → ℕ → List Link → Type 0
 SomeSupports distances lost limit links = (l : Link) × Contains links l × Supports (get distances) lost limit l
 
--- the answer tells whether a link of the graph supports the vertex within the limit
+-- the result is true exactly if a link of the graph supports the vertex within the limit
 abbrev pub TellsSupport : GraphValue → DistanceMap → List Vertex → Vertex → ℕ → Bool → Type 0
 TellsSupport g distances lost v limit supported = IsTrue supported ↔ IsSupported (LinksOf g) (get distances) lost v limit
 
@@ -35,7 +35,8 @@ TellsSupport g distances lost v limit supported = IsTrue supported ↔ IsSupport
 abbrev pub WasLeast : ℕ → (Vertex → Option ℕ) → Link → Type 0
 WasLeast root old l = (l.to ≢ Router root) × (near : ℕ) × (old l.from ≡ Some near) × (old l.to ≡ Some (near + l.cost))
 
--- over the link, from a tail at this distance, a reached vertex other than the root is no farther than it was
+-- over the link, from a tail at this distance, a reached vertex other than the root is no farther
+-- than it was
 abbrev pub MaySupport : ℕ → (Vertex → Option ℕ) → ℕ → Link → Type 0
 MaySupport root old near l = (l.to ≢ Router root) × (far : ℕ) × (old l.to ≡ Some far) × (near + l.cost ≤ far)
 
@@ -43,7 +44,7 @@ MaySupport root old near l = (l.to ≢ Router root) × (far : ℕ) × (old l.to 
 abbrev pub IsHead : (Link → Type 0) → List Link → Vertex → Type 0
 IsHead Passes links v = (l : Link) × Contains links l × Passes l × (l.to ≡ v)
 
--- Each vertex that is told becomes stale, and suspected unless it is lost. No other does.
+-- Each of the vertices becomes stale, and suspected unless it is lost. No other does.
 pub record AreToldOf (Told : Vertex → Type 0) (lost stale wider suspects more : List Vertex) : Type 0 where
   pub widens : (v : Vertex) → Contains stale v → Contains wider v
   pub waits : (v : Vertex) → Contains suspects v → Contains more v
@@ -52,15 +53,15 @@ pub record AreToldOf (Told : Vertex → Type 0) (lost stale wider suspects more 
   pub suspects_only : (v : Vertex) → Contains more v → Contains suspects v ⊎ Told v
   pub apart : HasNoDoubles suspects → HasNoDoubles more
 
--- the search told each vertex of which this holds, and no other
+-- each vertex of which this holds became stale in the search, and no other
 abbrev pub AreToldIn : (Vertex → Type 0) → Search → Search → Type 0
 AreToldIn Told old new = AreToldOf Told old.lost old.pending.stale new.pending.stale old.suspects new.suspects
 
--- it told the heads of the least links among these
+-- the heads of the least links among these became stale
 abbrev pub AreHeadsTold : ℕ → DistanceMap → List Link → Search → Search → Type 0
 AreHeadsTold root distances links old new = AreToldIn (IsHead (WasLeast root (get distances)) links) old new
 
--- it told the heads of these links that a vertex at the distance might have supported
+-- the heads of these links that a vertex at the distance might have supported became stale
 abbrev pub AreHeadsBeyondTold : ℕ → DistanceMap → ℕ → List Link → Search → Search → Type 0
 AreHeadsBeyondTold root distances near links old new = AreToldIn (IsHead (MaySupport root (get distances) near) links) old new
 
@@ -75,7 +76,7 @@ pub record IsPassed (g : GraphValue) (old : Vertex → Option ℕ) (lost more su
   pub stale_same : wider ≡ stale
   pub passed : Contains lost v ⊎ ((d : ℕ) → old v ≡ Some d → IsSupported (LinksOf g) old lost v d)
 
--- a suspect without support is lost, and the heads of its links are told
+-- a suspect without support is lost, and the heads of its links become stale
 pub record IsLostNow (g : GraphValue) (old : Vertex → Option ℕ) (lost more suspects again stale wider : List Vertex) (v : Vertex) : Type 0 where
   pub judged : IsLost (LinksOf g) g.root old lost more suspects again stale wider v
   pub why : (w : Vertex) → Contains wider w → Contains stale w ⊎ ((cost : ℕ) × (label : Label) × LinksOf g v w cost label)

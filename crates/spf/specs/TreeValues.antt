@@ -31,12 +31,14 @@ abbrev pub listed_hops : Option (List NextHop) → List NextHop
 listed_hops None = []
 listed_hops (Some hops) = hops
 
--- The tree belongs to the graph: each distance and each next hop is the one that the definitions give.
+-- The tree belongs to the graph: each distance and each next hop is the one that the definitions
+-- give.
 pub record IsTreeOf (g : GraphValue) (t : TreeValue) : Type 0 where
   pub fresh : t.spent ≡ false
   pub tree : IsTree (LinksOf g) g.root (HasRoot g) (get t.distances) (hops_of t.hops)
 
--- The tree is right for the links before the changes that are told, and what came are links of the graph.
+-- The tree is right for the links before the changes that are listed, and the added links are links
+-- of the graph.
 pub record IsTreeBefore (g : GraphValue) (gone come : List Link) (t : TreeValue) : Type 0 where
   pub fresh : t.spent ≡ false
   pub links : AreLinks (LinksBefore g gone come) g.root (HadRoot g.root (get t.distances))
@@ -56,7 +58,8 @@ IsBegunWith g come t search = (gone : List Link) × IsBegun g gone come t search
 abbrev pub Differs : TreeValue → TreeValue → Vertex → Type 0
 Differs old new v = ((get new.distances v ≡ get old.distances v) × ((h : NextHop) → hops_of new.hops v h ↔ hops_of old.hops v h)) → ⊥
 
--- why a vertex differs: it is the root or lost its distance, and has another than before; it is nearer; or its next hops were written
+-- why a vertex differs: it is the root or lost its distance, and has another than before; it is
+-- nearer; or its next hops were written
 abbrev pub IsChangedBy : ℕ → TreeValue → TreeValue → List Vertex → List Vertex → List Vertex → Vertex → Type 0
 IsChangedBy root old new lost moved written v =
     (Contains (Router root ∷ lost) v × (get new.distances v ≢ get old.distances v))
@@ -72,7 +75,8 @@ abbrev pub AreOthersKept : TreeValue → TreeValue → Type 0
 AreOthersKept old new = (v : Vertex) → (Contains new.changed v → ⊥)
     → (get new.distances v ≡ get old.distances v) × (listed_hops (get new.hops v) ≡ listed_hops (get old.hops v))
 
--- The work is bounded by what differs: for all lists of the vertices that differ, of the heads of the links that differ, and of the heads of the links out of the vertices that differ.
+-- The work is bounded by what differs: for all lists of the vertices that differ, of the heads of
+-- the links that differ, and of the heads of the links out of the vertices that differ.
 pub record IsBounded (g : GraphValue) (gone come : List Link) (old : TreeValue) (taken hop_sets : ℕ) : Type 0 where
   pub taken_most : (first second heads first_out second_out : List Vertex)
       → AreOwed g.root (LinksBefore g gone come) (LinksOf g) (Among gone) (Among come) (HadRoot g.root (get old.distances)) (HasRoot g) first second heads first_out second_out
@@ -85,7 +89,7 @@ pub record IsBounded (g : GraphValue) (gone come : List Link) (old : TreeValue) 
 abbrev pub IsBoundedBy : GraphValue → List Link → List Link → TreeValue → Touched → Type 0
 IsBoundedBy g gone come old touched = IsBounded g gone come old touched.taken touched.hop_sets
 
--- there was no work, unless some link went or came
+-- there was no work, unless some link was removed or added
 abbrev pub IsIdleUnless : List Link → List Link → Touched → Type 0
 IsIdleUnless gone come touched = gone ≡ [] → come ≡ [] → touched ≡ no_work
 
@@ -102,7 +106,9 @@ abbrev pub IsWritten : GraphValue → TreeValue → TreeValue → Vertex → Typ
 IsWritten g old new v = HasOtherHops old new v ⊎ (IsReachedIn g old v × (get new.distances v ≡ None))
 
 -- And it is what differs.
--- No fewer are taken than are reached at another distance than before, and besides as many as are reached and differ; and no more than twice as many as are reached.
+-- The number taken is at least the number of vertices reached at another distance than before, plus
+-- the number of vertices that are reached and differ. It is at most twice the number of vertices
+-- reached.
 -- A set is written for each vertex that has other next hops or is reached no more.
 pub record IsWorkDone (g : GraphValue) (old new : TreeValue) (taken hop_sets : ℕ) : Type 0 where
   pub taken_least : (moved differing : List Vertex) → HasNoDoubles moved → HasNoDoubles differing
@@ -118,7 +124,8 @@ pub record IsWorkDone (g : GraphValue) (old new : TreeValue) (taken hop_sets : �
 abbrev pub IsRepairWork : GraphValue → TreeValue → TreeValue → Touched → Type 0
 IsRepairWork g old new touched = IsWorkDone g old new touched.taken touched.hop_sets
 
--- Of building a tree: twice as many vertices are taken as are reached, the root left out, once for its distance and once for its next hops; and as many sets are written.
+-- The work of building a tree: each vertex that is reached, except the root, is taken twice, once
+-- for its distance and once for its next hops. One set is written for each.
 pub record IsWorkForAll (g : GraphValue) (t : TreeValue) (taken hop_sets : ℕ) : Type 0 where
   pub reached : List Vertex
   pub reached_apart : HasNoDoubles reached
@@ -130,7 +137,8 @@ pub record IsWorkForAll (g : GraphValue) (t : TreeValue) (taken hop_sets : ℕ) 
 abbrev pub IsBuildWork : GraphValue → TreeValue → Touched → Type 0
 IsBuildWork g t touched = IsWorkForAll g t touched.taken touched.hop_sets
 
--- What a repair that is begun comes to, with what was moved and what was written: the tree, its work, and why vertices differ.
+-- The result of a repair that is begun, with the moved and the written vertices: the tree, its
+-- work, and why vertices differ.
 pub record IsCarriedOut (g : GraphValue) (come : List Link) (old new : TreeValue) (lost stale moved written : List Vertex) (taken hop_sets : ℕ) : Type 0 where
   pub tree : IsTreeOf g new
   pub bounded : (gone : List Link) → IsBegun g gone come old lost stale → IsBounded g gone come old taken hop_sets

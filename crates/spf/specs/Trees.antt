@@ -1,4 +1,5 @@
--- What a shortest-path tree rests on: the links, the distances of the vertices, and the next hops that a link passes on.
+-- The basis of a shortest-path tree: the links, the distances of the vertices, and the next hops
+-- that a link passes on.
 use Rattle.std.specs.Prelude.{◌↔◌, ℕ, ◌+◌, ◌*◌, ◌≡◌, ◌≢◌, ◌<◌, ◌≤◌, ◌⊎◌, ◌++◌, ◌∷◌, [], List, map, Contains, Option, Some, None}
 use Rattle.ospf_types.specs.declared.entry.Vertex.{Vertex}
 use Rattle.ospf_types.specs.declared.entry.Vertex.TheVariants.{Router, Network}
@@ -64,7 +65,8 @@ pub record HasPathWithin (link : Links) (root : ℕ) (has_root : Type 0) (to : V
   pub path : IsPath link root has_root way to
   pub most : cost_of way ≤ limit
 
--- each link from a vertex with a value leads to one that is valued at no more than it costs over that link
+-- each link from a vertex with a value leads to one that is valued at no more than it costs over
+-- that link
 pub record AreRelaxed (link : Links) (root : ℕ) (value : Vertex → Option ℕ) : Type 0 where
   pub relaxed : (from to : Vertex) (cost : ℕ) (label : Label) (d : ℕ) → link from to cost label → to ≢ Router root → value from ≡ Some d → IsWithin (value to) (d + cost)
 
@@ -91,12 +93,14 @@ pub record HasLeast (link : Links) (distance : Vertex → Option ℕ) (to : Vert
   pub label : Label
   pub least : IsLeast link distance from to cost label
 
--- What is nearer has the lesser rank, and of what is equally near the networks.
+-- The nearer vertex has the lesser rank, and so have networks at the same distance.
 abbrev pub rank : Vertex → ℕ → ℕ
 rank (Router r) d = 2 * d + 1
 rank (Network n) d = 2 * d
 
--- What a link passes on of a next hop of its tail, by its label (RFC 2328, 16.1.1: what its head inherits from the parent). A network that is attached to the root becomes the addresses there.
+-- The next hop that a link passes on of a next hop of its tail, by its label (RFC 2328, 16.1.1:
+-- what its head inherits from the parent). A network that is attached to the root becomes the
+-- addresses there.
 abbrev pub HandsOn : NextHop → Label → NextHop → Type 0
 HandsOn (hop.Direct i) (At addresses) h = (address : ℕ) × Contains addresses address × (h ≡ hop.Router i address)
 HandsOn (hop.Direct i) (Over other) h = ⊥
@@ -119,7 +123,8 @@ handed_on (hop.Direct i) Plain = []
 handed_on (hop.Peer i) label = hop.Peer i ∷ []
 handed_on (hop.Router i a) label = hop.Router i a ∷ []
 
--- what a link gives its head: out of the root the first hop of the link alone, else what it passes on
+-- what a link gives its head: out of the root the first hop of the link alone, else what it passes
+-- on
 abbrev pub Gives : ℕ → (Vertex → NextHop → Type 0) → Vertex → Vertex → Label → NextHop → Type 0
 Gives root hops from to label h = ((from ≡ Router root) × FirstOnly to label h) ⊎ ((from ≢ Router root) × (g : NextHop) × hops from g × HandsOn g label h)
 
@@ -135,7 +140,8 @@ pub record IsGiven (link : Links) (root : ℕ) (distance : Vertex → Option ℕ
 pub record AreUnions (link : Links) (root : ℕ) (distance : Vertex → Option ℕ) (hops : Vertex → NextHop → Type 0) : Type 0 where
   pub union : (to : Vertex) (d : ℕ) → distance to ≡ Some d → to ≢ Router root → (h : NextHop) → hops to h ↔ IsGiven link root distance hops to h
 
--- The tree of the links: the distance of each vertex that is reached, and the next hops of each vertex.
+-- The tree of the links: the distance of each vertex that is reached, and the next hops of each
+-- vertex.
 pub record IsTree (link : Links) (root : ℕ) (has_root : Type 0) (distance : Vertex → Option ℕ) (hops : Vertex → NextHop → Type 0) : Type 0 where
   pub distances : AreDistances link root has_root distance
   pub right : (to : Vertex) (h : NextHop) → hops to h ↔ IsHop link root has_root to h

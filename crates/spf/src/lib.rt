@@ -24,8 +24,8 @@
 //! Vertices have hints to their distances and next hops. Memory is kept from one repair for the
 //! next.
 //!
-//! A tree is repaired even without changed links if its root was added to the graph or removed, as
-//! the root's own distance then changes.
+//! If the root was added to the graph or removed, the tree has to be repaired even if no link
+//! changed, because the root's own distance changes.
 //!
 //! The number of vertices taken in a repair has bounds, and no exact value: the head of a changed
 //! least link is taken for its next hops, which may stay. The number of next-hop sets written is

@@ -1,4 +1,4 @@
--- Static routes: of those to one network the least metric, where no other route to it stands.
+-- Static routes: to each network the one with the least metric, if no other route to it exists.
 use Rattle.std.specs.Prelude.{ℕ, ◌≡◌, ◌≤◌, ◌⊎◌, List, Option, Some, None, Contains}
 use Rattle.ospf_types.specs.declared.prefix.Prefix.{Prefix}
 use Rattle.ospf_types.specs.Network.{network_cmp}

@@ -1,4 +1,4 @@
--- What is due is compared with what a list has, destination by destination.
+-- The due metrics are compared with the list, destination by destination.
 --   compared_more: one more destination
 --   compared_all: all of them
 use Rattle.std.proofs.Common.{◌≡◌, ℕ, ◌+◌, ◌<◌, ◌≤◌, List, [], ◌∷◌, ◌++◌, length, get_or, take, drop, Option, Some, None, refl, sym, ap, subst, ◌∙◌, ◌⊎◌, inl, inr, append-nil, append_assoc, true, eq-eqb}

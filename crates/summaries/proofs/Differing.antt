@@ -1,6 +1,8 @@
--- What is changed in a list is just what differs, where no destination is given the metric that it had.
+-- The changes of a list are just what differs, where no destination is given the metric that it
+-- had.
 --   metric_of: a destination that is named has a metric
---   changes_between: the list afterwards tells of just the named destinations otherwise than the list before
+--   changes_between: the list afterwards has just the named destinations otherwise than the list
+--     before
 use Rattle.std.proofs.Common.{◌≡◌, ℕ, List, Option, Some, None, refl, sym, subst, inl, inr}
 use Rattle.std.specs.List.{Contains}
 use Rattle.std.specs.Map.{keys_of}
@@ -16,7 +18,7 @@ metric_of metrics d c =
     let (e, there, is) = mapped_from (λ (e : Dest × Option ℕ). e.0) metrics d c in
     (e.1, subst (λ (k : Dest). Contains metrics (k, e.1)) is there)
 
--- a list tells of a destination at one metric
+-- a list has a destination at one metric
 one_metric : (list : List DueSummary) (d : Dest) (a b : Option ℕ) → IsMetricIn list d a → IsMetricIn list d b → a ≡ b
 one_metric list d (Some k) b first second = sym ((second k).1 ((first k).0 refl))
 one_metric list d None None first second = refl

@@ -1,4 +1,5 @@
--- The entries that are kept are as defined: intra-area and inter-area networks, and AS boundary routers.
+-- The entries that are kept are as defined: intra-area and inter-area networks, and AS boundary
+-- routers.
 use Rattle.std.proofs.Common.{◌≡◌, ◌≢◌, ℕ, Bool, true, false, cond, List, Option, Some, None, sym, ap, subst, ◌∙◌, inl, inr}
 use Rattle.std.specs.Prelude.{◌==◌}
 use Rattle.std.specs.List.Sorted.{IsStrictlySortedBy}

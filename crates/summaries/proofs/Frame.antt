@@ -1,4 +1,5 @@
--- What is due to a destination that is not affected stays due, where the routes differ in no more than is named.
+-- A metric due to a destination that is not affected stays due, where the routes differ in no more
+-- than is named.
 --   due_stays: it is due at a metric now just where it was
 use Rattle.std.proofs.Common.{◌≡◌, ℕ, List, Option, Some, None, refl, sym, subst, ◌∙◌, inl, inr}
 use Rattle.std.specs.Prelude.{◌↔◌, Contains}

@@ -1,4 +1,4 @@
--- What gives a summary, part by part.
+-- The sources of a summary, part by part.
 use Rattle.std.proofs.Common.{◌≡◌, ◌≢◌, ℕ, true, false, cond, ◌+◌, ◌<◌, ◌≤◌, ◌==◌, List, [], ◌∷◌, length, take, get_or, Option, Some, None, refl, sym, subst, ◌∙◌, ◌⊎◌, inl, inr, arith}
 use Rattle.std.specs.Prelude.{◌↔◌, Contains, All}
 use Rattle.std.proofs.Math.Path.{subst₂}

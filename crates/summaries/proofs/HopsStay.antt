@@ -1,8 +1,9 @@
--- Each next hop of an entry of an area leaves over an interface of that area, and so into no other area.
+-- Each next hop of an entry of an area leaves over an interface of that area, and so into no other
+-- area.
 --   hop_over: a next hop of a vertex of the area
 --   entry_area, entry_over: the area of a network's entry, and its next hops
 --   preferred_over: the next hops of the preferred entry of an AS boundary router
---   may_enter: what is of another area, at a finite cost, may be told
+--   may_enter: a route of another area, at a finite cost, may be advertised
 use Rattle.std.proofs.Common.{◌≡◌, ◌≢◌, ℕ, ◌<◌, List, [], ◌∷◌, Some, None, sym, ap, subst, ◌∙◌, inl, inr}
 use Rattle.std.specs.Prelude.{Contains}
 use Rattle.ospf_types.specs.declared.config.Interface.{Interface}
@@ -142,7 +143,7 @@ module _ (s : Inputs) where
   pub entry_over : (p : Prefix) (e : Entry) (area : ℕ) → IsEntry s p e → e.area ≡ Some area → (h : NextHop) → HasHop e h → IsOver s area h
   entry_over p e area entry is h w = subst (IsOver s area) w.2 ((of_area p e area entry is).over w.0 w.1)
 
-  -- what is of another area, at a finite cost, may be told
+  -- a route of another area, at a finite cost, may be advertised
   pub may_enter : ((id : ℕ) (i j : Interface) → Contains s.interfaces (id, i) → Contains s.interfaces (id, j) → i ≡ j)
       → (a : Area) (area cost : ℕ) (has : NextHop → Type 0) → ((h : NextHop) → has h → IsOver s area h) → area ≢ a.id → cost < LSInfinity → MayEnter s a area cost has
   may_enter one a area cost has over foreign finite = record {

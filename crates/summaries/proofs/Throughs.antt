@@ -1,4 +1,4 @@
--- What a route leads through.
+-- The area that a route leads through.
 use Rattle.std.proofs.Common.{◌≡◌, ℕ, ◌<◌, Option, Some, None, sym, ap, subst, ◌∙◌, refl}
 use Rattle.std.specs.Prelude.{◌↔◌}
 use Rattle.std.specs.FinMap.{get}
@@ -38,7 +38,7 @@ preferred_leads o e area cost has at worth finite t = (
       ap Some (λ i. one (through i) (cost_is i)),
 )
 
--- a network's intra-area entry, of which it is known what it leads through
+-- a network's intra-area entry, with the area that it leads through
 module _ (v : SummaryInputsValue) (p : Prefix) (found : Option Through) (leads : (t : Through) → (found ≡ Some t) ↔ LeadsThrough (get v.intra.entries p) t) where
   pub leads_nowhere : (o : Option Through) → o ≡ None → found ≡ None → (t : Through) → (o ≡ Some t) ↔ IsIntraThrough v p t
   leads_nowhere o none is t = (

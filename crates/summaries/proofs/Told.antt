@@ -1,4 +1,5 @@
--- What gives a summary by the routes that are kept is what gives one by the definitions (RFC 2328, 12.4.3).
+-- The sources of a summary by the routes that are kept are its sources by the definitions (RFC
+-- 2328, 12.4.3).
 --   network_due, router_due: what is due to a network or to an AS boundary router
 use Rattle.std.proofs.Common.{◌≡◌, ◌≢◌, ℕ, ◌<◌, Option, Some, None, refl, sym, ap, subst, ◌∙◌, inl, inr}
 use Rattle.std.specs.Prelude.{◌↔◌}

@@ -104,7 +104,7 @@ module _ (v : SummaryInputsValue) (dests : List Dest) (x : Turn) (after : AreaSu
       let due = is.changes.here d metric c m in
       (λ h. (had m).0 (due.1 h), λ h. due.0 ((had m).1 h)))) is.changes.in_order
 
-  -- it tells of a named destination what is due
+  -- it has a named destination at the metric that is due
   told_named : (d : Dest) → Contains (keys_of metrics) d → (m : ℕ) → IsDueIn v x.area d m ↔ Contains after.list (due_for d m)
   told_named d c m =
       let (metric, there) = metric_of metrics d c in

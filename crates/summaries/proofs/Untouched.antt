@@ -1,4 +1,4 @@
--- What is due otherwise than before is affected.
+-- A destination with another due metric than before is affected.
 --   alike_touched: where the same areas are active as before
 --   alike_few: where fewer than two are, and nothing is due
 --   alike_all: where all that is due and all that was due is affected

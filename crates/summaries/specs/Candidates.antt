@@ -1,4 +1,4 @@
--- What gives a summary for a destination, whichever the area.
+-- The sources of a summary for a destination, for any area.
 use Rattle.std.specs.Prelude.{ℕ, ◌≡◌, ◌≢◌, ◌↔◌, ◌<◌, ◌≤◌, ◌⊎◌, Bool, IsTrue, List, Contains, Option, Some, None, map, length, if◌then◌else◌, ◌==◌}
 use Rattle.std.specs.FinMap.{get}
 use Rattle.ospf_types.specs.declared.config.AreaConfig.{AreaConfig}
@@ -49,15 +49,16 @@ metric_into g area = metric_beside g.most g.next area
 abbrev pub IsOrdered : Given → Type 0
 IsOrdered g = (m : ℕ) → g.next ≡ Some m → (t : Through) × (g.most ≡ Some t) × (m ≤ t.cost)
 
--- it tells what the network is due at in the area, but for what a stub area is sent
+-- it gives the metric at which the network is due in the area, apart from what a stub area is sent
 abbrev pub IsNetworkIn : SummaryInputsValue → ℕ → Prefix → Given → Type 0
 IsNetworkIn v area p g = (m : ℕ) → (metric_into g area ≡ Some m) ↔ IsGreatest (GivesIn v area p) m
 
--- it tells what an AS boundary router with this preferred entry is due at in each area, but for stub areas
+-- it gives the metric at which an AS boundary router with this preferred entry is due in each area,
+-- apart from stub areas
 abbrev pub IsRouterIn : Option PreferredValue → Given → Type 0
 IsRouterIn preferred g = (area m : ℕ) → (metric_into g area ≡ Some m) ↔ PreferredGives preferred area m
 
--- in each area its metric is the greatest of the other's and of what is given besides
+-- in each area its metric is the greatest of the other's and of the metrics given
 abbrev pub HasMostOf : Given → (ℕ → ℕ → Type 0) → Given → Type 0
 HasMostOf own more g = (area : ℕ) → IsMost (λ n. (metric_into own area ≡ Some n) ⊎ more area n) (metric_into g area)
 
@@ -85,7 +86,8 @@ CostsInto route area m = (t : Through) × (route ≡ Some t) × (t.area ≢ area
 
 -- ---- the metric in an area
 
--- by all inputs whose areas are served so, and for which the candidate is right, its destination is due at this metric
+-- by all inputs whose areas are served so, and for which the candidate is right, its destination is
+-- due at this metric
 abbrev pub IsMetricOf : AreaConfig → Bool → Candidate → Option ℕ → Type 0
 IsMetricOf a served c metric = (v : SummaryInputsValue) → (IsTrue served ↔ IsServed v.active a.id) → IsCandidateOf v c → (m : ℕ) → (metric ≡ Some m) ↔ IsDueIn v a c.dest m
 

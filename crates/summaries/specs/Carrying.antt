@@ -1,4 +1,4 @@
--- What is to change in due summaries, area by area, and what comes of it.
+-- The changes to make in due summaries, area by area, and their result.
 use Rattle.std.specs.Prelude.{ℕ, ◌≡◌, List, [], ◌∷◌, map}
 use Rattle.summary_lists.specs.declared.plan.AreaPlan.{AreaPlan}
 use Rattle.summary_lists.specs.Lists.{AreaSummariesValue, Metrics}

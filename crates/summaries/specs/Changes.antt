@@ -16,7 +16,8 @@ use Rattle.summaries.specs.Inputs.{SummaryInputsValue}
 use Rattle.summaries.specs.Giving.{IsDueIn}
 use Rattle.summary_lists.specs.Lists.{Metrics, AreMetricsInOrder, IsMetricIn, due_for}
 
--- the routes differ in no more than is named, and ranges in one that is named whole, if in any; of other active areas nothing need be named
+-- the routes differ in no more than is named, and ranges in one that is named whole, if in any; of
+-- other active areas nothing need be named
 pub record InputsDifferAmong (dests : List Dest) (old new : SummaryInputsValue) : Type 0 where
   pub areas : areas_without_ranges new.areas ≡ areas_without_ranges old.areas
   pub range : Option (ℕ × Prefix)
@@ -39,7 +40,8 @@ AreSummariesBehind dests v w = (before : SummaryInputsValue) × AreSummariesOf b
 abbrev pub AreEnough : List Dest → SummaryInputsValue → DueSummariesValue → List Dest → Type 0
 AreEnough dests v w found = (before : SummaryInputsValue) → AreSummariesOf before w → InputsDifferAmong dests before v → AreDueAlikeBut found before v
 
--- where only ranges of the configuration differ, and any routes, no destinations but these are due otherwise than before
+-- where only ranges of the configuration differ, and any routes, no destinations but these are due
+-- otherwise than before
 abbrev pub AreEnoughForAll : SummaryInputsValue → DueSummariesValue → List Dest → Type 0
 AreEnoughForAll v w found = (before : SummaryInputsValue) → AreSummariesOf before w → areas_without_ranges v.areas ≡ areas_without_ranges before.areas → AreDueAlikeBut found before v
 
@@ -47,7 +49,8 @@ AreEnoughForAll v w found = (before : SummaryInputsValue) → AreSummariesOf bef
 abbrev pub HasAllDue : SummaryInputsValue → List Dest → Type 0
 HasAllDue v dests = (a : AreaConfig) (d : Dest) (m : ℕ) → IsDueIn v a d m → Contains dests d
 
--- just those of the destinations that are due at another metric than the list has, in their order, each at that metric
+-- just those of the destinations that are due at another metric than the list has, in their order,
+-- each at that metric
 pub record AreChangesIn (v : SummaryInputsValue) (a : AreaConfig) (list : List DueSummary) (dests : List Dest) (metrics : Metrics) : Type 0 where
   pub in_order : AreMetricsInOrder metrics
   pub named : (d : Dest) → Contains (keys_of metrics) d → Contains dests d × (((m : ℕ) → IsDueIn v a d m ↔ Contains list (due_for d m)) → ⊥)
@@ -58,6 +61,7 @@ pub record AreChangesIn (v : SummaryInputsValue) (a : AreaConfig) (list : List D
 abbrev pub IsChangeAdded : List DueSummary → Dest → Option ℕ → Metrics → Metrics → Type 0
 IsChangeAdded list d metric before after = ((after ≡ before) × IsMetricIn list d metric) ⊎ ((after ≡ before ++ (d, metric) ∷ []) × (IsMetricIn list d metric → ⊥))
 
--- the destination is added at this metric, unless the list that had it at the other metric has it so
+-- the destination is added at this metric, unless the list that had it at the other metric has it
+-- so
 abbrev pub AddsChange : Dest → Option ℕ → Option ℕ → Metrics → Metrics → Type 0
 AddsChange d metric had before after = (list : List DueSummary) → IsMetricIn list d had → IsChangeAdded list d metric before after

@@ -1,4 +1,4 @@
--- What gives a summary for a destination (RFC 2328, 12.4.3), by the routes that are kept.
+-- The sources of a summary for a destination (RFC 2328, 12.4.3), by the routes that are kept.
 use Rattle.std.specs.Prelude.{ℕ, ◌≡◌, ◌≢◌, ◌<◌, ◌≤◌, ◌⊎◌, IsTrue, List, Contains, All, Option, Some, None}
 use Rattle.std.specs.FinMap.{get}
 use Rattle.ospf_types.specs.declared.config.AreaConfig.{AreaConfig}
@@ -80,7 +80,7 @@ abbrev pub IsDueTo : SummaryInputsValue → AreaConfig → Dest → ℕ → Type
 IsDueTo v a (Net p) metric = IsNetworkDueIn v a.id a.stub p metric
 IsDueTo v a (Router router) metric = IsRouterDueIn v a.id a.stub router metric
 
--- the router stands between two active areas, and this is one
+-- two areas are active, and this is one of them
 pub record IsServed (active : List ℕ) (area : ℕ) : Type 0 where
   pub here : Contains active area
   pub other : (another : ℕ) × Contains active another × (another ≢ area)

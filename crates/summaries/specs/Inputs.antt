@@ -1,4 +1,5 @@
--- What due summaries are calculated from: the configuration, the areas that are active, and the routes inside the AS.
+-- What due summaries are calculated from: the configuration, the areas that are active, and the
+-- routes inside the AS.
 use Rattle.std.specs.Prelude.{ℕ, List}
 use Rattle.ospf_types.specs.declared.config.AreaConfig.{AreaConfig}
 use Rattle.intra.specs.Intras.{IntraValue}

@@ -248,7 +248,7 @@ put_in_order d metric old new ordered kinds e = record {
 
 -- ---- what is left of a list while destinations are looked up in their order
 
--- of these destinations it tells what the list tells
+-- it has these destinations as the list has them
 pub record IsLeft (list rest : List DueSummary) (dests : List Dest) : Type 0 where
   pub in_order : AreInOrder rest
   pub of_kind : AreOfKind rest
@@ -257,7 +257,7 @@ pub record IsLeft (list rest : List DueSummary) (dests : List Dest) : Type 0 whe
 pub all_left : (list : List DueSummary) (dests : List Dest) → AreInOrder list → AreOfKind list → IsLeft list list dests
 all_left list dests in_order of_kind = record { in_order = in_order; of_kind = of_kind; same = λ d c due is. (λ h. h, λ h. h) }
 
--- what comes after the first tells of the others
+-- the part after the first has the others
 pub left_after : (list rest : List DueSummary) (d : Dest) (dests : List Dest) → ((e : Dest) → Contains dests e → dest_cmp d e ≡ Less) → IsLeft list rest (d ∷ dests) → IsLeft list (those_after d rest) dests
 left_after list rest d dests later left = record {
   in_order = ordered_filter (λ due. is_gt (dest_cmp due.dest d)) rest left.in_order;

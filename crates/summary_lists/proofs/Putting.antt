@@ -1,4 +1,4 @@
--- What each edit makes of the list of an area.
+-- The list of an area after each edit.
 use Rattle.std.proofs.Common.{◌≡◌, ℕ, List, set, Option, Some, None, sym, ap, subst, ◌∙◌}
 use Rattle.std.specs.List.{insert, remove}
 use Rattle.ospf_types.specs.declared.key.Dest.{Dest}

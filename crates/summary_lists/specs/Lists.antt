@@ -28,11 +28,11 @@ AreInOrder list = IsStrictlySortedBy dest_cmp (map (λ due. due.dest) list)
 abbrev pub AreOfKind : List DueSummary → Type 0
 AreOfKind list = All (λ due. due.kind ≡ kind_of due.dest) list
 
--- the list tells of the destination just at this metric; at `None` if it has nothing of it
+-- the list has the destination just at this metric; `None` if it does not have it
 abbrev pub IsMetricIn : List DueSummary → Dest → Option ℕ → Type 0
 IsMetricIn list d metric = (m : ℕ) → (metric ≡ Some m) ↔ Contains list (due_for d m)
 
--- of this destination it tells at that metric, and of the others what it told
+-- the new list has this destination at that metric, and the others as the old one has them
 pub record IsPut (d : Dest) (metric : Option ℕ) (old new : List DueSummary) : Type 0 where
   pub here : IsMetricIn new d metric
   pub others : (due : DueSummary) → due.dest ≢ d → Contains new due ↔ Contains old due
@@ -41,7 +41,7 @@ pub record IsPut (d : Dest) (metric : Option ℕ) (old new : List DueSummary) : 
 abbrev pub Metrics : Type 0
 Metrics = List (Dest × Option ℕ)
 
--- of these destinations it tells at their metrics, and of the others what it told
+-- the new list has these destinations at their metrics, and the others as the old one has them
 pub record IsChangedBy (metrics : Metrics) (old new : List DueSummary) : Type 0 where
   pub here : (d : Dest) (metric : Option ℕ) → Contains metrics (d, metric) → IsMetricIn new d metric
   pub others : (due : DueSummary) → (Contains (keys_of metrics) due.dest → ⊥) → Contains new due ↔ Contains old due
@@ -50,7 +50,8 @@ pub record IsChangedBy (metrics : Metrics) (old new : List DueSummary) : Type 0 
 abbrev pub AreMetricsInOrder : Metrics → Type 0
 AreMetricsInOrder metrics = IsStrictlySortedBy dest_cmp (keys_of metrics)
 
--- just the destinations of which the new list tells otherwise than the old one, ascending, each with what the new one tells
+-- just the destinations of which the new list tells otherwise than the old one, ascending, each
+-- with what the new one tells
 pub record AreChangesBetween (metrics : Metrics) (old new : List DueSummary) : Type 0 where
   pub in_order : AreMetricsInOrder metrics
   pub exact : (d : Dest) (metric : Option ℕ) → Contains metrics (d, metric) ↔ (IsMetricIn new d metric × (IsMetricIn old d metric → ⊥))

@@ -17,7 +17,7 @@ abbrev pub those_at : Dest → Option ℕ → List DueSummary
 those_at d None = []
 those_at d (Some metric) = due_for d metric ∷ []
 
--- the list, but of this destination it tells at that metric
+-- the list, with this destination at that metric
 abbrev pub with_metric : Dest → Option ℕ → List DueSummary → List DueSummary
 with_metric d metric list = those_before d list ++ (those_at d metric ++ those_after d list)
 

@@ -1,4 +1,4 @@
--- What is to change in the list of an area.
+-- The changes to make in the list of an area.
 use Rattle.std.specs.Prelude.{◌≡◌, ◌≤◌, Option, Some, None, length}
 use Rattle.std.specs.Global.{Vec}
 use Rattle.summary_lists.specs.declared.due.DueSummary.{DueSummary}

@@ -1,4 +1,4 @@
--- Where the links of an LSA lead, in a list that is sorted and has each once.
+-- Where the links of an LSA lead, in a sorted list without duplicates.
 use Rattle.std.proofs.Common.{◌≡◌, ℕ, Bool, List, [], ◌∷◌, map, Option, Some, None, refl, sym, ap, subst, ◌∙◌, ⊎_elim, Ordering}
 use Rattle.std.specs.Prelude.{◌↔◌}
 use Rattle.std.specs.List.{Contains, filter_map, cons_option, dedup}

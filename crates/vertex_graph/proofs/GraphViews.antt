@@ -1,4 +1,4 @@
--- What the view of a graph has: one list of links of each router.
+-- The view of a graph has one list of links of each router.
 use Rattle.std.proofs.Common.{◌≡◌, ℕ, List, map, sym, ap, ◌∙◌}
 use Rattle.ospf_types.specs.Lsa.{RouterLink}
 use Rattle.vertex_graph.specs.Graphs.{GraphValue, graph_view, link_of}

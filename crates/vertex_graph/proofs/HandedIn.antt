@@ -152,7 +152,7 @@ module _ (rows : RowList) (old new : StagedList) (done more : List Handed) (v : 
         ∙ h.unstaged w (λ other c. none other ((all (w, other)).1 (inl c)));
   }
 
--- a vertex was not handed in before, where none is twice
+-- a vertex was not given before, if none is given twice
 pub not_before : (handed : List Handed) (i : ℕ) (p : Handed) → AreApartHanded handed → i < length handed → get_or handed i p ≡ p → (other : Option Body) → Contains (take i handed) (p.0, other) → ⊥
 not_before handed i p apart within at other c =
     let short : length (take i handed) ≡ i = length-take-le i handed (omega arith) in

@@ -1,4 +1,4 @@
--- What the two kinds of change make of a graph.
+-- The graph after each of the two kinds of change.
 use Rattle.std.proofs.Common.{◌≡◌, ℕ, List, [], refl, sym, subst, ◌∙◌}
 use Rattle.std.specs.Prelude.{Contains}
 use Rattle.std.specs.FinMap.{get}

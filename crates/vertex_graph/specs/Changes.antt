@@ -1,4 +1,4 @@
--- What a change makes of the rows by what is staged, and which links it names as gone and as come.
+-- The rows that a change makes of what is staged, and the links that it lists as removed and added.
 use Rattle.std.specs.Prelude.{ℕ, List}
 use Rattle.ospf_types.specs.Distances.{Links}
 use Rattle.graph_links.specs.declared.link.LinkChanges.{LinkChanges}
@@ -18,13 +18,13 @@ links_after change rows = LinksBy change.local.root change.local.interfaces.now 
 abbrev pub ChangesRows : Change → RowList → RowList → Type 0
 ChangesRows change old new = IsChanged (leading_after change old) (links_after change old) change.staging.now.touched.items old new
 
--- of the links that the rows have out of touched vertices, just those went that are not there after
+-- the removed links: links of the rows out of touched vertices that are not there after
 abbrev pub NamesGone : Change → RowList → LinkChanges → Type 0
 NamesGone change rows changes =
     (root : ℕ) (ups : List Up) → AreRowsBy root ups rows
     → AreMissing change.staging.now.touched.items (LinksBy root ups (row_ends rows)) (links_after change rows) changes.gone.items
 
--- of the links that are there after out of touched vertices, just those came that the rows do not have
+-- the added links: links after, out of touched vertices, that the rows do not have
 abbrev pub NamesCome : Change → RowList → LinkChanges → Type 0
 NamesCome change rows changes =
     (root : ℕ) (ups : List Up) → AreRowsBy root ups rows

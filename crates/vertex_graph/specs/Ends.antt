@@ -1,4 +1,4 @@
--- What a graph keeps of an LSA: where its links lead.
+-- The part of an LSA that a graph keeps: where its links lead.
 use Rattle.std.specs.Prelude.{◌↔◌, ℕ, ◌≡◌, List, [], Contains, Option, Some, None}
 use Rattle.std.specs.List.Sorted.{IsStrictlySortedBy}
 use Rattle.ospf_types.specs.declared.entry.Vertex.{Vertex}

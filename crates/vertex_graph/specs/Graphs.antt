@@ -118,7 +118,8 @@ pub record IsReplaced (old new : GraphValue) (handed : List Handed) : Type 0 whe
   pub root : new.root ≡ old.root
   pub interfaces : new.interfaces ≡ old.interfaces
 
--- exactly the links that were removed and added, without duplicates; one with another cost or label is one of each
+-- exactly the links that were removed and added, without duplicates; one with another cost or label
+-- is one of each
 pub record AreExact (old new : GraphValue) (gone come : List Link) : Type 0 where
   pub went : (l : Link) → Contains gone l ↔ (LinksOf old l.from l.to l.cost l.label × (LinksOf new l.from l.to l.cost l.label → ⊥))
   pub came : (l : Link) → Contains come l ↔ (LinksOf new l.from l.to l.cost l.label × (LinksOf old l.from l.to l.cost l.label → ⊥))

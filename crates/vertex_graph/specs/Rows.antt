@@ -1,4 +1,4 @@
--- How a graph keeps its vertices: each with its ends, and with its links as they stand.
+-- How a graph keeps its vertices: each with its ends, and with its links as lists.
 use Rattle.std.specs.Prelude.{ℕ, ◌≡◌, List, Some, map}
 use Rattle.std.specs.FinMap.{find, from_entries}
 use Rattle.ospf_types.specs.declared.entry.Vertex.{Vertex}

@@ -1,4 +1,4 @@
--- What is given, and which vertices it touches.
+-- The LSAs that are given, and the vertices that they touch.
 use Rattle.std.specs.Prelude.{◌↔◌, ◌⊎◌, ℕ, ◌≡◌, ◌≢◌, List, Contains, Option, Some, None, option_copied, option_map}
 use Rattle.std.specs.FinMap.{find}
 use Rattle.std.specs.Global.{Vec}

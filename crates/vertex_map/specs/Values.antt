@@ -1,4 +1,5 @@
--- The values that entries have, where an entry may have none. An entry is a vertex, its place, and its value.
+-- The values that entries have, where an entry may have none. An entry is a vertex, its place, and
+-- its value.
 use Rattle.std.specs.Prelude.{◌≡◌, ℕ, Bool, List, [], ◌∷◌, Option, Some, None, is_some, slice_get}
 use Rattle.std.specs.FinMap.{FinMap, empty, get, insert, remove}
 use Rattle.ospf_types.specs.declared.entry.Vertex.{Vertex}
@@ -28,7 +29,8 @@ module _ {V : Type 0} where
   abbrev pub is_valued : List (Vertex × (ℕ × Option V)) → Vertex → Bool
   is_valued es v = is_some (get (values_of es) v)
 
-  -- the vertex whose entry is at the place has this value or none, and each other vertex what it had
+  -- the vertex whose entry is at the place has this value or none, and each other vertex what it
+  -- had
   abbrev pub WritesAt : ℕ → Option V → List (Vertex × (ℕ × Option V)) → List (Vertex × (ℕ × Option V)) → Type 0
   WritesAt place value old new = (v : Vertex) → IsAt old v place → values_of new ≡ with_value (values_of old) v value
 

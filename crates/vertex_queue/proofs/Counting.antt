@@ -39,6 +39,6 @@ module _ {X : Type 0} where
   pub no_doubles_nil : HasNoDoubles {X = X} []
   no_doubles_nil = λ i j d less within. absurd (omega (arith, within))
 
-  -- a list without doubles has none when what it lacks is pushed
+  -- a list without doubles has no doubles after an element that it lacks is pushed
   pub no_doubles_push : (xs : List X) (x : X) → HasNoDoubles xs → (Contains xs x → ⊥) → HasNoDoubles (xs ++ x ∷ [])
   no_doubles_push xs x apart fresh = all_pairs_push (λ y z. y ≢ z) xs x apart (λ k d within same. fresh (k, within, get_or_default xs k x d within ∙ same))

@@ -1,4 +1,4 @@
--- Whether vertices are the same, whether a list has one, and what one more element adds.
+-- The equality of vertices, the test that a list has one, and the effect of one more element.
 use Rattle.std.proofs.Common.{◌≡◌, ◌≢◌, List, [], ◌∷◌, ◌++◌, ap, subst, sym, ◌⊎◌, inl, inr, ⊎_elim}
 use Rattle.std.specs.List.{Contains}
 use Rattle.std.proofs.lemmas.Bool.{cases_eq}

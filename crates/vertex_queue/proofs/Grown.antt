@@ -91,7 +91,7 @@ not_false : (b : Bool) → not b ≡ false → b ≡ true
 not_false true e = refl
 not_false false e = absurd cc
 
--- the test of two distances tells what is the same
+-- the test of two distances decides that they are the same
 pub same_by_test : (x y : Option ℕ) → option_eq eqb x y ≡ true → x ≡ y
 same_by_test None None passes = refl
 same_by_test None (Some y) passes = absurd cc

@@ -1,4 +1,4 @@
--- What the heap of a queue holds, and what comes out of it first.
+-- The contents of a queue's heap, and the entry that leaves it first.
 use borrow.Author.Tests.{eq-eqb}
 use Rattle.std.proofs.Common.{◌≡◌, ◌≢◌, ◌⊎◌, inl, inr, ℕ, zero, suc, ◌+◌, ◌*◌, ◌%◌, ◌<◌, Bool, true, false, cond, List, [], ◌∷◌, Option, Some, None, refl, sym, ap, subst, ◌∙◌, arith}
 use Rattle.std.specs.Prelude.{nat_eq}

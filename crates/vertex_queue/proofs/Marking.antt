@@ -54,7 +54,7 @@ apart_popped vs v apart = λ i j d lt within same.
 pub marked_there : (marks : Marks) (vs : List Vertex) (v : Vertex) → IsMarked marks vs v → Contains vs v
 marked_there marks vs v at = (at.0, slice_get_within vs at.0 v at.2, get_or_from_slice_get vs at.0 v v at.2)
 
--- where the vertices are many, a mark tells whether one is there
+-- where the vertices are many, a mark shows that one is there
 many_marked : (marks : Marks) (vs : List Vertex) → 16 < length vs → AreFound marks vs → AreMarked marks vs
 many_marked marks vs many (inl few) = absurd (omega (arith, many, few))
 many_marked marks vs many (inr all) = all

@@ -1,4 +1,4 @@
--- What a lessened queue has at each vertex, and the rank of what is first.
+-- The distance of each vertex in a queue after a removal, and the rank of the first vertex.
 use Rattle.std.proofs.Common.{◌≡◌, ◌≢◌, ◌⊎◌, inl, inr, ℕ, ◌≤◌, ◌<◌, true, false, cond, Some, None, refl, ap, ◌∙◌, arith}
 use Rattle.std.specs.Prelude.{nat_le, if◌then◌else◌}
 use Rattle.std.specs.Ordering.{eq_by_cmp, nat_cmp, ordering_then}

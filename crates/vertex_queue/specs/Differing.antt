@@ -1,4 +1,4 @@
--- Why a repair names a vertex as changed: by its distance before, or because it came nearer.
+-- Why a repair lists a vertex as changed: by its distance before, or because it is nearer.
 use Rattle.std.specs.Prelude.{ℕ, ◌≢◌, ◌↔◌, ◌⊎◌, List, Contains, Option, map}
 use Rattle.std.specs.FinMap.{get}
 use Rattle.ospf_types.specs.declared.entry.Vertex.{Vertex}
@@ -28,6 +28,6 @@ IsGrown now start Holds = (v : Vertex) → Contains now v ↔ (Contains start v 
 abbrev pub HasExactly : List Vertex → (Vertex → Type 0) → Type 0
 HasExactly vertices Holds = (v : Vertex) → Contains vertices v ↔ Holds v
 
--- the vertex was remembered with another distance, it came nearer, or its next hops were written
+-- the vertex was remembered with another distance, it is nearer, or its next hops were written
 abbrev pub IsDiffering : List (Vertex × Option ℕ) → DistanceMap → List Vertex → List Vertex → List Vertex → Vertex → Type 0
 IsDiffering before distances lost moved written v = IsFarther before distances v ⊎ (IsNearer moved lost v ⊎ Contains written v)

@@ -1,4 +1,5 @@
--- The parts of a queue: the distance at which each vertex waits, and next to them a heap of what was put there.
+-- The parts of a queue: the distance at which each vertex waits, and next to them a heap of what
+-- was put there.
 use Rattle.std.specs.Prelude.{ℕ, ◌%◌, ◌≡◌, ◌≢◌, Bool, true, false, nat_eq, List, Some}
 use Rattle.std.specs.BinaryHeap.{IsHeap}
 use Rattle.std.specs.FinMap.{get}

@@ -1,4 +1,5 @@
--- One number for each vertex, in the order of vertices: routers below a number, networks from there. No public clause cites this module.
+-- One number for each vertex, in the order of vertices: routers below a number, networks from
+-- there. No public clause cites this module.
 use Rattle.std.specs.Prelude.{ℕ, ◌-◌, ◌^◌, ◌++◌, List, cond, map, nat_lt}
 use Rattle.ospf_types.specs.declared.entry.Vertex.{Vertex}
 use Rattle.ospf_types.specs.declared.entry.Vertex.TheVariants.{Router, Network}

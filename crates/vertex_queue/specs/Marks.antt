@@ -1,4 +1,5 @@
--- How one of many vertices is found: it is marked with the index at which the list has it. No public clause cites this module.
+-- How one of many vertices is found: it is marked with the index at which the list has it. No
+-- public clause cites this module.
 use Rattle.std.specs.Prelude.{◌≡◌, ◌⊎◌, ◌≤◌, ℕ, List, Contains, Some, length, slice_get}
 use Rattle.std.specs.FinMap.{FinMap, get}
 use Rattle.ospf_types.specs.declared.entry.Vertex.{Vertex}

@@ -1,4 +1,5 @@
--- The queue of a shortest-path search (RFC 2328, 16.1, step (3)): the vertices that wait, each at a distance.
+-- The queue of a shortest-path search (RFC 2328, 16.1, step (3)): the vertices that wait, each at a
+-- distance.
 use Rattle.std.specs.Prelude.{ℕ, ◌+◌, ◌*◌, ◌≡◌, ◌≢◌, Bool, false, Option, Some, None, nat_le, if◌then◌else◌}
 use Rattle.std.specs.Ordering.{nat_cmp, ordering_then}
 use Rattle.std.specs.declared.cmp.Ordering.{Ordering}
@@ -17,7 +18,8 @@ abbrev pub kind_and_number : Vertex → ℕ × ℕ
 kind_and_number (Network n) = (0, n)
 kind_and_number (Router r) = (1, r)
 
--- the order in which vertices leave the queue: by distance, of equal distances networks before routers, then by number
+-- the order in which vertices leave the queue: by distance, of equal distances networks before
+-- routers, then by number
 abbrev pub queue_cmp : ℕ × Vertex → ℕ × Vertex → Ordering
 queue_cmp x y =
     ordering_then (nat_cmp x.0 y.0) (ordering_then (nat_cmp (kind_and_number x.1).0 (kind_and_number y.1).0) (nat_cmp (kind_and_number x.1).1 (kind_and_number y.1).1))

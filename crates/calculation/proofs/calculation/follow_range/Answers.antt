@@ -1,4 +1,5 @@
--- A range that was set or dropped is the one that is named; where there is none, the areas are those of before.
+-- A range that was set or dropped is the one that is named; where there is none, the areas are
+-- those of before.
 use Rattle.std.proofs.Common.{ℕ, List, Option, sym, subst}
 use Rattle.std.proofs.lemmas.Result.{IfOk-weaker}
 use Rattle.ospf_types.specs.declared.config.AreaConfig.{AreaConfig}

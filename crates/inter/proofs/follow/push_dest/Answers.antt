@@ -1,4 +1,4 @@
--- What was added first is still there.
+-- The elements added first are still there.
 use Rattle.inter.proofs.follow.push_dest.Goals as goal
 
 pub returns : goal.returns

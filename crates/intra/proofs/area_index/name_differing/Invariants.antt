@@ -1,4 +1,5 @@
--- Who names what is left of both lists, unless they offer it alike, has named so of the whole lists.
+-- Who names what is left of both lists, unless they offer it alike, has named so of the whole
+-- lists.
 use Rattle.std.proofs.Common.{List, length}
 use Rattle.std.specs.List.{Contains}
 use Rattle.ospf_types.specs.declared.prefix.Prefix.{Prefix}

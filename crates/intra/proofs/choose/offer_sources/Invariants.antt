@@ -1,4 +1,5 @@
--- Who takes the offers of the sources that are left has taken them all; the network that was found is the nearest so far, at a distance of the tree.
+-- Who takes the offers of the sources that are left has taken them all; the network that was found
+-- is the nearest so far, at a distance of the tree.
 use Rattle.std.proofs.Common.{◌<◌, drop, take, Option}
 use Rattle.std.specs.Prelude.{IfSome}
 use Rattle.ospf_types.specs.declared.hop.Path.{Path}

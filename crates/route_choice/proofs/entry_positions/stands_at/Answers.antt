@@ -1,4 +1,4 @@
--- What is at the place is the key's.
+-- The entry at the place is the key's.
 use Rattle.std.proofs.Common.{◌≡◌, Some, sym, ap, ◌∙◌}
 use Rattle.std.proofs.lemmas.Option.{same_Some}
 use Rattle.route_choice.specs.Results.{result_in}

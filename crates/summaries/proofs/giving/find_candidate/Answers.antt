@@ -1,4 +1,4 @@
--- Of the routes that are kept.
+-- By the routes that are kept.
 use Rattle.std.proofs.Common.{◌≡◌, ℕ, Option, Some, ap, subst, ◌∙◌}
 use Rattle.std.specs.Prelude.{◌↔◌}
 use Rattle.std.specs.FinMap.{get}

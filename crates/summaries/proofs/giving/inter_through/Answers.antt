@@ -1,4 +1,4 @@
--- What the entry leads through, of the routes that are kept.
+-- The area that the entry leads through, by the routes that are kept.
 use Rattle.std.proofs.Common.{◌≡◌, Option, Some, ap, subst, ◌∙◌}
 use Rattle.std.specs.Prelude.{◌↔◌}
 use Rattle.std.specs.FinMap.{get}

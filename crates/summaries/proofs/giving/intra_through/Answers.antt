@@ -1,4 +1,5 @@
--- What the entry leads through, of the routes that are kept, and whether a range there has the network.
+-- The area that the entry leads through, by the routes that are kept, and whether a range there has
+-- the network.
 use Rattle.std.proofs.Common.{◌≡◌, Option, Some, sym, ap, subst, ◌∙◌, true, false}
 use Rattle.std.specs.Prelude.{◌↔◌}
 use Rattle.std.specs.FinMap.{get}

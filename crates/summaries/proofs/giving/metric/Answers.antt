@@ -1,4 +1,4 @@
--- Of a network what gives it tells, and of a router its preferred route.
+-- The metric of a network by its sources, and of a router by its preferred route.
 use Rattle.std.proofs.Common.{sym, subst}
 use Rattle.ospf_types.specs.declared.key.Dest.{Dest}
 use Rattle.summaries.specs.Candidates.{AreOf}

@@ -1,4 +1,4 @@
--- What the costliest component says of the inputs that are kept.
+-- The costliest component, by the inputs that are kept.
 use Rattle.std.proofs.Common.{◌≡◌, ℕ, Some, None, refl, sym, subst, ◌∙◌}
 use Rattle.std.specs.Prelude.{◌↔◌}
 use Rattle.ospf_types.specs.Summaries.{IsGreatest}

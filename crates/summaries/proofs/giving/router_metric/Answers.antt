@@ -1,4 +1,4 @@
--- Outside stub areas the preferred route tells.
+-- Outside stub areas the preferred route decides.
 use Rattle.std.proofs.Common.{sym, ◌∙◌}
 use Rattle.summaries.proofs.giving.router_metric.Goals as goal
 

@@ -1,4 +1,4 @@
--- What was given, and what the areas up to here give besides.
+-- The sources given, and those that the areas up to here give in addition.
 use Rattle.std.proofs.Common.{◌≡◌, ℕ, ◌⊎◌, Some, take}
 use Rattle.summaries.specs.Candidates.{IsOrdered, metric_into}
 use Rattle.summaries.specs.Giving.{IsMost}

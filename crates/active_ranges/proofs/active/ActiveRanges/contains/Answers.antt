@@ -1,4 +1,4 @@
--- The first range with the prefix and a network tells.
+-- The first range with the prefix and a network decides.
 use Rattle.std.proofs.Common.{ap, subst, ◌∙◌}
 use Rattle.std.specs.BTreeMap.Range.{entries_between}
 use Rattle.std.specs.declared.ops.Bound.TheVariants.{Included, Unbounded}

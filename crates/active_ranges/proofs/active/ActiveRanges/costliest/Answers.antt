@@ -1,4 +1,4 @@
--- The range's own networks tell.
+-- The range's own networks decide.
 use Rattle.std.proofs.Common.{◌≡◌, ◌<◌, Some, sym, subst, ◌∙◌}
 use Rattle.std.specs.Prelude.{◌↔◌}
 use Rattle.ospf_types.specs.Summaries.{IsGreatest}

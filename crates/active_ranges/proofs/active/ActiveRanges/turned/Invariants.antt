@@ -1,4 +1,4 @@
--- So far the prefixes of notes up to here are told, where something has turned.
+-- So far the prefixes of notes up to here are reported, where something has turned.
 use Rattle.std.proofs.Common.{[], take, drop, map}
 use Rattle.ospf_types.specs.Network.{network_cmp}
 use Rattle.route_choice.specs.Lists.{IsOfSome}

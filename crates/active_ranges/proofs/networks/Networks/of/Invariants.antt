@@ -1,4 +1,4 @@
--- This many came.
+-- This many were added.
 use Rattle.std.proofs.Common.{ℕ, map, take}
 use Rattle.active_ranges.specs.Grouped.{AreMadeOf}
 use Rattle.active_ranges.specs.declared.member.RangeMember.{RangeMember}

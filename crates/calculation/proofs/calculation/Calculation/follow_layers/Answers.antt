@@ -143,7 +143,8 @@ returns-clause-right c =
 abbrev now : goal.After-drop-within-2 → CalculationValue
 now c = record { trees = c.self.inside.trees.items; intra = c.follow_intra.new.intra; active = c.update.new.self; inter = c.follow_inter.new.inter; external = c.follow_external.new.external }
 
--- A network that no layer named has its item still; what is due rests on the same routes; and the range is named.
+-- A network that no layer named has its item still; what is due rests on the same routes; and the
+-- range is named.
 layers_kept : (c : goal.After-drop-within-2) → AreItemsKept c.in_ok-networks.networks.items c.args.self.now (now c) × RoutesDifferAmong c.push_members.new.dests.items c.args.self.now (now c)
     × IsRangeNamed c.args.range c.push_members.new.dests.items c.args.self.now.intra.entries
 layers_kept c =

@@ -1,4 +1,4 @@
--- the first networks are gone through
+-- the first networks are done
 use Rattle.event_core.proofs.OtherItems.{AreOthersTo}
 use Rattle.event_core.proofs.routes.TableUpdate.other_items.Given as goal
 

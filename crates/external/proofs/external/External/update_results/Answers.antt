@@ -1,4 +1,5 @@
--- What is not due stands; then all results are chosen, and what differs is told.
+-- The results that are not due stay; then all results are chosen, and those that differ are
+-- reported.
 use Rattle.std.proofs.Common.{◌≡◌, ◌++◌, ℕ, List, map, sym, subst, ◌∙◌}
 use Rattle.std.specs.Prelude.{◌↔◌}
 use Rattle.std.specs.FinMap.{from_entries, get}

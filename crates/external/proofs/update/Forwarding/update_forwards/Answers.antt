@@ -1,4 +1,4 @@
--- What is not due stands.
+-- The matches that are not due stay.
 use Rattle.external.proofs.update.Forwarding.update_forwards.Goals as goal
 
 pub follow-requires : goal.follow-requires

@@ -1,4 +1,4 @@
--- What is advertised under the key, part by part.
+-- The route that is advertised under the key, part by part.
 use Rattle.std.proofs.Common.{◌≡◌, ℕ, ◌+◌, List, true, sym, subst, ◌∙◌}
 use Rattle.std.proofs.lemmas.Result.{on_ok_weaker}
 use Rattle.ospf_types.specs.declared.hop.NextHop.{NextHop}

@@ -1,4 +1,5 @@
--- What is affected by the LSAs of one area, or by another area in place of what was examined before.
+-- The destinations affected by the LSAs of one area, or by another area in place of what was
+-- examined before.
 use Rattle.std.proofs.Common.{sym, ◌∙◌}
 use Rattle.std.proofs.lemmas.Result.{on_ok_weaker}
 use Rattle.inter.specs.Following.{area_of}

@@ -1,4 +1,4 @@
--- The index was that of the LSAs of this area.
+-- The index belonged to the LSAs of this area.
 use Rattle.std.proofs.Common.{◌≡◌, ℕ, Option, Some, sym, ap, subst, ◌∙◌}
 use Rattle.inter.specs.Following.{IsIndexSince}
 use Rattle.inter.specs.Inputs.{ExaminedValue, InterInputsValue}

@@ -1,4 +1,4 @@
--- What may get another entry is gathered.
+-- The destinations that may get another entry are gathered.
 use Rattle.std.proofs.Common.{ℕ, List, Option, ap, subst}
 use Rattle.ospf_types.specs.declared.key.Dest.{Dest}
 use Rattle.advertised_index.specs.Indexes.{ChangedOffersValue, OfferIndexValue}

@@ -1,4 +1,4 @@
--- What is not named stands; then each entry is chosen.
+-- The entries that are not named stay; then each entry is chosen.
 use Rattle.std.proofs.Common.{◌≢◌, ap, subst, sym, ◌∙◌}
 use Rattle.std.specs.Prelude.{◌↔◌, Contains}
 use Rattle.std.specs.FinMap.{get, from_entries}

@@ -1,4 +1,4 @@
--- What the vertex offers is pushed.
+-- The offers of the vertex are pushed.
 use Rattle.std.proofs.Common.{◌≡◌, List, ap, sym, subst, ◌∙◌}
 use Rattle.std.specs.List.{Contains}
 use Rattle.std.specs.FinMap.{get}

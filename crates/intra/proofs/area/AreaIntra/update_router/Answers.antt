@@ -1,4 +1,4 @@
--- The router is told, or the same is kept of it as before.
+-- The router is reported, or the same is kept of it as before.
 use Rattle.std.proofs.Common.{ℕ, Option, ap, inl, inr, refl, sym, ◌∙◌}
 use Rattle.std.specs.FinMap.{get}
 use Rattle.ospf_types.specs.declared.entry.Vertex.TheVariants.{Router}

@@ -1,4 +1,4 @@
--- What was gathered, sorted, without duplicates.
+-- The gathered prefixes, sorted, without duplicates.
 use Rattle.std.proofs.Common.{◌≡◌, length, ap, sym, ◌∙◌}
 use Rattle.std.specs.Cmp.{nat_cmp_total}
 use Rattle.std.proofs.lemmas.Map.Lookups.{exact_unsigned}

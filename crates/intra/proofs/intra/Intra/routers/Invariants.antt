@@ -1,4 +1,5 @@
--- So far the routers of the areas up to here are there, each as often as there are such areas where it is.
+-- So far the routers of the areas up to here are there, each as often as there are such areas where
+-- it is.
 use Rattle.std.proofs.Common.{◌≡◌, ◌==◌, ℕ, take}
 use Rattle.std.specs.Prelude.{◌↔◌, is_some, count_by}
 use Rattle.std.specs.FinMap.{get}

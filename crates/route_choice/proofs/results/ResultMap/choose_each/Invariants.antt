@@ -1,4 +1,5 @@
--- So far the results at the keys up to here are recomputed, and no more places are noted than there are results.
+-- So far the results at the keys up to here are recomputed, and no more places are noted than there
+-- are results.
 use Rattle.std.proofs.Common.{length}
 use Rattle.route_choice.specs.Results.{result_in}
 use Rattle.route_choice.proofs.ChosenAnew.{IsSoFar}

@@ -1,4 +1,4 @@
--- All results are chosen, and those that differ are told.
+-- All results are chosen, and those that differ are reported.
 use Rattle.std.proofs.Common.{List, sym, subst}
 use Rattle.std.specs.Prelude.{◌↔◌, Contains}
 use Rattle.std.specs.List.Sorted.{IsStrictlySortedBy}

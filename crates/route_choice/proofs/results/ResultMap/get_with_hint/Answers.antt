@@ -1,4 +1,4 @@
--- What is where it was left is the key's, if the key is there.
+-- The entry at the hint is the key's, if it has the key.
 use Rattle.std.proofs.Common.{◌≡◌, Some, sym, ap, subst, ◌∙◌}
 use Rattle.std.specs.Map.{lookup}
 use Rattle.route_choice.specs.Results.{Results, result_at}
