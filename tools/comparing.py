@@ -20,6 +20,8 @@ import functools
 import os
 import re
 
+import number_table
+
 TOP = os.path.dirname(os.path.dirname(os.path.realpath(__file__)))
 ROWS = "crates/abr_rows/data"
 # The commands whose first word is a file that is read.
@@ -33,6 +35,7 @@ INDENT, LEFT_OUT, FENCE = "    ", "..", "```"
 MOST_LINES = {
     "README.md": 130,
     "docs/C.md": 120,
+    "docs/FORMATS.md": 450,
     "docs/LIBRARY.md": 150,
 }
 LINK = re.compile(r"\[[^\]]*\]\(([^()\s]+)\)")
@@ -56,7 +59,7 @@ VERSIONS = {
 def faults():
     """Returns what is wrong with the pages, and with the versions."""
     found = [f"{page}:{line}: {fault}" for page in pages() for line, fault in faults_of(page)]
-    return [*found, *faults_of_versions(), *faults_of_crates()]
+    return [*found, *faults_of_versions(), *faults_of_crates(), *filter(None, [number_table.fault()])]
 
 
 @functools.lru_cache(maxsize=None)
