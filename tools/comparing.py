@@ -20,6 +20,8 @@ import functools
 import os
 import re
 
+import number_table
+
 TOP = os.path.dirname(os.path.dirname(os.path.realpath(__file__)))
 ROWS = "crates/abr_rows/data"
 # The commands whose first word is a file that is read.
@@ -33,6 +35,8 @@ INDENT, LEFT_OUT, FENCE = "    ", "..", "```"
 MOST_LINES = {
     "README.md": 130,
     "docs/C.md": 120,
+    "docs/COMMANDS.md": 220,
+    "docs/FORMATS.md": 450,
     "docs/LIBRARY.md": 150,
 }
 LINK = re.compile(r"\[[^\]]*\]\(([^()\s]+)\)")
@@ -56,7 +60,7 @@ VERSIONS = {
 def faults():
     """Returns what is wrong with the pages, and with the versions."""
     found = [f"{page}:{line}: {fault}" for page in pages() for line, fault in faults_of(page)]
-    return [*found, *faults_of_versions(), *faults_of_crates()]
+    return [*found, *faults_of_versions(), *faults_of_crates(), *filter(None, [number_table.fault()])]
 
 
 @functools.lru_cache(maxsize=None)
@@ -160,7 +164,11 @@ def without_empty_end(block):
 
 def fault_of_lines(block, file):
     """Compares the parts of a block with a file, whatever the indents: each is there whole, after the one before it."""
-    shown, given = [it.strip() for it in block], [it.strip() for it in lines_of(file) or []]
+    return fault_of_parts([it.strip() for it in block], [it.strip() for it in lines_of(file) or []], file)
+
+
+def fault_of_parts(shown, given, name):
+    """Compares the parts that are shown, between lines `..`, with what is given: each is there whole, after the one before it."""
     at, part = 0, []
     for line in [*shown, LEFT_OUT]:
         if line != LEFT_OUT:
@@ -169,7 +177,7 @@ def fault_of_lines(block, file):
         found = [k for k in range(at, len(given) - len(part) + 1) if given[k : k + len(part)] == part]
         if not found:
             missing = [it for it in part if it not in given]
-            return f"{file} has no line `{missing[0]}`" if missing else f"{file} does not have this block so"
+            return f"{name} has no line `{missing[0]}`" if missing else f"{name} does not have this block so"
         at, part = found[0] + len(part), []
     return ""
 
@@ -256,7 +264,12 @@ def fault_of_commands(block):
         wanted = [it.said if is_made else it.wanted for it in found if is_made or not it.said]
         if not wanted:
             return f"no row of {ROWS} has the command `{' '.join(words)}`"
-        if shown not in wanted:
+        if LEFT_OUT in shown:
+            # (the marks hold the first part to the beginning, and the last to the end)
+            fault = fault_of_parts(["^", *shown, "$"], ["^", *wanted[0], "$"], f"a row of {ROWS}")
+            if fault:
+                return fault
+        elif shown not in wanted:
             return difference(shown, wanted[0], f"a row of {ROWS}")
         if is_made:
             made[words[-1]] = "".join(f"{it}\n" for it in found[0].wanted).encode()
