@@ -31,18 +31,23 @@ OWN = {"build", "install", "uninstall", "man", "completions"}
 # A line before a block of lines of a file.
 QUOTED = re.compile(r".*\[[^\]]*\]\((\S+)\):")
 INDENT, LEFT_OUT, FENCE = "    ", "..", "```"
-# How many lines a page may have.
+# The most lines of a page.
 MOST_LINES = {
     "README.md": 130,
     "docs/C.md": 120,
     "docs/COMMANDS.md": 220,
     "docs/FORMATS.md": 450,
     "docs/LIBRARY.md": 150,
+    "docs/PROFILE.md": 60,
+    "docs/PROVED.md": 130,
+    "docs/THEOREM.md": 200,
 }
 LINK = re.compile(r"\[[^\]]*\]\(([^()\s]+)\)")
 PICTURE = re.compile(r"!\[[^\]]*\]\(([^()\s]+[.]svg)\)")
 # The table of crates, and a row of it: the crate, and last the files of its sources.
 CRATES, CRATE = "docs/ARCHITECTURE.md", re.compile(r"\| `(\w+)` \|.*\| ([\w, -]+) \|")
+# The table of what is proved, and a row of it: the claim, the functions, and links to the files that have them.
+PROMISES, PROMISE = "docs/PROVED.md", re.compile(r"\| ([^|]+) \| (`\w+`(?:, `\w+`)*) \| ([^|]+) \|")
 # A span of code, in which brackets are no link; and the command in one.
 CODE = re.compile(r"`[^`]*`")
 COMMAND = re.compile(r"`\./abr (\w+)[^`]*`")
@@ -60,7 +65,7 @@ VERSIONS = {
 def faults():
     """Returns what is wrong with the pages, and with the versions."""
     found = [f"{page}:{line}: {fault}" for page in pages() for line, fault in faults_of(page)]
-    return [*found, *faults_of_versions(), *faults_of_crates(), *filter(None, [number_table.fault()])]
+    return [*found, *faults_of_versions(), *faults_of_crates(), *faults_of_promises(), *filter(None, [number_table.fault()])]
 
 
 @functools.lru_cache(maxsize=None)
@@ -102,6 +107,23 @@ def faults_of_crates():
         wanted = ", ".join(it for it in names if it not in ("lib", "main")) or "-"
         if files != wanted:
             yield f"{CRATES}: the files of {crate} are {wanted}"
+
+
+def faults_of_promises():
+    """Yields what is wrong with the table of what is proved: each function is in a file of its row, and each file has one of them."""
+    for number, line in enumerate(lines_of(PROMISES), 1):
+        row = PROMISE.fullmatch(line)
+        if line.startswith("| ") and not row and not line.startswith("| Claim "):
+            yield f"{PROMISES}:{number}: this row is not a claim, functions and files"
+        names, files = (re.findall(r"\w+", row[2]), LINK.findall(row[3])) if row else ([], [])
+        found = {it: defined_in(path_of(PROMISES, it)) & {*names} for it in files}
+        yield from (f"{PROMISES}:{number}: no file of the row has `fn {it}`" for it in names if it not in set().union(*found.values()))
+        yield from (f"{PROMISES}:{number}: {it} has no function of the row" for it in files if not found[it])
+
+
+def defined_in(file):
+    """Returns the names of the functions of a file."""
+    return {*re.findall(r"\bfn (\w+)", "\n".join(lines_of(file) or []))}
 
 
 def faults_of(page):
