@@ -1,4 +1,4 @@
-"""Compares the pages of the repository with the files that they quote, follows their links, and compares the versions.
+"""Compares the pages of the repository with the files that they quote, and follows their links. Compares the versions, and numbers.
 
 Each block of a page (lines indented by four spaces, after an empty line or a line that ends in a link and a colon) is one of these:
 
