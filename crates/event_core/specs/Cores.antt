@@ -103,8 +103,8 @@ abbrev pub NamesChanges : CoreValue → Status → CoreValue → Type 0
 NamesChanges old Current new = (IsCurrent old → NamesDifferences old new) × ((IsCurrent old → ⊥) → NamesNothing new)
 NamesChanges old Behind new = NamesNothing new
 
--- If an event finds the table current and leaves it current, the work is the sum over the areas,
--- and in each area it is bounded by what differs. If the table was behind before, everything is
+-- If an event finds the table current and leaves it current, the work is the sum over the areas.
+-- In each area it is bounded by what differs. If the table was behind before, everything is
 -- built: the work is the sum over the areas of what is reached. If it is behind after, there is no
 -- work.
 abbrev pub HasBoundedWork : CoreValue → Status → CoreValue → Type 0
