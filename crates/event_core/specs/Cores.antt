@@ -47,7 +47,7 @@ pub record CoreValue : Type 0 where
 abbrev pub state_of : CoreValue → State
 state_of c = run_of c.base c.limits c.journal
 
--- those that table and due summaries are of
+-- the databases and interfaces that table and due summaries reflect
 abbrev pub built_state : CoreValue → State
 built_state c = run_of c.base c.limits (take c.built c.journal)
 
@@ -103,9 +103,10 @@ abbrev pub NamesChanges : CoreValue → Status → CoreValue → Type 0
 NamesChanges old Current new = (IsCurrent old → NamesDifferences old new) × ((IsCurrent old → ⊥) → NamesNothing new)
 NamesChanges old Behind new = NamesNothing new
 
--- If an event finds the table current and leaves it current, the work is the sum over the areas,
--- and in each area it is bounded by what differs. If the table was behind before, everything is
--- built: the work is the sum over the areas of what is reached.
+-- If an event finds the table current and leaves it current, the work is the sum over the areas.
+-- In each area it is bounded by what differs. If the table was behind before, everything is
+-- built: the work is the sum over the areas of what is reached. If it is behind after, there is no
+-- work.
 abbrev pub HasBoundedWork : CoreValue → Status → CoreValue → Type 0
 HasBoundedWork old Current new = (IsCurrent old → IsFollowingWork (state_of old) (state_of new) new.work) × ((IsCurrent old → ⊥) → IsBuildingWork (state_of new) new.work)
 HasBoundedWork old Behind new = new.work ≡ no_work

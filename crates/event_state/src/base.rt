@@ -1,4 +1,7 @@
 //! The base: the state before the first event of a journal.
+//!
+//! A base that a caller gives keeps its order. A roll lists interfaces by id, and LSAs by area and
+//! key, those of the AS last.
 ghost use Rattle.std.specs.Prelude.{◌≡◌, ◌↔◌, IsTrue, IfOk};
 ghost use Rattle.event_state.specs.Bases.{bare, HasConfigOnly};
 

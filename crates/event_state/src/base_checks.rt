@@ -107,6 +107,8 @@ pub fn fault_in_base(
     }
 }
 
+// Returns true if an interface id, or a key in a scope, is listed twice. Scopes that are not
+// configured count too.
 fn is_doubled(alloc: Global, base: &Base) -> Result<bool, Memory>
     ensures { IfOk result (λ doubled. doubled ≡ is_doubled base.now) }
 {

@@ -132,6 +132,8 @@ impl Same for ForwardingMatch {
 
 /// Looks up the address (in host order) among the networks with an intra-area or inter-area entry
 /// and the active ranges.
+///
+/// An active range counts by its prefix, also if the table has an external route for that prefix.
 pub(crate) fn look_up(
     alloc: Global,
     inputs: &ExternalInputs<'_>,

@@ -164,7 +164,8 @@ impl<'a> VertexPair<'a> {
 
 /// Returns the label of a link from a network to a router with these ends there, usually one.
 ///
-/// RFC 2328, 16.1.1: the Link Data of each link back to the network is the address of a next hop.
+/// RFC 2328, 16.1.1: the Link Data of each link back to the network, even of metric 0, is the
+/// address of a next hop.
 fn label_onto(alloc: Global, ends: &[LinkEnd]) -> Result<LinkLabel, Memory>
     ensures label { IfOk result (λ label. label ≡ At (details_of ends.now)) }
 

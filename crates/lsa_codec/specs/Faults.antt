@@ -106,12 +106,12 @@ is_incomplete count w = not (length w.met == count) || not (length w.left == 0)
 
 -- ---- bodies
 --
--- Records are met by a walk over a body: a link with its TOS entries, a Router ID, a TOS entry or
--- an external record is met where it lies whole in what is left of the body, and the walk over
--- links stops when as many were met as are counted. A body begins with a fixed part, and where that
--- is not whole nothing of the body is met. What is found of a body: a byte that is to be zero and
--- is not, a mask that is none, a link of no known type, and a shape other than a fixed part and
--- whole records.
+-- Records are met by a walk over a body. A record is a link with its TOS entries, a Router ID, a
+-- TOS entry or an external record. It is met if it lies whole in what is left of the body. The walk
+-- over links stops when as many were met as are counted. A body begins with a fixed part, and if
+-- that is not whole nothing of the body is met. The findings of a body are: a byte that has to be
+-- zero and is not, a mask that is not valid, a link of unknown type, and a wrong shape. The right
+-- shape is a fixed part and whole records.
 
 -- the fixed part of this many bytes is not whole
 abbrev pub is_cut : ℕ → List ℕ → Bool

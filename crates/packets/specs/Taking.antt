@@ -8,8 +8,8 @@ use Rattle.packets.specs.Parts.{Part, AreAgreed, IsWhole, part_of}
 use Rattle.packets.specs.Kept.{Kept, nothing_of, IsMadeOf, key_of}
 use Rattle.packets.specs.Keeping.{kept_of, kept_after, whole_with}
 
--- the payload is answered just if the fragments make it whole. Then the datagram is forgotten, and
--- also where its fragments contradict each other; else what is kept of it is made of them. What is
+-- the payload is returned exactly if the fragments make it whole. Then the datagram is forgotten,
+-- and also if its fragments contradict each other; else what is kept of it is made of them. What is
 -- kept of others stays, or is forgotten.
 pub record IsTaken (key : Key) (p : Part) (old new : List Kept) (answer : Option (List ℕ)) : Type 0 where
   pub whole : (parts : List Part) → IsMadeOf parts (kept_of key old) → (payload : List ℕ) → (answer ≡ Some payload) ↔ IsWhole (p ∷ parts) payload
@@ -17,7 +17,7 @@ pub record IsTaken (key : Key) (p : Part) (old new : List Kept) (answer : Option
   pub kept : (parts : List Part) → IsMadeOf parts (kept_of key old) → AreAgreed (p ∷ parts) → answer ≡ None → IsMadeOf (p ∷ parts) (kept_of key new)
   pub others : (other : Key) → other ≢ key → (kept_of other new ≡ kept_of other old) ⊎ (kept_of other new ≡ nothing_of other)
 
--- what is kept, and what is answered, after a fragment
+-- the kept parts, and the result, after a fragment
 abbrev pub kept_with : Datagram → List Kept → List Kept
 kept_with d all = kept_after (key_of d) (part_of d) all
 

@@ -76,7 +76,7 @@ abbrev pub StartsAt : ℕ → Type 0 → (Vertex → Option ℕ) → List Vertex
 StartsAt root has_root old lost v d = ((v ≡ Router root) × has_root × (d ≡ 0)) ⊎ ((v ≢ Router root) × (Contains lost v → ⊥) × (old v ≡ Some d))
 
 -- What relaxing starts from: what is not lost is held by links after, and each link from where the
--- search starts came, leads to what is lost, or leads no nearer.
+-- search starts was added, leads to what is lost, or leads no nearer.
 pub record AreStarted (after come : Links) (root : ℕ) (has_root : Type 0) (old : Vertex → Option ℕ) (lost : List Vertex) : Type 0 where
   pub held : AreHeld after root old lost []
   pub reached : (v : Vertex) → Contains lost v → IsReached root old v

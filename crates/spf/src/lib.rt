@@ -34,9 +34,9 @@
 //!
 //! Sets of up to sixteen vertices are searched one by one. Larger ones are marked by place, and a
 //! mark counts only if the set has the vertex there, so a set is emptied without visiting its
-//! marks. The memory of a repair with more than 512 vertices is given back. The queue keeps its
-//! places, as an empty one would hash each vertex again. Places of removed vertices are dropped if
-//! there are more than twice as many places as vertices.
+//! marks. The sets and lists of a repair with more than 512 vertices are given back. The queue
+//! keeps its places, as an empty one would hash each vertex again. Places of removed vertices are
+//! dropped if there are more places than twice the number of vertices, and 64.
 #![tactic(auto)]
 
 mod gathering;

@@ -278,7 +278,8 @@ fn range_through(inputs: &SummaryInputs<'_>, area: &AreaConfig, prefix: Prefix) 
     if !advertises(area, prefix) {
         return None;
     }
-    // 12.4.3: the cost of a range is the highest cost of its networks below LSInfinity.
+    // 12.4.3: the cost of a range is the highest cost of its networks below LSInfinity. Networks
+    // are left out one by one, and the range itself is not judged again.
     let cost = inputs.ranges.costliest(prefix, area.id, LS_INFINITY)?;
     Some(Through {
         area: area.id,
@@ -344,7 +345,8 @@ fn preferred_through(preferred: Option<&AsbrRoute>) -> Option<Through>
     ensures { IsOnly (IsPreferredThrough (option_copied preferred.entry)) result }
 {
     let preferred = preferred?;
-    // 12.4.3: AS boundary routers are advertised by their preferred route, below LSInfinity.
+    // 12.4.3: AS boundary routers are advertised by their preferred route, below LSInfinity. No
+    // other route replaces it.
     if preferred.cost() < LS_INFINITY {
         return Some(Through {
             area: preferred.area(),

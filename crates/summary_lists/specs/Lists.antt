@@ -50,8 +50,8 @@ pub record IsChangedBy (metrics : Metrics) (old new : List DueSummary) : Type 0 
 abbrev pub AreMetricsInOrder : Metrics → Type 0
 AreMetricsInOrder metrics = IsStrictlySortedBy dest_cmp (keys_of metrics)
 
--- just the destinations of which the new list tells otherwise than the old one, ascending, each
--- with what the new one tells
+-- just the destinations that the new list has otherwise than the old one, ascending, each with its
+-- metric in the new one
 pub record AreChangesBetween (metrics : Metrics) (old new : List DueSummary) : Type 0 where
   pub in_order : AreMetricsInOrder metrics
   pub exact : (d : Dest) (metric : Option ℕ) → Contains metrics (d, metric) ↔ (IsMetricIn new d metric × (IsMetricIn old d metric → ⊥))
