@@ -1,4 +1,4 @@
--- What the LSAs of a Link State Update come to, one after the other.
+-- The results of the LSAs of a Link State Update, one after the other.
 use Rattle.std.specs.Prelude.{ℕ, ◌≡◌, nat_lt, if◌then◌else◌, List, [], ◌∷◌, ◌++◌, length, Ok, Err}
 use Rattle.packets.specs.Updates.{Piece, pieces_of}
 use Rattle.packets.specs.declared.fault.UpdateFault.TheVariants.{Count}

@@ -1,4 +1,5 @@
--- The block that declares an interface: a link type, 2 reserved bytes and a snap length, and then options.
+-- The block that declares an interface: a link type, 2 reserved bytes and a snap length, and then
+-- options.
 use Rattle.std.specs.Prelude.{ℕ, ◌-◌, List, length, slice_range, Result, Ok}
 use Rattle.captures.specs.declared.fault.FaultKind.{FaultKind}
 use Rattle.captures.specs.declared.front.Front.{Front}

@@ -21,7 +21,7 @@ use Rattle.due_explanation.specs.declared.due.DueSource.{DueSource}
 use Rattle.due_explanation.specs.declared.due.SourceKind.{SourceKind}
 use Rattle.due_explanation.specs.declared.due.SourceKind.TheVariants as kind
 
--- ---- the verdict on a source by itself, whatever the area: it gives a summary if nothing prevents it
+-- ---- the verdict on a source by itself, for any area: it gives a summary if nothing prevents it
 
 -- an inter-area route, or the route of an AS boundary router
 abbrev pub IsRouteFate : ℕ → DueVerdict → Type 0

@@ -60,7 +60,7 @@ AreLinksIn a links = (l : Bor Link) → Contains links l → LinksOf a.tree.area
 abbrev pub AreStepsIn : AreaValue → Vertex → NextHop → List Step → Type 0
 AreStepsIn a v h steps = (links : List Link) × IsPathOver a.tree.area.graph v h links × AreLinkSteps a links steps
 
--- in the area with this Area ID, or none if there is no such area
+-- in the area with this Area ID; empty if there is no such area
 abbrev pub AreSteps : List AreaValue → ℕ → Vertex → NextHop → List Step → Type 0
 AreSteps areas id v h steps = ((a : AreaValue) × HasArea areas id a × AreStepsIn a v h steps) ⊎ (LacksArea areas id × (steps ≡ []))
 

@@ -34,7 +34,8 @@ abbrev pub at_cost : Network → Option ℕ → Option Counted
 at_cost p None = None
 at_cost p (Some cost) = Some (record { network = p; cost = cost })
 
--- the network with its cost, if it lies in the range, and an intra-area route of the area leads there
+-- the network with its cost, if it lies in the range, and an intra-area route of the area leads
+-- there
 abbrev pub counted_in : (area : ℕ) → (range : Network) → Network × Item → Option Counted
 counted_in area range x = if is_inside range x.0 then at_cost x.0 (intra_cost_of area x.1) else None
 
@@ -95,7 +96,7 @@ areas_text items areas =
     then flat_map (area_text items) areas
     else codes "<p>No area has an address range.</p>\n"
 
--- the heading of the section, and what is told of a range
+-- the heading of the section, and the columns of the ranges
 abbrev pub section_text : List ℕ
 section_text = concat (
     codes "<h2 id=\"ranges\">Address ranges</h2>\n"

@@ -49,7 +49,7 @@ abbrev pub behind_line : Format → ℕ → List ℕ
 behind_line Text number = decimal number ++ codes " behind\n"
 behind_line Json number = json_line (behind_data number)
 
--- nothing if the table is that of the present state
+-- nothing if the table reflects the present state
 abbrev pub standing_line : Format → ℕ → Status → List ℕ
 standing_line format number Current = codes ""
 standing_line format number Behind = behind_line format number
