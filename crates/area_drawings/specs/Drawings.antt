@@ -27,7 +27,7 @@ abbrev pub flags_or_none : Option ℕ → ℕ
 flags_or_none None = 0
 flags_or_none (Some flags) = flags
 
--- the bits of a router-LSA (A.4.2); 0 for a network-LSA, and if there is no LSA
+-- the bits of a router-LSA (A.4.2); 0 for a network-LSA or without an LSA
 abbrev pub bits_of_lsa : Option Body → ℕ
 bits_of_lsa None = 0
 bits_of_lsa (Some body) = flags_or_none (flags_of body)
@@ -52,7 +52,7 @@ stands_of drawing = map stand_of drawing.vertices
 abbrev pub reached_of : List Stand → List ReachedVertex
 reached_of stands = map (λ s. s.reached) stands
 
--- its next hops are those of the tree, and its roles those of its router-LSA
+-- its next hops come from the tree, and its roles from its router-LSA
 pub record IsTold (d : Database) (t : AreaTreeValue) (v : DrawnVertex) : Type 0 where
   pub hops : v.hops ≡ listed_hops (get t.tree.hops v.vertex)
   pub roles : (flags : ℕ) × HasFlags d v.vertex flags × AreRoles flags v.roles

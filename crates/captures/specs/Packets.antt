@@ -15,7 +15,7 @@ use Rattle.captures.specs.Times.{time_of}
 abbrev pub is_too_long : ℕ → ℕ → Bool
 is_too_long captured room = nat_lt room captured || nat_lt MOST_CAPTURED captured
 
--- ---- enhanced packets, and obsolete ones: interface, high and low half of the time, captured length, length on the wire, bytes, options
+-- ---- enhanced packets, and obsolete ones: interface, halves of the time, lengths, bytes, options
 
 abbrev pub units_in : Order → List ℕ → ℕ
 units_in order block = number_at order 4 12 block * 4294967296 + number_at order 4 16 block

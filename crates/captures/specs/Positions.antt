@@ -68,7 +68,7 @@ pub record IsFaulty (p : Position) (kind : FaultKind) (at : ℕ) : Type 0 where
 abbrev pub IsUnread : Position → Type 0
 IsUnread p = IsRun p p.pending (ends_by Whole) ⊎ IsRun p p.pending (ends_by CutOff)
 
--- the reason why there is no packet
+-- the reason why no packet is returned
 abbrev pub Stops : CaptureError → Position → Option (List ℕ) → Type 0
 Stops (Fault kind place) p left = IsFaulty p kind place ⊎ IsCutOff p left kind place
 Stops Read p left = IsUnread p

@@ -1,4 +1,4 @@
--- What is read was written: no other bytes are read as a packet or an interface.
+-- All that is read was written: no other bytes are read as a packet or an interface.
 use Rattle.std.specs.Prelude.{ℕ, ◌≡◌, ◌+◌, ◌^◌, ◌<◌, ◌≤◌, List, ◌++◌, length, drop, Result, Ok, Err}
 use Rattle.captures.specs.declared.fault.FaultKind.{FaultKind}
 use Rattle.captures.specs.declared.frame.BlockKind.{BlockKind}

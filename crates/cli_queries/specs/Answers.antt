@@ -26,7 +26,7 @@ value_of (answer.Printed text) = printed (string_bytes text)
 value_of (answer.Fault status line) = record { status = status; output = []; fault = string_bytes line }
 value_of answer.NoMemory = faulty fault.Memory
 
--- the answer is a text that the command prints, or one of its faults
+-- a text that the command prints, or one of its faults
 abbrev pub IsAnswer : (List ℕ → Type 0) → (CommandFault → Type 0) → AnswerValue → Type 0
 IsAnswer Prints IsFault a = ((text : List ℕ) × Prints text × (a ≡ printed text)) ⊎ ((f : CommandFault) × IsFault f × (a ≡ faulty f))
 

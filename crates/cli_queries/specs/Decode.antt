@@ -41,7 +41,7 @@ pub record Decodes (long : Bool) (word text : List ℕ) : Type 0 where
   pub given : WritesLsa word lsa
   pub printed : text ≡ printed_lsa long lsa
 
--- the reason why there are no lines
+-- the reason why no lines are printed
 abbrev pub IsDecodeFault : List ℕ → CommandFault → Type 0
 IsDecodeFault word (fault.Word NotAnAddress) = ⊥
 IsDecodeFault word (fault.Word NotHexadecimal) = ¬ IsHexadecimal word

@@ -140,9 +140,9 @@ IsEngineFault g fault.NoEntry = config_fault_of (config_of g) ≡ None
 IsEngineFault g fault.Memory = Unit {0}
 IsEngineFault g _ = ⊥
 
--- The reason why there is no line. A word's fault is the fault of the first word that has one. The
--- LSA is read once all words are, and the configuration and the events are tested once the LSA is
--- read. Memory may run out anywhere.
+-- The reason why nothing is looked up. A word's fault is the fault of the first word that has one.
+-- The LSA is read once all words are, and the configuration and the events are tested once the LSA
+-- is read. Memory may run out anywhere.
 abbrev pub IsFault : OneTexts → CommandFault → Type 0
 IsFault words (fault.Word f) = IsFirstFault words f
 IsFault words (fault.Wire f) = AreRead words × HasWireFault words.lsa f
