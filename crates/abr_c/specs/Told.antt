@@ -14,7 +14,7 @@ use Rattle.event_core.specs.declared.reply.Status.{Status}
 use Rattle.event_core.specs.Cores.{CoreValue, Applies, IsRollRefusal, NamesChanges, HasBoundedWork, Rolls, MatchesStatus}
 use Rattle.abr_c.specs.Numbers.{answer_number, no_core, no_network, out_of_memory, refusal_number, status_number, wire_number}
 
--- the core answers the event, and C gets the number of the answer
+-- the reply of the core to the event, and its number
 pub record IsAnswered (e : Event) (old : CoreValue) (told : ℕ) (new : CoreValue) : Type 0 where
   pub answer : Result Reply Refusal
   pub number : told ≡ answer_number answer

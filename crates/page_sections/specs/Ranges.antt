@@ -96,7 +96,7 @@ areas_text items areas =
     then flat_map (area_text items) areas
     else codes "<p>No area has an address range.</p>\n"
 
--- the heading of the section, and the columns of the ranges
+-- the heading of the section, and a sentence about its contents
 abbrev pub section_text : List ℕ
 section_text = concat (
     codes "<h2 id=\"ranges\">Address ranges</h2>\n"
