@@ -1,4 +1,4 @@
--- Vertices that are put each behind the one before it.
+-- Vertices that follow one another.
 use Rattle.std.proofs.Common.{◌≡◌, ◌⊎◌, inl, inr, ⊎_elim, ℕ, ◌+◌, ◌<◌, List, [], ◌∷◌, ◌++◌, Option, None, Some, length, take, map, get_or, refl, sym, ap, subst, ◌∙◌, arith}
 use Rattle.std.specs.Prelude.{◌↔◌}
 use Rattle.std.specs.List.{All, Contains}
@@ -41,12 +41,12 @@ all_behind b (s ∷ ss) last run =
     let here = behind b s run.0 in
     All-cons (λ t. IsBefore b.place t.place) s ss here (All-weaker (λ t. IsBefore s.place t.place) (λ t. IsBefore b.place t.place) (λ t later. farther b.place s.place t.place here later) ss (all_behind s ss last run.1))
 
--- each stands before those behind it
+-- each comes before the next ones
 pub in_places : (before : Option Stand) (ss : List Stand) (last : Option Stand) → IsRun before ss last → AreInPlaces ss
 in_places before [] last run = λ i j d lt within. absurd (omega arith)
 in_places before (s ∷ ss) last run = AllPairs-cons (λ t u. IsBefore t.place u.place) s ss (all_behind s ss last run.1) (in_places (Some s) ss last run.1)
 
--- some vertex stands in the row
+-- some vertex is in the row
 abbrev HasRow : List Stand → ℕ → Type 0
 HasRow ss row = (s : Stand) × Contains ss s × (s.place.row ≡ row)
 

@@ -1,5 +1,5 @@
 -- An engine's state whose core is rolled stays kept: the history as it is then is what was rolled.
---   begun_as, whole_begun: what the author adds behind what was rolled
+--   begun_as, whole_begun: the author's additions after the rolled history
 --   rolled_kept, rolled_fresh: a roll
 --   roll_refusal: why there is none
 --   rolled_base: what the core's base is
@@ -77,7 +77,7 @@ rolled_kept old new history rolled next shown known core rolls as_written publis
       written = rolled_begun old new rolled next history.list rolls same written;
     }
 
--- the whole list is as it was
+-- the whole list is unchanged
 pub rolled_list : (old new : CoreValue) (history rolled next : Line) → Rolls old new → next ≡ history → history.list ≡ list_of rolled old → list_of next new ≡ list_of rolled old
 rolled_list old new history rolled next rolls as_written written =
     ap (λ (j : List Event). next.list ++ j) rolls.journal ∙ append-nil next.list ∙ ap (λ (l : Line). l.list) as_written ∙ written

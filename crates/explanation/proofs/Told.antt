@@ -1,4 +1,4 @@
--- Where no border router tells of the AS boundary router.
+-- The case that no border router advertises the AS boundary router.
 use Rattle.std.proofs.Common.{◌≡◌, ◌<◌, ℕ, Option, Some, None, sym, subst, ◌∙◌}
 use Rattle.std.specs.Prelude.{IfNone}
 use Rattle.std.specs.FinMap.{get}

@@ -1,4 +1,4 @@
--- What is shown after a publication.
+-- The published table after a publication.
 use Rattle.std.proofs.Common.{◌≡◌, List, fold, Option, Some, Result, Ok, Err, MatchResult, MatchBool, sym, ap, ◌∙◌, subst}
 use Rattle.std.specs.Result.{is_ok}
 use mathlib.Core.List.{IsPrefix}
