@@ -56,8 +56,8 @@ ExplainsEarly e Closed i i' o o' = ExplainsPart e i i' o o'
 ExplainsEarly e Memory i i' o o' = o' ≡ o
 ExplainsEarly e (Line f) i i' o o' = (o' ≡ o) × ((bytes : List ℕ) × ReadsAll i i' bytes × IsFaultOf bytes f)
 
--- the answer was written without a line about it; or it is not whole, and the fault was printed,
--- or a lack of memory
+-- the command wrote its answer, without a line about it; or it is not whole, and the fault was
+-- printed, or a lack of memory
 abbrev pub IsExplainingEnded : Bor (List ℕ) → Explaining → (status : ℕ) (i i' o o' f f' : Option (List ℕ)) → Type 0
 IsExplainingEnded file e status i i' o o' f f' = ((status ≡ 0) × Explains e i i' o o' × (f' ≡ f))
     ⊎ ((x : ReplayFault) × ExplainsEarly e x i i' o o' × IsEndSaid file (Replay x) status f f')
