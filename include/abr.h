@@ -43,8 +43,8 @@ enum {
     ABR_CURRENT = 0,
 
     /* The bytes are not a valid LSA. Nothing is installed or changed. */
-    ABR_LENGTH = 1,    /* fewer than 20 bytes, or not as many as its length field says; also a seed of
-                          fewer than 16 bytes */
+    ABR_LENGTH = 1,    /* fewer than 20 bytes, or not as many as its length field says; also a seed
+                          of fewer than 16 bytes */
     ABR_CHECKSUM = 2,  /* the checksum does not fit, or is 0 (12.1.7) */
     ABR_AGE = 3,       /* the LS age is above MaxAge, 3600 s (12.1.1) */
     ABR_SEQUENCE = 4,  /* the reserved 0x80000000 (12.1.6) */
@@ -292,7 +292,8 @@ bool abr_base_interface_at(abr *core, size_t n, abr_base_interface *out);
 size_t abr_base_lsas(abr *core);
 
 /* Writes the scope of LSA number `n` of the base. Returns its length in bytes, or 0 if there is
- * none. If `room` is at least the length, its bytes are written to `lsa`. 65535 is always enough. */
+ * none. If `room` is at least the length, its bytes are written to `lsa`. 65535 is always
+ * enough. */
 static inline size_t abr_base_lsa_at(abr *core, size_t n, abr_scope *scope, uint8_t *lsa, size_t room);
 
 /* Returns the length in bytes of the base as text, which abr_open_base reads, or 0 if no core is
