@@ -43,7 +43,7 @@ abbrev pub IsWordSaid : (status : ℕ) (i i' o o' f f' : Option (List ℕ)) → 
 IsWordSaid status i i' o o' f f' =
     (i' ≡ i) × (o' ≡ o) × (IsSaid (fault_line (command_fault_text (fault.Word NotANetwork))) 2 status f f' ⊎ IsSaid (fault_line (command_fault_text fault.Memory)) 1 status f f')
 
--- what the command tells, where this network is asked for
+-- the report of the command, for this network if one is given
 abbrev pub telling_of : Changes → Option Prefix → ChangeOptions
 telling_of c only = record {
   wanted = record { only = only; format = c.format };

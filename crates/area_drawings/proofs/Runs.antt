@@ -12,7 +12,7 @@ use Rattle.area_drawings.specs.declared.reached.ReachedVertex.{ReachedVertex}
 use Rattle.area_drawings.specs.declared.stands.Stand.{Stand}
 use Rattle.area_drawings.specs.Places.{AreInPlaces, HasRows, IsBefore, IsNext, IsRun, rows_of}
 
--- one vertex more stands
+-- one vertex more has a cell
 pub reached_push : (ss : List Stand) (s : Stand) (rs : List ReachedVertex) (i : ℕ) (d : ReachedVertex) → i < length rs → map (λ t. t.reached) ss ≡ take i rs → s.reached ≡ get_or rs i d → map (λ t. t.reached) (ss ++ s ∷ []) ≡ take (i + 1) rs
 reached_push ss s rs i d lt before is =
     map_push (λ (t : Stand). t.reached) ss s
@@ -24,7 +24,7 @@ pub run_push : (before : Option Stand) (ss : List Stand) (mid : Option Stand) (s
 run_push before [] mid s run next = (subst (λ (b : Option Stand). IsNext b s) run next, refl)
 run_push before (t ∷ ts) mid s run next = (run.0, run_push (Some t) ts mid s run.1 next)
 
--- what comes next comes behind
+-- the next vertex comes after it
 behind : (b s : Stand) → IsNext (Some b) s → IsBefore b.place s.place
 behind b s next = elim next [ inl same ↦ inr (sym same.0, same.1) | inr below ↦ inl (omega arith) ]
 

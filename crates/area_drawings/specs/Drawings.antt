@@ -32,7 +32,7 @@ abbrev pub bits_of_lsa : Option Body → ℕ
 bits_of_lsa None = 0
 bits_of_lsa (Some body) = flags_or_none (flags_of body)
 
--- they are the bits of the LSA that stands for the vertex
+-- the bits of the LSA that describes the vertex
 abbrev pub HasFlags : Database → Vertex → ℕ → Type 0
 HasFlags d v flags = (body : Option Body) × IsStanding d v body × (flags ≡ bits_of_lsa body)
 

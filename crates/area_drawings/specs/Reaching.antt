@@ -8,7 +8,7 @@ use Rattle.lsdb.specs.Databases.{Database}
 use Rattle.area_trees.specs.Areas.{AreaTreeValue, vertex_of}
 use Rattle.area_drawings.specs.declared.reached.ReachedVertex.{ReachedVertex}
 
--- the database has an LSA that stands for the vertex: a router-LSA, or a network-LSA
+-- the database has an LSA that describes the vertex: a router-LSA, or a network-LSA
 abbrev pub HasVertex : Database → Vertex → Type 0
 HasVertex d v = (key : Key) × IsSome (get d key) × (vertex_of key ≡ Some v)
 

@@ -117,7 +117,7 @@ abbrev pub IsRecordedPart : Rules → Preamble → (before after old new told_be
 IsRecordedPart rules beginning before after old new told_before told = FirstPackets rules before after (λ at steps lines.
     IsWrittenPart beginning old new steps lines × AppendsUpTo told_before told (notes_of steps))
 
--- memory ran out behind some of the packets
+-- memory ran out after some of the packets
 abbrev pub IsRecordedUpTo : Rules → Preamble → (before old new told_before told : Option (List ℕ)) → Type 0
 IsRecordedUpTo rules beginning before old new told_before told = (left : Option (List ℕ)) × FirstPackets rules before left (λ at steps lines.
     (Appends old new [] ⊎ IsWrittenUpTo beginning old new steps lines) × AppendsUpTo told_before told (notes_of steps))

@@ -60,7 +60,7 @@ no_choice : (is : Bool) (cost : Option ℕ) → option_or (cond is None None) co
 no_choice true cost = refl
 no_choice false cost = refl
 
--- what tells nothing is not kept, and passes no test
+-- an LSA without facts is not kept, and passes no test
 module _ (t : Told) (silent : tells t ≡ false) (area : ℕ) where
   not_own : tells_own area t ≡ false
   not_own = and_none (t.area == area) t.is_own (left t.is_own _ silent)

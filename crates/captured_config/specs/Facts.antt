@@ -49,7 +49,7 @@ told_of router x = record {
   has_other_summary = is_some (other_network router x.lsa);
 }
 
--- whether that is anything
+-- true if it has any fact
 abbrev pub tells : Told → Bool
 tells t = t.is_own || (t.lacks_externals || (is_some t.default || t.has_other_summary))
 

@@ -101,7 +101,7 @@ reaches area l f = list_any (λ x. is_on area l x.1) f.interfaces
 abbrev pub is_alone : (area : ℕ) → Found → Link → Bool
 is_alone area f l = is_stub l.kind && not (reaches area l f)
 
--- An interface without neighbours. A capture tells its network, and not its address.
+-- An interface without neighbours. A capture shows its network, and not its address.
 abbrev pub with_stub_link : (area : ℕ) → Found → Link → Found
 with_stub_link area f l = if is_alone area f l then with_interface f (interface_at area l.id 0) else f
 

@@ -70,7 +70,7 @@ newest_of_all name all (x ∷ xs) =
     by true = refl
     by false = refl
 
--- whether there was an LSA
+-- if there was an LSA
 abbrev begun_by : Bool → List Instance → Bool
 begun_by was [] = was
 begun_by was (x ∷ xs) = true

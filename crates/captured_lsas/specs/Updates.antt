@@ -9,7 +9,7 @@ use Rattle.captured_lsas.specs.declared.recorded.Recorded.TheVariants.{Cut}
 use Rattle.captured_lsas.specs.Progress.{Progress}
 use Rattle.captured_lsas.specs.Recording.{with_lsa, IsRecorded}
 
--- the LSAs in the body, and the fault where one is to stand
+-- the LSAs in the body, and the fault at the place of one
 abbrev pub pieces_in : List ℕ → List Piece
 pieces_in body = if nat_lt (length body) 4 then Err Count ∷ [] else pieces_of body
 

@@ -63,7 +63,7 @@ fault_run s kind (suc m) all fault enough = ap (λ f. go_on f s all (λ t rest. 
 
 -- a part lies ahead, of which these packets are shown
 module _ (s : State) (pending : List ℕ) (place : ℕ) (left : Option (List ℕ)) (small : place < 2 ^ 64) (steady : IsSteady s pending) where
-  -- the front is there whatever comes behind
+  -- the item is there whatever follows
   stays : (front : _) → front_of s pending ≡ Ok front → ((count : ℕ) → IsSettledBy count (Ok front)) → (more : List ℕ) → front_of s (pending ++ more) ≡ Ok front
   stays front is settled more = steady more (subst (IsSettledBy (length (pending ++ more))) (sym is) (settled (length (pending ++ more)))) ∙ is
 

@@ -18,7 +18,7 @@ interface_of order block timing = record {
   timing = timing;
 }
 
--- of a whole block; its options stand between the snap length and the total length at the end
+-- for a whole block; its options lie between the snap length and the total length at the end
 abbrev pub interface_front : Order → List ℕ → Result Front FaultKind
 interface_front order block =
     and_then (timing_of order (slice_range block 16 (length block - 4))) (λ timing. Ok (Declared (interface_of order block timing) (length block)))

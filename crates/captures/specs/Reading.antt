@@ -84,7 +84,7 @@ IsPart (Declared interface size) bytes part = part ≡ Part.Skip size
 IsPart (Other size) bytes part = part ≡ Part.Skip size
 IsPart (Captured header size) bytes part = IsPacketPart header size bytes part
 
--- whether memory may run out: only where there is one more interface to keep
+-- memory may run out only if there is one more interface to keep
 abbrev pub MayLackMemory : Front → Type 0
 MayLackMemory (Short needed) = ⊥
 MayLackMemory (Header format size) = ⊥

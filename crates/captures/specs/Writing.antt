@@ -1,4 +1,4 @@
--- Captures as they are written, field behind field. What is written so is read so.
+-- Captures as they are written, field by field. They are read as they were written.
 use Rattle.std.specs.Prelude.{ℕ, ◌≡◌, ◌+◌, ◌*◌, ◌^◌, ◌<◌, ◌≤◌, List, ◌++◌, length, Some, Ok}
 use Rattle.byteorder.specs.Endian.{big_bytes, little_bytes}
 use Rattle.captures.specs.declared.front.Format.{Format}

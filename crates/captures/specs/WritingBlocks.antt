@@ -1,4 +1,4 @@
--- A pcapng as it is written, block behind block. What is written so is read so.
+-- A pcapng as it is written, block by block. It is read as it was written.
 use Rattle.std.specs.Prelude.{ℕ, ◌≡◌, ◌+◌, ◌/◌, ◌%◌, ◌^◌, ◌<◌, ◌≤◌, List, ◌++◌, length, Some, None, Result, Ok}
 use Rattle.std.specs.List.{slice_get, AllByRecursion}
 use Rattle.captures.specs.declared.fault.FaultKind.{FaultKind}
@@ -30,7 +30,7 @@ pub record IsLegalBody (body : List ℕ) : Type 0 where
   pub filled : length body % 4 ≡ 0
   pub fits : 12 + length body ≤ 1048576
 
--- a section may begin a capture, or come behind another one
+-- a section may begin a capture, or follow another one
 abbrev pub MayBeginSection : Format → Type 0
 MayBeginSection Format.Unread = Unit {0}
 MayBeginSection (Format.Pcap file) = ⊥

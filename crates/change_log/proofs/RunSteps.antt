@@ -58,7 +58,7 @@ module _ (wanted : ChangeFilter) (answers : Bool) where
 pub given_first : (c : CoreValue) → IsCore c → Give (all_of c) c
 given_first c core = give_all c (distinct_lists c core) (sound_lists c core)
 
--- some of the lines were run and told of, and these are left
+-- some of the lines were run and reported, and these are left
 pub record ChangeOptions (wanted : ChangeFilter) (answers : Bool) (old : CoreValue) (first : ℕ) (lines rest : List Line) (number : ℕ) (now : CoreValue) (from to : Option (List ℕ)) (buffer put : List ℕ) : Type 0 where
   pub done : List Line
   pub left : lines ≡ done ++ rest

@@ -79,7 +79,7 @@ module _ (base : Base) (known : List Event) (first : base.serial ≡ 0) (few : l
   refusal_is e r other (inr (inl (memory, none))) = inr (memory, lasting_is e ∙ none)
   refusal_is e r other (inr (inr (full, none))) = absurd (other full)
 
--- ---- what an engine tells
+-- ---- the promises of an engine
 
 -- an answer with a token
 told_answer : (name : Name) (e : Event) (a : Answer) (t : TokenValue) → Answers name e a → a.told ≡ Some t

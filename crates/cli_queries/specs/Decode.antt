@@ -52,6 +52,6 @@ IsDecodeFault word (fault.Wire f) = HasWireFault word f
 IsDecodeFault word fault.Memory = Unit {0}
 IsDecodeFault word _ = ⊥
 
--- the answer of `abr decode` with this word, and whether each field is to have a line
+-- the answer of `abr decode` with this word, with a line for each field if asked for
 abbrev pub IsDecodeAnswer : Bool → List ℕ → AnswerValue → Type 0
 IsDecodeAnswer long word = IsAnswer (Decodes long word) (IsDecodeFault word)

@@ -112,7 +112,7 @@ GivesInto area s metric = (s.area ≢ area) × (s.verdict ≡ verdict.Given) × 
 abbrev pub GivesAmong : ℕ → List DueSource → ℕ → Type 0
 GivesAmong area sources metric = (s : DueSource) × Contains sources s × GivesInto area s metric
 
--- what becomes of it: whether it is of the area itself, and whether its cost is the metric
+-- its verdict: it depends on its area and on its cost
 abbrev pub fate_in : Bool → Bool → DueVerdict → DueVerdict
 fate_in true reached f = verdict.OwnArea
 fate_in false false verdict.Given = verdict.Lesser

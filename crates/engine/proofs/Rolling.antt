@@ -21,7 +21,7 @@ use Rattle.publication.proofs.Prefixes.{prefix_self, prefix_take}
 use Rattle.engine.specs.EngineStates.{Held, IsBegun, IsKept, IsFresh, IsRollRefusal, list_of}
 use Rattle.engine.proofs.Runs.{legal_core, serial_whole, whole_state}
 
--- what is taken of a list behind another
+-- a part of a list after another
 take_past : (xs ys : List Event) (n : ℕ) → take (length xs + n) (xs ++ ys) ≡ xs ++ take n ys
 take_past [] ys n =
     let count : length {A = Event} [] + n ≡ n = omega arith in
@@ -82,7 +82,7 @@ pub rolled_list : (old new : CoreValue) (history rolled next : Line) → Rolls o
 rolled_list old new history rolled next rolls as_written written =
     ap (λ (j : List Event). next.list ++ j) rolls.journal ∙ append-nil next.list ∙ ap (λ (l : Line). l.list) as_written ∙ written
 
--- and so nothing is behind
+-- and so nothing follows
 pub rolled_fresh : (old new : CoreValue) (history rolled next : Line) (shown : PublishedTable) (pending : List Update) → Rolls old new → next ≡ history → IsFresh false old history rolled shown pending
     → IsFresh false new history next shown pending
 rolled_fresh old new history rolled next shown pending rolls as_written fresh =

@@ -30,7 +30,7 @@ use Rattle.explanation.specs.Giving.{AreOfEach, GivesOne}
 use Rattle.explanation.specs.Offers.{source_of}
 use Rattle.explanation.specs.Layers.{HasArea, LacksArea}
 
--- it is the instance, in the area's database, of the LSA that stands for the vertex
+-- the instance, in the area's database, of the LSA that describes the vertex
 abbrev pub IsSourceAt : AreaValue → Vertex → LsaInstance → Type 0
 IsSourceAt a v source = (key : Key) × (l : Lsa) × IsStandingKey a.lsas v key × (get a.lsas key ≡ Some l) × (l.header.age < MaxAge) × (source ≡ source_of (Area a.id) l)
 

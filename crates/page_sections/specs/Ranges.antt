@@ -62,12 +62,12 @@ count_text count =
 abbrev pub networks_text : List Counted → List ℕ
 networks_text networks = count_text (length networks) ++ list_text networks
 
--- whether a range is advertised to other areas
+-- the text for a range that is advertised to other areas, or is not
 abbrev pub advertised_text : Bool → List ℕ
 advertised_text true = codes ", advertised"
 advertised_text false = codes ", not advertised"
 
--- the prefix, and whether it is advertised
+-- the prefix, and the text for its being advertised or not
 abbrev pub range_heading_text : Range → List ℕ
 range_heading_text range = (codes "<h4>" ++ prefix_text range.prefix) ++ advertised_text range.advertise
 
