@@ -1,6 +1,6 @@
-/* Has memory run out in the middle of an event, after each number of calls in turn, and compares what the core answers
- * with what abr.h tells. The linker puts the two functions below in place of malloc and realloc.
- * The last line of the output is a count. The status is 1 if an answer is wrong. */
+/* Has memory run out in the middle of an event, after each number of calls in turn, and compares
+ * the answers of the core with abr.h. The linker replaces malloc and realloc by the two functions
+ * below. The last line of the output is a count. The status is 1 if an answer is wrong. */
 #include "expect.h"
 
 #include <abr.h>
@@ -13,7 +13,7 @@ void *__real_realloc(void *block, size_t size);
 void *__wrap_malloc(size_t size);
 void *__wrap_realloc(void *block, size_t size);
 
-/* So many calls are answered yet. */
+/* The number of calls that are answered yet. */
 static unsigned long calls_left = (unsigned long)-1;
 
 static const uint8_t SEED[16] = {1, 2, 3};
@@ -53,7 +53,7 @@ static void have_memory(void)
     calls_left = (unsigned long)-1;
 }
 
-/* The cost of the network at the address; 0 if there is none. */
+/* Returns the cost of the network at the address, or 0 if there is none. */
 static uint32_t cost(abr *core)
 {
     abr_item item;
@@ -62,8 +62,8 @@ static uint32_t cost(abr *core)
     return item.cost;
 }
 
-/* Installs the router-LSA of 10.0.0.1, with the sequence number 0x80000000 and so many, and a stub link to
- * 203.0.113.128/25 at the metric (A.4.2). */
+/* Installs the router-LSA of 10.0.0.1, with a sequence number that many above 0x80000000, and a
+ * stub link to 203.0.113.128/25 at the metric (A.4.2). */
 static uint32_t install(abr *core, uint8_t sequence, uint8_t metric)
 {
     uint8_t lsa[36] = {0, 1, 2, 1, 10,  0, 0,   1,   10,  0,   0,   1,   0x80, 0, 0, 0, 0, 0,
@@ -78,7 +78,8 @@ static uint32_t install(abr *core, uint8_t sequence, uint8_t metric)
     return abr_install(core, AREA_1, lsa, sizeof lsa);
 }
 
-/* Whether the event that was taken last changed what is due in area 0 to this metric, and nothing else. */
+/* Returns true if the last event that was taken changed the due summary in area 0 to this metric,
+ * and nothing else. */
 static bool tells_due(abr *core, uint32_t metric)
 {
     abr_due_change change;
@@ -99,7 +100,7 @@ static abr opened(void)
     return core;
 }
 
-/* The event was not taken, and all is as it was. It is handed in once more. */
+/* The event was not taken, and nothing is changed. It is given a second time. */
 static void check_refused(abr *core)
 {
     expect_that(abr_serial(core) == 3 && abr_built(core) == 3 && cost(core) == 10, "a refused event changes nothing");
@@ -128,7 +129,8 @@ static void check_behind(abr *core, bool by_event)
     expect_that(abr_roll(core) == ABR_CURRENT, "a roll");
 }
 
-/* Hands in an event for which memory runs out after so many calls, and answers what the core does. */
+/* Gives the core an event for which memory runs out after this number of calls, and tests the
+ * answer. */
 static uint32_t check_event(unsigned long calls, bool by_event)
 {
     abr core = opened();
@@ -147,7 +149,8 @@ static uint32_t check_event(unsigned long calls, bool by_event)
     return answer;
 }
 
-/* Opens a core where memory runs out after so many calls. Nothing is left to close then. */
+/* Opens a core for which memory runs out after this number of calls. Nothing is left to close
+ * then. */
 static uint32_t check_opening(unsigned long calls)
 {
     abr core = ABR_NO_CORE_YET;

@@ -1,6 +1,6 @@
 #!/usr/bin/env bash
-# Installs the library for C, and runs the examples with it: against the answers beside their recordings, under
-# sanitizers, with each call of malloc failing in turn, and with what has to be refused.
+# Installs the library for C, and runs the examples with it: against the answers next to their
+# recordings, under sanitizers, with each call of malloc failing in turn, and with faulty input.
 #
 #     examples/c/check.sh           installs the library in a folder of its own, by `./abr install`
 #     examples/c/check.sh PREFIX    takes the one that is installed in this folder
@@ -29,7 +29,7 @@ fails() { # WHAT
     echo "examples/c: FAILED: $1"
 }
 
-# Runs a command, and tells what it wrote if its status is not the wanted one. Its output is left in $room/out.
+# Runs a command, and prints its output if its status is not the wanted one. Its output is left in $room/out.
 runs() { # WHAT STATUS COMMAND..
     local what=$1 wanted=$2 status=0
     shift 2
@@ -104,7 +104,7 @@ file_of() { # COMMAND
     readlink -f "$(command -v "$1")"
 }
 
-# (the third line is that of its part with threads)
+# (the third line comes from its part with threads)
 head -n 2 crates/first_use/stdout > "$room/first_use"
 compilers=(cc)
 for it in gcc clang; do
@@ -132,7 +132,7 @@ for it in c++ clang++; do
     fi
 done
 
-# ---- The program itself, where it is built
+# ---- The program itself, if it is built
 
 if [ -x crates/abr/out/abr ]; then
     for it in "${recordings[@]}"; do
@@ -179,7 +179,8 @@ fi
 
 # ---- Memory that runs out, at each call of malloc or realloc
 
-# Tells what is wrong with a run in which the call AT fails, and perhaps those behind it. Nothing may be left in memory.
+# Prints the faults of a run in which the call AT fails, and perhaps those after it. No memory may be
+# left allocated.
 wrong_with() { # VARIABLE AT RECORDING
     local status=0
     env "$1=$2" FAILING_REPORT="$room/report" "$room/failing" "$3.rec" > "$room/out" 2> "$room/err" || status=$?
@@ -222,7 +223,7 @@ compile=(cc -std=c99 "${warnings[@]}" "${flags[@]}" "-Wl,--wrap=malloc,--wrap=re
 runs "behind" 0 "${compile[@]}" examples/c/behind.c "${libs[@]}" -o "$room/behind" || finish
 runs "behind" 0 "$room/behind" || true
 
-# ---- What the archive asks of the system, and what it gives
+# ---- The symbols that the archive needs of the system, and those that it defines
 
 if command -v nm > "$room/which"; then
     nm -g "$prefix/lib/libabr.a" | awk 'NF > 1 && $(NF - 1) == "U" { print $NF }' | sort -u > "$room/asked"
@@ -248,7 +249,7 @@ if command -v python3 > "$room/which"; then
     writes "abr.Router.lookup" "$room/found" env PYTHONPATH="$modules" python3 -c "$program"
 fi
 
-# ---- What is installed besides: the program, its pages, and one version; and that it goes again
+# ---- The other installed files: the program, its pages, and one version; and their removal
 
 "$prefix/bin/abr" --version > "$room/version"
 if command -v pkg-config > "$room/which"; then

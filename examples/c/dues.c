@@ -32,7 +32,7 @@ static int compare_places(const struct dues *dues, const struct originated *one,
     return order;
 }
 
-/* Where the summary stands, or where it would. */
+/* Returns the index of the summary, or the index where it would be. */
 static size_t place_of(const struct dues *dues, uint32_t area, const abr_due *due)
 {
     size_t low = 0, high = dues->count;
@@ -52,7 +52,8 @@ static bool stands_at(const struct dues *dues, size_t place, uint32_t area, cons
     return place < dues->count && compare_places(dues, &dues->list[place], area, due) == 0;
 }
 
-/* What comes first at the metric, or at another one. A daemon would send an instance of the LSA here. */
+/* Adds a summary that became due, or sets its metric. A daemon would send an instance of the LSA
+ * here. */
 static int originate(struct dues *dues, uint32_t area, const abr_due *due)
 {
     size_t place = place_of(dues, area, due);
@@ -71,8 +72,8 @@ static int originate(struct dues *dues, uint32_t area, const abr_due *due)
     return DONE;
 }
 
-/* A daemon would age the LSA prematurely here (14.1). It may have left already: behind a roll the changes of the event
- * before are told once more. */
+/* Removes a summary. A daemon would age the LSA prematurely here (14.1). It may be gone already:
+ * after a roll the core still returns the changes of the event before. */
 static void flush_out(struct dues *dues, uint32_t area, const abr_due *due)
 {
     size_t place = place_of(dues, area, due);

@@ -1,4 +1,5 @@
-/* The summary-LSAs that the program originates into each area (RFC 2328, 12.4.3). They follow what the core tells. */
+/* The summary-LSAs that the program originates into each area (RFC 2328, 12.4.3). They follow the
+ * changes of the core. */
 #ifndef DUES_H
 #define DUES_H
 
@@ -9,8 +10,8 @@ struct originated {
     abr_due due;
 };
 
-/* What is originated: areas in the order of the recording, and in each by type and destination. One whose fields are 0 is
- * empty. */
+/* The originated summaries: areas in the order of the recording, and in each by type and
+ * destination. One whose fields are 0 is empty. */
 struct dues {
     struct originated *list;
     size_t count, room;
@@ -19,13 +20,14 @@ struct dues {
     size_t area_count;
 };
 
-/* Follows what the event changed that was taken last. The table was current before it, and is now. */
+/* Follows the changes of the last event that was taken. The table was current before it, and is
+ * now. */
 int follow_due_changes(struct dues *dues, abr *core);
 
-/* Makes the list anew from all that is due. */
+/* Rebuilds the list from all due summaries. */
 int walk_dues(struct dues *dues, abr *core);
 
-/* Compares with all that is due. A daemon has no need of it. */
+/* Compares the list with all due summaries. A daemon does not need it. */
 int compare_dues(const struct dues *dues, abr *core);
 
 void free_dues(struct dues *dues);

@@ -1,4 +1,4 @@
-/* What the tests count: answers, and those that are wrong. */
+/* The counts of the tests: answers, and wrong answers. */
 #ifndef EXPECT_H
 #define EXPECT_H
 

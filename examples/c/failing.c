@@ -1,8 +1,9 @@
-/* In place of malloc, realloc and free, for a test: the linker puts these calls there (-Wl,--wrap=malloc and so on).
+/* Replaces malloc, realloc and free for a test, by the linker (-Wl,--wrap=malloc and so on).
  *
- *     FAILING_AT=7       the seventh call of malloc or realloc answers null
- *     FAILING_FROM=7     the seventh does, and so do all behind it
- *     FAILING_REPORT=F   at the end the file F says how many calls there were, and how many blocks were not freed */
+ *     FAILING_AT=7       the seventh call of malloc or realloc returns null
+ *     FAILING_FROM=7     the seventh does, and so do all after it
+ *     FAILING_REPORT=F   at the end the file F gets the number of calls, and of blocks that were
+ *                        not freed */
 #include <stddef.h>
 #include <stdio.h>
 #include <stdlib.h>

@@ -10,7 +10,7 @@ static int compare_prefixes(abr_prefix one, abr_prefix other)
     return (int)one.length - (int)other.length;
 }
 
-/* Where the network stands, or where it would. */
+/* Returns the index of the network, or the index where it would be. */
 static size_t place_of(const struct fib *fib, abr_prefix prefix)
 {
     size_t low = 0, high = fib->count;
@@ -41,7 +41,7 @@ static void withdraw_route(struct fib *fib, abr_prefix prefix)
     memmove(&fib->routes[place], &fib->routes[place + 1], (fib->count - place) * sizeof *fib->routes);
 }
 
-/* Takes a copy of what the core has for a network: no call gives out a pointer into the core. */
+/* Copies the item that the core has for a network: no call returns a pointer into the core. */
 static int copy_route(abr *core, const abr_item *item, struct route *route)
 {
     size_t n, room = 0;
@@ -62,7 +62,7 @@ static int copy_route(abr *core, const abr_item *item, struct route *route)
     return DONE;
 }
 
-/* Puts the route into the table, which owns it from then on. */
+/* Puts the route into the table, which owns it afterwards. */
 static int put_route(struct fib *fib, struct route route)
 {
     size_t place = place_of(fib, route.item.prefix);
@@ -111,8 +111,8 @@ int follow_changes(struct fib *fib, abr *core)
     return status;
 }
 
-/* Reads the whole table at once. (Piece by piece each call would begin at the front again.) Null means that memory ran
- * out; else the caller frees it. */
+/* Reads the whole table at once. (Piece by piece each call would start from the first item.)
+ * Returns null if memory ran out; otherwise the caller frees it. */
 static abr_item *read_table(abr *core, size_t *count)
 {
     size_t room = 0, wanted = abr_items(core);

@@ -1,10 +1,12 @@
-/* A forwarding table of the program's own, as one in a kernel would be. It follows what the core tells of changes. */
+/* A forwarding table of the program's own, like one in a kernel. It follows the changes of the
+ * core. */
 #ifndef FIB_H
 #define FIB_H
 
 #include "support.h"
 
-/* A route: what the core has for a network, and its next hops. A network where packets are dropped has none (11.1). */
+/* A route: the item of the core for a network, and its next hops. A network whose packets are
+ * dropped has none (11.1). */
 struct route {
     abr_item item;
     abr_hop *hops;
@@ -16,17 +18,18 @@ struct fib {
     size_t count, room;
 };
 
-/* Follows what the event changed that was taken last. The table was current before it, and is now. */
+/* Follows the changes of the last event that was taken. The table was current before it, and is
+ * now. */
 int follow_changes(struct fib *fib, abr *core);
 
-/* Makes the table anew from the whole table of the core. (A kernel would be told only what differs, so that it goes on
- * forwarding.) */
+/* Rebuilds the table from the whole table of the core. (A kernel would get only the differences,
+ * so that it continues to forward.) */
 int walk_table(struct fib *fib, abr *core);
 
-/* Compares with the whole table of the core. A daemon has no need of it. */
+/* Compares the table with the whole table of the core. A daemon does not need it. */
 int compare_tables(const struct fib *fib, abr *core);
 
-/* Withdraws all routes. The room for the list is left, and freed by `free_fib`. */
+/* Withdraws all routes. The memory of the list is left, and freed by `free_fib`. */
 void withdraw_all(struct fib *fib);
 void free_fib(struct fib *fib);
 

@@ -1,5 +1,5 @@
-/* A border router of two areas. It takes its interfaces and an LSA, looks an address up, and prints the route and what is
-   due in the backbone. It needs the library alone:
+/* A border router of two areas. It takes its interfaces and an LSA, looks an address up, and prints
+   the route and the summaries due in the backbone. It needs only the library:
 
        cc examples/c/first_use.c $(pkg-config --cflags --libs abr) -o /tmp/first_use
        /tmp/first_use

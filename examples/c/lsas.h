@@ -1,11 +1,11 @@
-/* LSAs that are made byte by byte (RFC 2328, A.4), to be handed in with and without a fault. */
+/* LSAs that are made byte by byte (RFC 2328, A.4), with and without a fault. */
 #ifndef LSAS_H
 #define LSAS_H
 
 #include <stddef.h>
 #include <stdint.h>
 
-/* The most bytes that an LSA may have. There is room for one more. */
+/* The greatest number of bytes of an LSA. There is room for one more. */
 enum { LONGEST = 65535 };
 
 struct lsa {
@@ -15,7 +15,8 @@ struct lsa {
 
 void put_number(uint8_t *at, uint32_t number);
 
-/* Writes the length and, of 20 bytes or more, the checksum, so that no fault of these hides another one. */
+/* Writes the length and, for 20 bytes or more, the checksum, so that no fault of these hides
+ * another one. */
 void seal(struct lsa *lsa);
 
 /* Makes an LSA of 10.0.0.2 with the type, the Link State ID and the length. Its body is 0. */

@@ -6,13 +6,13 @@
 
 /* ---- The words of a line */
 
-/* A line, which is read from left to right. `fits` stays false once something is not as it should be. */
+/* A line, which is read from left to right. `fits` stays false after the first fault. */
 struct line {
     const uint8_t *at, *end;
     bool fits;
 };
 
-/* Takes the text, if the line goes on with it. */
+/* Takes the text, if it is next on the line. */
 static bool takes(struct line *line, const char *text)
 {
     size_t length = strlen(text);
@@ -29,7 +29,7 @@ static void take(struct line *line, const char *text)
         line->fits = false;
 }
 
-/* Takes one of two texts, and answers whether it is the first. */
+/* Takes one of two texts, and returns true if it is the first. */
 static bool take_either(struct line *line, const char *first, const char *second)
 {
     bool is_first = takes(line, first);
@@ -71,7 +71,7 @@ static uint32_t take_address(struct line *line)
     return address;
 }
 
-/* Takes a network. No bit behind its length is 1. */
+/* Takes a network. No bit past its length is 1. */
 static abr_prefix take_prefix(struct line *line)
 {
     abr_prefix prefix;
@@ -118,7 +118,7 @@ static unsigned take_digit(struct line *line)
     return 0;
 }
 
-/* Takes the bytes of an LSA, to the end of the line. Of too many it keeps the first. */
+/* Takes the bytes of an LSA, to the end of the line. If there are too many it keeps the first. */
 static void take_lsa(struct line *line, struct event *event)
 {
     event->lsa_length = 0;
@@ -156,7 +156,7 @@ static void take_range(struct line *line, struct event *event)
     }
 }
 
-/* Takes the first word of an event, and the space behind it. */
+/* Takes the first word of an event, and the space after it. */
 static enum event_kind take_kind(struct line *line)
 {
     static const char *const WORDS[] = {"install ",   "flush ",      "purge ", "interface ",
@@ -171,7 +171,7 @@ static enum event_kind take_kind(struct line *line)
     return EVENT_LOOKUP;
 }
 
-/* Reads an event, and answers whether the line is one. */
+/* Reads an event, and returns true if the line is one. */
 static bool read_event(struct line line, struct event *event)
 {
     event->kind = take_kind(&line);
@@ -225,7 +225,7 @@ static int read_stream(FILE *stream, struct recording *recording)
     return ferror(stream) ? say(FAULT, "cannot read the recording") : DONE;
 }
 
-/* The line that begins there. It fits if it has its line feed. */
+/* Returns the line that begins there. It fits if it has its line feed. */
 static struct line line_at(const struct recording *recording, size_t start)
 {
     const uint8_t *begin = recording->bytes + start;
@@ -238,7 +238,7 @@ static struct line line_at(const struct recording *recording, size_t start)
     return line;
 }
 
-/* Goes behind the line, and its line feed if there is one. */
+/* Moves to the end of the line, and past its line feed if there is one. */
 static void pass(const struct recording *recording, struct place *place, struct line line)
 {
     place->start = (size_t)(line.end - recording->bytes) + (line.fits ? 1 : 0);

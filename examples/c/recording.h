@@ -1,12 +1,13 @@
-/* A recording: a text with a line for each event. First stands the front: a configuration, in version 3 with a base.
- * docs/FORMATS.md has all lines. */
+/* A recording: a text with a line for each event. It begins with the preamble: a configuration,
+ * in version 3 with a base. docs/FORMATS.md has all lines. */
 #ifndef RECORDING_H
 #define RECORDING_H
 
 #include "support.h"
 
 enum {
-    /* The length field of an LSA has 16 bits (A.4.1). One byte more shows that bytes are too many for an LSA. */
+    /* The length field of an LSA has 16 bits (A.4.1). One byte more shows that there are too
+     * many bytes for an LSA. */
     LSA_ROOM = 65535 + 1,
     MOST_AREAS = 16
 };
@@ -14,7 +15,7 @@ enum {
 struct recording {
     uint8_t *bytes;
     size_t length, room;
-    /* The front has so many bytes and lines. It is a base if the version is 3. */
+    /* The number of bytes and of lines of the preamble. It is a base if the version is 3. */
     size_t front_length, front_lines;
     bool has_base;
     /* The areas of the configuration. */
@@ -34,7 +35,7 @@ enum event_kind {
     EVENT_LOOKUP
 };
 
-/* What a line says. An event has some of these fields. */
+/* The content of a line. An event has some of these fields. */
 struct event {
     enum event_kind kind;
     abr_scope scope;
@@ -47,21 +48,21 @@ struct event {
     uint8_t lsa[LSA_ROOM];
 };
 
-/* Where a reader stands: behind so many bytes and lines. */
+/* The position of a reader: the number of bytes and of lines before it. */
 struct place {
     size_t start, line;
 };
 
-/* Reads the file into a recording whose fields are 0, and finds its front. After a fault too, `free_recording` frees
- * what was read. */
+/* Reads the file into a recording whose fields are 0, and finds its preamble. After a fault too,
+ * `free_recording` frees the memory. */
 int read_recording(const char *file, struct recording *recording);
 void free_recording(struct recording *recording);
 
-/* Where the events begin. */
+/* Returns the position of the first event. */
 struct place first_place(const struct recording *recording);
 
-/* Reads the next event. Answers ABR_CURRENT, or what is wrong with its line. There has to be one: `start` is less than
- * the length of the recording. */
+/* Reads the next event. Returns ABR_CURRENT, or the fault of its line. There has to be one:
+ * `start` is less than the length of the recording. */
 uint32_t next_event(const struct recording *recording, struct place *place, struct event *event);
 
 #endif

@@ -1,5 +1,5 @@
-/* Hands the core what it refuses, and compares the numbers of its answers with those that abr.h tells.
- * The last line of the output is a count. The status is 1 if an answer is wrong. */
+/* Gives the core inputs that it refuses, and compares the numbers with abr.h. The last line of
+ * the output is a count. The status is 1 if an answer is wrong. */
 #define _DEFAULT_SOURCE
 #include "expect.h"
 #include "lsas.h"
@@ -74,7 +74,7 @@ static void expect_lsa(const struct lsa *lsa, uint32_t wanted, const char *what)
     expect(abr_lsa_fault(lsa->bytes, lsa->length), wanted, what);
 }
 
-/* Changes a byte of an LSA, seals it, and tells the answer. */
+/* Changes a byte of an LSA, seals it, and returns the answer. */
 static void expect_changed(struct lsa *lsa, size_t at, uint8_t byte, uint32_t wanted, const char *what)
 {
     lsa->bytes[at] = byte;
@@ -98,7 +98,8 @@ static void check_no_bytes(void)
     abr_close(core);
 }
 
-/* Hands in the first bytes of an LSA, which end where no memory is: a read behind them would end the program. */
+/* Passes the first bytes of an LSA, which end where no memory is: a read past them would end the
+ * program. */
 static void check_cut(const struct lsa *lsa)
 {
     long page = sysconf(_SC_PAGESIZE);
@@ -126,8 +127,8 @@ static void check_cut(const struct lsa *lsa)
     munmap(pages, (size_t)page * 2);
 }
 
-/* The answer where the byte is another one. The checksum does not cover the age (12.1.7), and takes bytes of 0 and 255
- * for the same. */
+/* Returns the answer for another value of the byte. The checksum does not cover the age (12.1.7),
+ * and treats bytes of 0 and 255 as equal. */
 static uint32_t wanted_of_byte(const struct lsa *lsa, size_t at, uint8_t byte)
 {
     uint32_t age = at == 0 ? byte * 256u + lsa->bytes[1] : lsa->bytes[0] * 256u + byte;
@@ -152,7 +153,7 @@ static void check_bytes(struct lsa *lsa)
             uint8_t changed = (uint8_t)(byte + other);
             uint32_t wanted = wanted_of_byte(lsa, at, changed);
             lsa->bytes[at] = changed;
-            /* (with the checksum of another LSA that is one, it may have any fault) */
+            /* (with the checksum of another valid LSA, it may have any fault) */
             if (at == 16 || at == 17 || at < 2 || wanted != ABR_CURRENT)
                 expect_lsa(lsa, wanted, "an LSA with one other byte");
             lsa->bytes[at] = byte;
@@ -241,7 +242,7 @@ static void expect_text(const char *text, uint32_t wanted)
     abr_close(core);
 }
 
-/* As expect_text, of a configuration that begins as it should. */
+/* As expect_text, for a configuration with a valid beginning. */
 static void expect_areas(const char *areas, uint32_t wanted)
 {
     char text[4096] = "abr 2\nrouter 10.0.0.1\ncompat disabled\n";
@@ -347,7 +348,7 @@ static void check_opening(void)
     abr_close(core);
 }
 
-/* A core that is opened once more is closed first, also where no core is opened then. */
+/* A core that is opened a second time is closed first, also if no core is opened then. */
 static void check_opening_again(void)
 {
     abr core = opened();
@@ -395,7 +396,7 @@ static void check_bases(void)
     expect_base("has interface 1 0.0.0.0 192.0.2.1 0.0.0.0 up", ABR_TRUNCATED);
 }
 
-/* The last serial was given, so no event is taken any more. */
+/* The last serial was given, so no further event is taken. */
 static void check_last_serial(void)
 {
     static const char TEXT[] = "abr 3\n"
@@ -441,7 +442,7 @@ static void check_lsa_events(void)
     abr_close(core);
 }
 
-/* A database has as many LSAs as it may. */
+/* A database is at its limit. */
 static void check_full(abr_scope scope, uint8_t type, uint32_t most)
 {
     static struct lsa lsa;
@@ -464,7 +465,7 @@ static void check_full(abr_scope scope, uint8_t type, uint32_t most)
     abr_close(core);
 }
 
-/* The journal has as many events as it may, until it is rolled. */
+/* The journal is at its limit, until it is rolled. */
 static void check_journal(void)
 {
     abr core = opened();
@@ -511,7 +512,7 @@ static void check_interfaces(void)
     abr_close(core);
 }
 
-/* Networks that are none: too long, or with a bit behind the length. */
+/* Networks that are not valid: too long, or with a bit past the length. */
 static void check_prefixes(void)
 {
     static const abr_prefix WRONG[] = {{0, 33},          {0, 255},         {0xc0000200, 33}, {1, 0},

@@ -1,11 +1,11 @@
-/* Hands a recording to the core event by event, and keeps a forwarding table and the summaries of each area beside it, as a
- * daemon does.
+/* Gives a recording to the core event by event, and keeps a forwarding table and the summaries of
+ * each area, as a daemon does.
  *
- *     router FILE        prints what `./abr replay FILE` prints
- *     router FILE due    prints what `./abr replay FILE --show due` prints
+ *     router FILE        prints the output of `./abr replay FILE`
+ *     router FILE due    prints the output of `./abr replay FILE --show due`
  *
- * The status is 0. It is 1 if the recording has a fault, or if what is kept differs from what the core has. It is 2 for wrong words, and 3 if
- * memory ran out. */
+ * The status is 0. It is 1 if the recording has a fault, or if the tables differ from those of the
+ * core. It is 2 for wrong words, and 3 if memory ran out. */
 #include "dues.h"
 #include "fib.h"
 #include "recording.h"
@@ -32,7 +32,7 @@ static int say_fault(size_t line, uint32_t answer)
     return FAULT;
 }
 
-/* Makes forwarding table and summaries anew. */
+/* Rebuilds the forwarding table and the summaries. */
 static int walk_all(struct router *router)
 {
     int status = walk_table(&router->fib, &router->core);
@@ -40,7 +40,7 @@ static int walk_all(struct router *router)
     return status == DONE ? walk_dues(&router->dues, &router->core) : status;
 }
 
-/* Opens the core with the front of the recording. The table of a base has routes already. */
+/* Opens the core with the preamble of the recording. The table of a base has routes already. */
 static int open_core(struct router *router)
 {
     const struct recording *recording = &router->recording;
@@ -77,7 +77,8 @@ static int for_each_event(struct router *router, int (*act)(struct router *route
     return status;
 }
 
-/* Tells whether the bytes to install are an LSA. A daemon does without: abr_install tells the same. */
+/* Returns true if the bytes to install are a valid LSA. A daemon does not need it: abr_install
+ * says so too. */
 static int check_event(struct router *router, size_t line)
 {
     uint32_t fault = ABR_CURRENT;
@@ -87,7 +88,7 @@ static int check_event(struct router *router, size_t line)
     return fault == ABR_CURRENT ? DONE : say_fault(line, fault);
 }
 
-/* Hands the event to the core, and answers what the core answers. */
+/* Gives the event to the core, and returns its answer. */
 static uint32_t hand_in(abr *core, const struct event *event)
 {
     switch (event->kind) {
@@ -113,7 +114,8 @@ static uint32_t hand_in(abr *core, const struct event *event)
     return ABR_CURRENT;
 }
 
-/* Brings forwarding table and summaries to those of the core. Changes are told only from one current table to the next. */
+/* Updates the forwarding table and the summaries. There are changes only from one current table
+ * to the next. */
 static int follow(struct router *router)
 {
     int status;
@@ -126,8 +128,8 @@ static int follow(struct router *router)
     return status == DONE ? follow_due_changes(&router->dues, &router->core) : status;
 }
 
-/* The event was taken, but memory ran out over what follows from it. A daemon would free some memory, or wait, before
- * it tries again. */
+/* The event was taken, but memory ran out afterwards. A daemon would free some memory, or wait,
+ * before it tries again. */
 static int catch_up(struct router *router)
 {
     router->is_behind = true;

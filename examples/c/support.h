@@ -1,20 +1,23 @@
-/* What the examples share: statuses, messages, room for lists, and how the things of a table are printed. */
+/* The shared parts of the examples: statuses, messages, room for lists, and the printed form of a
+ * table. */
 #ifndef SUPPORT_H
 #define SUPPORT_H
 
 #include <abr.h>
 
-/* With what a program ends, and what most functions answer. */
+/* The statuses of a program, which most functions return. */
 enum { DONE = 0, FAULT = 1, USAGE = 2, NO_MEMORY = 3 };
 
-/* Writes a line to standard error, and answers the status. */
+/* Writes a line to standard error, and returns the status. */
 int say(int status, const char *text);
 int say_no_memory(void);
 
-/* Makes room for so many items, at least one. Answers null if memory ran out; then all is as it was. */
+/* Makes room for this number of items, at least one. Returns null if memory ran out; nothing is
+ * changed then. */
 void *with_room(void *items, size_t *room, size_t wanted, size_t size);
 
-/* Reads a seed for abr_open. Nobody else may know it: who does can send LSAs that collide in the core's hash tables. */
+/* Reads a seed for abr_open. It has to be secret: who knows it can send LSAs that collide in the
+ * core's hash tables. */
 int read_seed(uint8_t *seed, size_t length);
 
 /* Print to standard output, in the words of `./abr replay`. */
@@ -25,7 +28,7 @@ void print_hop(const abr_hop *hop);
 /* Prints an item without its next hops. */
 void print_item(const abr_item *item);
 
-/* Prints an item with its next hops, which the core has. */
+/* Prints an item with its next hops, which are read from the core. */
 void print_match(abr *core, const abr_item *item);
 
 /* Prints the LS type, the destination and the metric of a summary-LSA. */

@@ -5,7 +5,7 @@ use Rattle.std.proofs.KnownBytes.{Consumes-kept, Consumes-nil, Consumes-trans}
 use Rattle.std.proofs.lemmas.List.Sums.{sum_by-append}
 use Rattle.abr.specs.Counting.{CountsLines, line_feeds}
 
--- what was read so far has so many line feeds
+-- the number of line feeds in the bytes that were read so far
 pub record Counted (before now : Option (List ℕ)) (lines : ℕ) : Type 0 where
   pub bytes : List ℕ
   pub read : Consumes before now bytes

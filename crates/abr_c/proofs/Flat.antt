@@ -1,4 +1,4 @@
--- What changed in due summaries, area by area, as one list: how long it is, and which change stands at a number.
+-- The changes of due summaries, area by area, as one list: its length, and the change at a number.
 use Rattle.std.proofs.Common.{◌≡◌, ℕ, zero, suc, ◌+◌, ◌-◌, ◌≤◌, List, [], ◌∷◌, ◌++◌, length, drop, Option, Some, None, sym, ap, ◌∙◌, arith}
 use Rattle.std.specs.Prelude.{option_map, slice_get}
 use Rattle.std.proofs.lemmas.List.{drop_all, drop_more, length-append, length-map}
@@ -53,7 +53,7 @@ module _ (all : List (ℕ × Metrics)) (count place : ℕ) where
       let whole : count ≡ count + length (due_changes_of (drop place all)) = omega (arith, none) in
       same ∙ ap (λ (n : ℕ). counted n) whole ∙ are.0
 
--- ---- which stands at a number
+-- ---- the change at a number
 
 -- it is looked for in those that are left
 abbrev pub IsLookedFor : List (ℕ × Metrics) → (n left place : ℕ) → Type 0

@@ -5,7 +5,7 @@ use Rattle.std.proofs.lemmas.List.{drop-drop, drop-set-lt, drop_more, take-appen
 use Rattle.abr_c.specs.Given.{copied}
 
 module _ {X : Type 0} (all before out : List X) (n : ℕ) where
-  -- the next one is written behind those that stand already
+  -- the next one is written after those that are there
   pub next_written : (x : X) (more : List X) → take n out ≡ take n all → x ∷ more ≡ drop n all → n < length out → n < length all → take (n + 1) (set out n x) ≡ take (n + 1) all
   next_written x more so_far left in_out in_all =
       let is_x : get_or all n x ≡ x = ap (λ xs. get_or xs 0 x) (sym (drop_more all n x in_all) ∙ sym left) in

@@ -1,4 +1,4 @@
--- What the reading of bytes tells of their first fault.
+-- The first fault of bytes that are read.
 use Rattle.std.proofs.Common.{◌≡◌, ℕ, List, Some, None, inl, inr, refl, sym, ap, ◌∙◌, subst}
 use Rattle.std.specs.Prelude.{◌⊎◌, Option, Result, Ok, Err, IsOkUnless}
 use Rattle.ospf_types.specs.declared.key.Scope.{Scope}
@@ -10,7 +10,7 @@ use Rattle.abr_c.specs.Told.{Installs, IsLsaNumber}
 use Rattle.lsa_codec.specs.declared.fault.WireFault.{WireFault}
 use Rattle.lsa_codec.specs.declared.fault.WireFault.TheVariants.{Memory}
 
--- what is told is the first fault, or there is none and memory ran out
+-- the fault is the first one, or there is none and memory ran out
 pub fault_told : (found : Option WireFault) (r : Result Lsa WireFault) (e : WireFault)
     → ((f : WireFault) → found ≡ Some f → r ≡ Err f) → (found ≡ None → IsOkUnless r Memory) → r ≡ Err e
     → (found ≡ Some e) ⊎ ((found ≡ None) × (e ≡ Memory))
@@ -22,7 +22,7 @@ pub none_found : (found : Option WireFault) (r : Result Lsa WireFault) (l : Lsa)
 none_found None r l first is = refl
 none_found (Some f) r l first is = let differ : Err f ≡ Ok l = sym (first f refl) ∙ is in absurd cc
 
--- what is told of bytes that are not read
+-- the fault of bytes that are not read
 abbrev Told : List ℕ → WireFault → Type 0
 Told bytes e = (fault_of bytes ≡ Some e) ⊎ ((fault_of bytes ≡ None) × (e ≡ Memory))
 

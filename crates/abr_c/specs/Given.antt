@@ -1,7 +1,7 @@
 -- The results that a call writes for C.
 use Rattle.std.specs.Prelude.{◌≡◌, ◌++◌, Bool, true, false, if◌then◌else◌, Option, Some, None, List, length, take, drop, nat_le}
 
--- what there is is written and told; else nothing is written
+-- if there is one, it is written and the result is true; else nothing is written
 abbrev pub IsGiven : {X : Type 0} → Option X → (told : Bool) → (before after : X) → Type 0
 IsGiven (Some x) told before after = (told ≡ true) × (after ≡ x)
 IsGiven None told before after = (told ≡ false) × (after ≡ before)

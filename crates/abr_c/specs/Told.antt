@@ -14,7 +14,7 @@ use Rattle.event_core.specs.declared.reply.Status.{Status}
 use Rattle.event_core.specs.Cores.{CoreValue, Applies, IsRollRefusal, NamesChanges, HasBoundedWork, Rolls, MatchesStatus}
 use Rattle.abr_c.specs.Numbers.{answer_number, no_core, no_network, out_of_memory, refusal_number, status_number, wire_number}
 
--- the core answers the event, and the number is the number of its answer
+-- the reply of the core to the event, and its number
 pub record IsAnswered (e : Event) (old : CoreValue) (told : ℕ) (new : CoreValue) : Type 0 where
   pub answer : Result Reply Refusal
   pub number : told ≡ answer_number answer
@@ -33,8 +33,8 @@ abbrev pub IsToldIf : Option Event → Option CoreValue → (number : ℕ) → O
 IsToldIf (Some e) old number new = IsTold e old number new
 IsToldIf None old number new = (number ≡ no_network) × (new ≡ old)
 
--- the bytes spell an LSA, which is installed; or the number is that of their first fault, or of a
--- lack of memory
+-- the bytes spell an LSA, which is installed; or the number names their first fault, or a lack of
+-- memory
 abbrev pub Installs : Scope → (bytes : List ℕ) → Option CoreValue → (number : ℕ) → Option CoreValue → Type 0
 Installs at bytes old number new =
     ((lsa : Lsa) × IsSound bytes × Spells bytes lsa × IsTold (event.Install at lsa) old number new)

@@ -119,8 +119,8 @@ lsa_at c n = slice_get (lsas_in c) n
 abbrev pub IsNothing : (count : ℕ) → (scope scope' : CScope) → (before after : List ℕ) → Type 0
 IsNothing count scope scope' before after = (count ≡ 0) × (scope' ≡ scope) × (after ≡ before)
 
--- The LSA's scope is written, and its bytes if there is room. If there is no LSA, nothing is
--- written, and the result is 0.
+-- The LSA's scope is written, and its bytes if there is room. Without an LSA nothing is written,
+-- and the result is 0.
 abbrev pub GivesLsa : Option (Scope × Lsa) → (count : ℕ) → (scope scope' : CScope) → (before after : List ℕ) → Type 0
 GivesLsa None count scope scope' before after = IsNothing count scope scope' before after
 GivesLsa (Some x) count scope scope' before after = (count ≡ length (spelling x.1)) × (scope' ≡ c_scope_of x.0) × (after ≡ written (spelling x.1) before)

@@ -1,4 +1,7 @@
 //! Boxes, taken apart.
+//!
+//! The proofs of these functions are short and written by hand, as they move all that a pointer
+//! owns. The functions that C calls are proved like any other function.
 ghost use Rattle.std.specs.Prelude.{◌≡◌};
 ghost use Rattle.std.specs.Box.Ownership.{box_owns};
 

@@ -28,7 +28,7 @@ early_by_fault held t Closed i i' old new read line write closed memory = closed
 early_by_fault held t Memory i i' old new read line write closed memory = elim (memory refl) [ inl same ↦ inl (ap held same) | inr part ↦ inr part ]
 early_by_fault held t (Line f) i i' old new read line write closed memory = elim (line f refl) [ inl front ↦ inl (ap held front.0, front.1) | inr behind ↦ inr behind ]
 
--- a word that is no network
+-- a word that is not a network
 pub word_said : (e : CommandFault) (status : ℕ) (i o f f' : Option (List ℕ)) → e ≡ fault.Word NotANetwork
     → IsSaid (fault_line (command_fault_text e)) (status_of e) status f f' ⊎ IsSaid (fault_line (command_fault_text fault.Memory)) 1 status f f' → IsWordSaid status i i o o f f'
 word_said e status i o f f' is said = (
@@ -37,7 +37,7 @@ word_said e status i o f f' is said = (
   subst (λ (x : CommandFault). IsSaid (fault_line (command_fault_text x)) (status_of x) status f f' ⊎ IsSaid (fault_line (command_fault_text fault.Memory)) 1 status f f') is said,
 )
 
--- what was told of the network that is asked for
+-- the report for the network that is given
 pub network_told : (c : Changes) (only : Option Prefix) (t : ChangeOptions) (status : ℕ) (i i' o o' f start shown mid f' : Option (List ℕ)) → Asks c.only only → t ≡ telling_of c only
     → Shows c.progress 0 f start → IsProgress t.progress start shown → EndsShowing c.progress shown mid → IsTellingEnded c.file t status i i' o o' mid f' → IsChangesTold c status i i' o o' f f'
 network_told c only t status i i' o o' f start shown mid f' asks is begun progress ended told =

@@ -20,7 +20,7 @@ use Rattle.cli_queries.specs.Answers.{IsSaid, IsSaidOf, IsUnwrittenSaid}
 use Rattle.cli_queries.proofs.Said.{said_of}
 use Rattle.abr_cli.specs.Replaying.{fault_from, EndsBy, EndsEarly, IsEndSaid, IsReplayEnded, IsReplayedPart}
 
--- a replay may end for want of memory wherever it may end but with a failed write
+-- a replay may end by a lack of memory wherever it may end but with a failed write
 pub ended_early : (file : Bor (List ℕ)) (workers : ℕ) (e : WorkerReplayFault) (p : PrintOptions) (status : ℕ) (i i' o o' f f' : Option (List ℕ)) → EndsEarly workers e p i i' o o' → IsEndSaid file e status f f'
     → IsReplayEnded file workers p status i i' o o' f f'
 ended_early file workers (Replay Read) p status i i' o o' f f' h (inl said) = inr (Replay Read, h, said)
@@ -90,7 +90,7 @@ status_one file NoEntry c is = same_status (fault_from file NoEntry) fault.NoEnt
 abbrev line_of : CommandFault → List ℕ
 line_of c = fault_line (command_fault_text c)
 
--- the line of the fault, or of want of memory where there is none for it
+-- the line of the fault, or of a lack of memory if there is none for it
 pub fault_said : (file : Bor (List ℕ)) (e : WorkerReplayFault) (c : CommandFault) (status : ℕ) (f f' : Option (List ℕ)) → fault_from file e ≡ Ok c
     → IsSaid (line_of c) (status_of c) status f f' ⊎ IsSaid (line_of fault.Memory) 1 status f f' → IsEndSaid file e status f f'
 fault_said file e c status f f' is said =

@@ -27,12 +27,13 @@ HasRouter None (Some router) = ⊥
 HasRouter (Some word) None = ⊥
 HasRouter (Some word) (Some router) = Writes word.now router
 
--- the word is no address
+-- the word is not an address
 abbrev pub IsRouterFault : Option (Bor (List ℕ)) → WordFault → Type 0
 IsRouterFault None f = ⊥
 IsRouterFault (Some word) f = (f ≡ NotAnAddress) × (¬ IsAddress word.now)
 
--- the bytes of the file, where one is named, and else what the capture tells of the router
+-- the bytes of the file, if one is named, or else the configuration of the router that the capture
+-- shows
 abbrev pub IsBeginning : (begin beginning : Option (Bor (List ℕ))) → Option ℕ → Preamble → Type 0
 IsBeginning None bytes None b = ⊥
 IsBeginning None bytes (Some router) b = b ≡ Router router
@@ -49,14 +50,15 @@ HasNone (Some name) (Some bytes) router f = ⊥
 abbrev pub BeginsWith : Capture → Preamble → Type 0
 BeginsWith c b = (router : Option ℕ) × HasRouter c.router router × IsBeginning c.begin c.beginning router b
 
--- why there is no beginning; a word that is no address is told first
+-- the reason why there is no beginning; a word that is not an address comes first
 abbrev pub LacksBeginning : Capture → CommandFault → Type 0
 LacksBeginning c f = ((w : WordFault) × IsRouterFault c.router w × (f ≡ fault.Word w))
     ⊎ ((router : Option ℕ) × HasRouter c.router router × HasNone c.begin c.beginning router f)
 
 -- ---- how it ended
 
--- the line of the fault was written, with its status, or that of want of memory where there is none for it
+-- the line of the fault was written, with its status, or the line for a lack of memory if there is
+-- none for it
 abbrev pub IsSaidOrMemory : CommandFault → (status : ℕ) (f f' : Option (List ℕ)) → Type 0
 IsSaidOrMemory c status f f' =
     IsSaid (fault_line (command_fault_text c)) (status_of c) status f f' ⊎ IsSaid (fault_line (command_fault_text fault.Memory)) 1 status f f'

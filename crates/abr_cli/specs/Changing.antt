@@ -24,7 +24,7 @@ Asks None (Some p) = ⊥
 Asks (Some word) None = ⊥
 Asks (Some word) (Some p) = WritesNetwork word.now p
 
--- the word is no network
+-- the word is not a network
 abbrev pub LacksNetwork : Option (Bor (List ℕ)) → Type 0
 LacksNetwork None = ⊥
 LacksNetwork (Some word) = (p : Prefix) → ¬ WritesNetwork word.now p
@@ -37,12 +37,13 @@ TellsEarly t Closed i i' o o' = TellsPart stop.Closed t i i' o o'
 TellsEarly t Memory i i' o o' = (o' ≡ o) ⊎ TellsPart stop.Memory t i i' o o'
 TellsEarly t (Line f) i i' o o' = ((o' ≡ o) × FailsAtFront i i' f) ⊎ FailsBehind t i i' f o o'
 
--- nothing was read, and it was said that the word is no network, or that there is no memory for that line
+-- nothing was read, and a line says that the word is not a network, or that there is no memory for
+-- that line
 abbrev pub IsWordSaid : (status : ℕ) (i i' o o' f f' : Option (List ℕ)) → Type 0
 IsWordSaid status i i' o o' f f' =
     (i' ≡ i) × (o' ≡ o) × (IsSaid (fault_line (command_fault_text (fault.Word NotANetwork))) 2 status f f' ⊎ IsSaid (fault_line (command_fault_text fault.Memory)) 1 status f f')
 
--- what the command tells, where this network is asked for
+-- the report of the command, for this network if one is given
 abbrev pub telling_of : Changes → Option Prefix → ChangeOptions
 telling_of c only = record {
   wanted = record { only = only; format = c.format };
@@ -51,7 +52,8 @@ telling_of c only = record {
   progress = c.progress;
 }
 
--- what is to be told went to its end, and nothing was said; or it ended early, and its fault was said, or want of memory in its place
+-- the report went to its end, and nothing was printed about it; or it ended early, and its fault
+-- was printed, or a lack of memory
 abbrev pub IsTellingEnded : Bor (List ℕ) → ChangeOptions → (status : ℕ) (i i' o o' f f' : Option (List ℕ)) → Type 0
 IsTellingEnded file t status i i' o o' f f' = ((status ≡ 0) × TellsAll t i i' o o' × (f' ≡ f))
     ⊎ ((e : ReplayFault) × TellsEarly t e i i' o o' × IsEndSaid file (Replay e) status f f')
@@ -60,7 +62,7 @@ IsTellingEnded file t status i i' o o' f f' = ((status ≡ 0) × TellsAll t i i'
 abbrev pub IsTellingTold : Bor (List ℕ) → ChangeOptions → (status : ℕ) (i i' o o' f f' : Option (List ℕ)) → Type 0
 IsTellingTold file t status i i' o o' f f' = (mid : Option (List ℕ)) × IsAdvanceTold t.progress f mid × IsTellingEnded file t status i i' o o' mid f'
 
--- the word of the one network, if there is one, was no network; or what is asked for was told
+-- the word of the one network, if there is one, was not a network; or the report was written
 abbrev pub IsChangesTold : Changes → (status : ℕ) (i i' o o' f f' : Option (List ℕ)) → Type 0
 IsChangesTold c status i i' o o' f f' = (LacksNetwork c.only × IsWordSaid status i i' o o' f f')
     ⊎ ((only : Option Prefix) × Asks c.only only × IsTellingTold c.file (telling_of c only) status i i' o o' f f')

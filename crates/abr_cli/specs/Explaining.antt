@@ -42,7 +42,8 @@ IsWordFault word None f = (f ≡ NotAnAddress) × (¬ IsAddress word)
 IsWordFault word (Some area) f =
     ((f ≡ NotAnAddress) × (¬ IsAddress area.now)) ⊎ ((f ≡ NotANetwork) × IsAddress area.now × (¬ IsAddress word) × IsNoNetwork word)
 
--- nothing was read, and it was said that a word cannot be read, or that there is no memory for that line
+-- nothing was read, and a line says that a word cannot be read, or that there is no memory for that
+-- line
 abbrev pub IsWordSaid : WordFault → (status : ℕ) (i i' o o' f f' : Option (List ℕ)) → Type 0
 IsWordSaid w status i i' o o' f f' =
     (i' ≡ i) × (o' ≡ o) × (IsSaid (fault_line (command_fault_text (fault.Word w))) 2 status f f' ⊎ IsSaid (fault_line (command_fault_text fault.Memory)) 1 status f f')
@@ -55,7 +56,8 @@ ExplainsEarly e Closed i i' o o' = ExplainsPart e i i' o o'
 ExplainsEarly e Memory i i' o o' = o' ≡ o
 ExplainsEarly e (Line f) i i' o o' = (o' ≡ o) × ((bytes : List ℕ) × ReadsAll i i' bytes × IsFaultOf bytes f)
 
--- the answer was written, and nothing was said; or there is no whole answer, and the fault was said, or want of memory in its place
+-- the command wrote its answer, without a line about it; or it is not whole, and the fault was
+-- printed, or a lack of memory
 abbrev pub IsExplainingEnded : Bor (List ℕ) → Explaining → (status : ℕ) (i i' o o' f f' : Option (List ℕ)) → Type 0
 IsExplainingEnded file e status i i' o o' f f' = ((status ≡ 0) × Explains e i i' o o' × (f' ≡ f))
     ⊎ ((x : ReplayFault) × ExplainsEarly e x i i' o o' × IsEndSaid file (Replay x) status f f')

@@ -1,4 +1,4 @@
--- What the program wrote, whatever its words were.
+-- The output of the program, whatever its words were.
 use Rattle.std.specs.Borrow.{Bor}
 use Rattle.std.specs.Prelude.{ℕ, ◌≡◌, ◌||◌, Bool, true, false, not, List, Option, None, Result, Ok, Err, codes}
 use Rattle.cli_args.specs.declared.command.CaptureWords.{CaptureWords}
@@ -45,7 +45,8 @@ replay_asked file workers show format progress = record {
 abbrev pub changes_asked : Bor (List ℕ) → Option (Bor (List ℕ)) → Format → Progress → Changes
 changes_asked file only format progress = record { file = file; only = only; format = format; answers = false; skips_faults = false; progress = progress }
 
--- what `abr follow` asks for: what came of each line, also behind a fault unless it is strict
+-- the report that `abr follow` asks for: the outcome of each line, also after a fault unless it is
+-- strict
 abbrev pub follow_asked : Bor (List ℕ) → Option (Bor (List ℕ)) → (strict : Bool) → Format → Changes
 follow_asked file only strict format = record {
   file = file;
@@ -97,7 +98,7 @@ HasFitWorkers (asked.Page p) = Unit {0}
 HasFitWorkers (asked.Capture c) = Unit {0}
 HasFitWorkers (asked.Fault number) = Unit {0}
 
--- The command was carried out. Only where a recording is run, or a capture recorded, the input is read.
+-- The command was carried out. The input is read only if a recording is run, or a capture recorded.
 abbrev pub IsTold : Asked → (status : ℕ) (i i' o o' f f' : Option (List ℕ)) → Type 0
 IsTold (asked.One words) status i i' o o' f f' = (i' ≡ i) × Tells (IsOneAnswer (texts_of words)) status o o' f f'
 IsTold (asked.Decode hex long) status i i' o o' f f' = (i' ≡ i) × Tells (IsDecodeAnswer long hex.now) status o o' f f'

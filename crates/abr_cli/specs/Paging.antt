@@ -30,7 +30,8 @@ unwritten output Closed = None
 unwritten output Memory = None
 unwritten output (Line f) = None
 
--- it was said that this file could not be written, or want of memory in its place; where there is none, how a run of the recording ends for the fault
+-- a line says that this file could not be written, or that memory ran out; if there is no such
+-- file, the line of the end of a run for this fault was printed
 abbrev pub IsEndSaidOf : Option (Bor (List ℕ)) → Bor (List ℕ) → ReplayFault → (status : ℕ) (f f' : Option (List ℕ)) → Type 0
 IsEndSaidOf (Some output) file x status f f' = IsSaidOf (fault.WriteTo output) status f f' ⊎ IsSaidOf fault.Memory status f f'
 IsEndSaidOf None file x status f f' = IsEndSaid file (Replay x) status f f'

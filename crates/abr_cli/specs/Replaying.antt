@@ -18,7 +18,8 @@ use Rattle.cli_queries.specs.declared.command_fault.CommandFault.TheVariants as 
 use Rattle.cli_queries.specs.Answers.{IsSaidOf, IsUnwrittenSaid}
 use Rattle.abr_cli.specs.Showing.{IsRunTold}
 
--- the fault of a replay as one of the command, which names the file where it cannot be read; or why the output was not written whole
+-- the fault of a replay as one of the command, which names the file if it cannot be read; or the
+-- reason why the output was not written whole
 abbrev pub fault_from : Bor (List ℕ) → WorkerReplayFault → Result CommandFault WriteError
 fault_from file (Replay Read) = Ok (fault.Read file)
 fault_from file (Replay Write) = Err cannot_write.Failed
@@ -29,7 +30,7 @@ fault_from file Spawn = Ok fault.Spawn
 fault_from file Place = Ok fault.Place
 fault_from file NoEntry = Ok fault.NoEntry
 
--- a replay by so many workers went to its end
+-- a replay by this number of workers went to its end
 abbrev pub IsReplayed : ℕ → PrintOptions → (i i' o o' : Option (List ℕ)) → Type 0
 IsReplayed workers p i i' o o' = ((workers ≡ 1) × one.Replays p i i' o o') ⊎ ((1 < workers) × many.Replays p i i' o o')
 
@@ -37,7 +38,8 @@ IsReplayed workers p i i' o o' = ((workers ≡ 1) × one.Replays p i i' o o') �
 abbrev pub IsReplayedPart : ℕ → PrintError → PrintOptions → (i i' o o' : Option (List ℕ)) → Type 0
 IsReplayedPart workers why p i i' o o' = ((workers ≡ 1) × one.ReplaysPart why p i i' o o') ⊎ ((1 < workers) × many.ReplaysPart why p i i' o o')
 
--- What a replay that ended early for this fault made of the input and the output. Only of several workers one may not start, or get no entry.
+-- The input and the output after a replay that ended early for this fault. Only one of several
+-- workers may not start, or get no entry.
 abbrev pub EndsEarly : ℕ → WorkerReplayFault → PrintOptions → (i i' o o' : Option (List ℕ)) → Type 0
 EndsEarly workers (Replay Read) p i i' o o' = o' ≡ o
 EndsEarly workers (Replay Write) p i i' o o' = IsReplayedPart workers stop.Write p i i' o o'
@@ -48,20 +50,22 @@ EndsEarly workers Spawn p i i' o o' = (1 < workers) × (o' ≡ o)
 EndsEarly workers Place p i i' o o' = (1 < workers) × (o' ≡ o)
 EndsEarly workers NoEntry p i i' o o' = (1 < workers) × (o' ≡ o)
 
--- a replay by so many workers
+-- a replay by this number of workers
 abbrev pub EndsBy : ℕ → PrintOptions → Result (Unit {0}) WorkerReplayFault → (i i' o o' : Option (List ℕ)) → Type 0
 EndsBy workers p result i i' o o' = MatchResult result (λ _. IsReplayed workers p i i' o o') (λ e. EndsEarly workers e p i i' o o')
 
--- What has to be said of a replay that ended early was said, and the status is 1: the line of its fault, or that the output is not written whole, of
--- which nothing is said where its pipe was closed.
+-- A replay ended early, and the status is 1. The line of its fault was printed, or a line that the
+-- output is not written whole. If its pipe was closed, nothing is printed.
 abbrev pub IsFaultSaid : Bor (List ℕ) → WorkerReplayFault → (status : ℕ) (f f' : Option (List ℕ)) → Type 0
 IsFaultSaid file e status f f' = MatchResult (fault_from file e) (λ c. IsSaidOf c status f f') (λ why. IsUnwrittenSaid why status f f')
 
--- It was said, or want of memory where there was none for the line of the fault. That the output is not written whole takes none.
+-- The line was printed, or the one for a lack of memory if there was none for the line of the
+-- fault. The line about the output needs none.
 abbrev pub IsEndSaid : Bor (List ℕ) → WorkerReplayFault → (status : ℕ) (f f' : Option (List ℕ)) → Type 0
 IsEndSaid file e status f f' = MatchResult (fault_from file e) (λ c. IsSaidOf c status f f' ⊎ IsSaidOf fault.Memory status f f') (λ why. IsUnwrittenSaid why status f f')
 
--- the replay by so many workers went to its end, and nothing was said; or it ended early, and its fault was said
+-- the replay by this number of workers went to its end, and nothing was printed about it; or it
+-- ended early, and its fault was printed
 abbrev pub IsReplayEnded : Bor (List ℕ) → ℕ → PrintOptions → (status : ℕ) (i i' o o' f f' : Option (List ℕ)) → Type 0
 IsReplayEnded file workers p status i i' o o' f f' = ((status ≡ 0) × IsReplayed workers p i i' o o' × (f' ≡ f))
     ⊎ ((e : WorkerReplayFault) × EndsEarly workers e p i i' o o' × IsFaultSaid file e status f f')

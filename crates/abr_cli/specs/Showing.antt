@@ -1,9 +1,10 @@
--- What was shown of how much is done.
+-- The progress of a command, as it was shown.
 use Rattle.std.specs.Prelude.{ℕ, ◌≡◌, ◌⊎◌, ◌<◌, Bool, false, List, Option, None}
 use Rattle.replay.specs.Advance.{EndsShowing, IsProgress, Shows, ShowsProgress}
 use Rattle.replay.specs.declared.progress.Progress.{Progress}
 
--- It was shown that no line is done yet, and then how many are, and the line of it was ended. Where that is not to be shown, nothing was written.
+-- It was shown that no line is done yet, and then how many are, and the line with the number was
+-- ended. If it is not to be shown, nothing was written.
 pub record IsProgressTold (p : Progress) (IsShown : (f f' : Option (List ℕ)) → Type 0) (f f' : Option (List ℕ)) : Type 0 where
   pub start : Option (List ℕ)
   pub mid : Option (List ℕ)
@@ -12,7 +13,7 @@ pub record IsProgressTold (p : Progress) (IsShown : (f f' : Option (List ℕ)) �
   pub ended : EndsShowing p mid f'
   pub silent : p.is_shown ≡ false → f' ≡ f
 
--- of lines that are told of as they come
+-- the progress of lines that are reported as they come
 abbrev pub IsAdvanceTold : Progress → (f f' : Option (List ℕ)) → Type 0
 IsAdvanceTold p f f' = IsProgressTold p (IsProgress p) f f'
 

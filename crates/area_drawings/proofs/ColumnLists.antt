@@ -68,7 +68,7 @@ module _ (reached : List ReachedVertex) (all sorted kept : List Column) (each : 
     λ h. subst (λ (cs : List Column). Contains cs c) (sym kept_is) (Contains-dedup (eq_by_cmp_equiv column_total) (tells_apart column_exact) sorted c (Contains-permutation all sorted c moved h)),
   )
 
-  -- and are those of the vertices
+  -- and belong to the vertices
   pub of_vertices : AreColumnsOf reached kept
   of_vertices c = (
     λ h. mapped_from column_of reached c (subst (λ (cs : List Column). Contains cs c) each ((same_columns c).0 h)),

@@ -31,7 +31,7 @@ columns_moved rs moved columns same are c = (
   λ h. (are c).1 (h.0, Contains-permutation moved rs h.0 (IsPermutation-sym rs moved same) h.1, h.2),
 )
 
--- no two stand for one vertex
+-- no two are of one vertex
 pub stands_apart : (d : Database) (t : AreaTreeValue) (stands : List Stand) → AreReached d t (reached_of stands) → AreApart stands
 stands_apart d t stands reached i j e lt within same =
     let short : i < length stands = omega arith in

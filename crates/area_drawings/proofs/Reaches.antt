@@ -1,4 +1,4 @@
--- The vertices that are reached, each once.
+-- The vertices that are reached, without duplicates.
 use Rattle.std.proofs.Common.{◌≡◌, ◌≢◌, ℕ, List, [], ◌∷◌, Option, None, Some, sym, ap, subst, ◌∙◌, arith}
 use Rattle.std.specs.Prelude.{◌↔◌, option_map}
 use Rattle.std.specs.FinMap.{get}

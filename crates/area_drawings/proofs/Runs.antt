@@ -1,4 +1,4 @@
--- Vertices that are put each behind the one before it.
+-- Vertices that follow one another.
 use Rattle.std.proofs.Common.{◌≡◌, ◌⊎◌, inl, inr, ⊎_elim, ℕ, ◌+◌, ◌<◌, List, [], ◌∷◌, ◌++◌, Option, None, Some, length, take, map, get_or, refl, sym, ap, subst, ◌∙◌, arith}
 use Rattle.std.specs.Prelude.{◌↔◌}
 use Rattle.std.specs.List.{All, Contains}
@@ -12,7 +12,7 @@ use Rattle.area_drawings.specs.declared.reached.ReachedVertex.{ReachedVertex}
 use Rattle.area_drawings.specs.declared.stands.Stand.{Stand}
 use Rattle.area_drawings.specs.Places.{AreInPlaces, HasRows, IsBefore, IsNext, IsRun, rows_of}
 
--- one vertex more stands
+-- one vertex more has a cell
 pub reached_push : (ss : List Stand) (s : Stand) (rs : List ReachedVertex) (i : ℕ) (d : ReachedVertex) → i < length rs → map (λ t. t.reached) ss ≡ take i rs → s.reached ≡ get_or rs i d → map (λ t. t.reached) (ss ++ s ∷ []) ≡ take (i + 1) rs
 reached_push ss s rs i d lt before is =
     map_push (λ (t : Stand). t.reached) ss s
@@ -24,7 +24,7 @@ pub run_push : (before : Option Stand) (ss : List Stand) (mid : Option Stand) (s
 run_push before [] mid s run next = (subst (λ (b : Option Stand). IsNext b s) run next, refl)
 run_push before (t ∷ ts) mid s run next = (run.0, run_push (Some t) ts mid s run.1 next)
 
--- what comes next comes behind
+-- the next vertex comes after it
 behind : (b s : Stand) → IsNext (Some b) s → IsBefore b.place s.place
 behind b s next = elim next [ inl same ↦ inr (sym same.0, same.1) | inr below ↦ inl (omega arith) ]
 
@@ -41,12 +41,12 @@ all_behind b (s ∷ ss) last run =
     let here = behind b s run.0 in
     All-cons (λ t. IsBefore b.place t.place) s ss here (All-weaker (λ t. IsBefore s.place t.place) (λ t. IsBefore b.place t.place) (λ t later. farther b.place s.place t.place here later) ss (all_behind s ss last run.1))
 
--- each stands before those behind it
+-- each comes before the next ones
 pub in_places : (before : Option Stand) (ss : List Stand) (last : Option Stand) → IsRun before ss last → AreInPlaces ss
 in_places before [] last run = λ i j d lt within. absurd (omega arith)
 in_places before (s ∷ ss) last run = AllPairs-cons (λ t u. IsBefore t.place u.place) s ss (all_behind s ss last run.1) (in_places (Some s) ss last run.1)
 
--- some vertex stands in the row
+-- some vertex is in the row
 abbrev HasRow : List Stand → ℕ → Type 0
 HasRow ss row = (s : Stand) × Contains ss s × (s.place.row ≡ row)
 

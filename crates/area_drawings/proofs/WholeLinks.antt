@@ -1,4 +1,5 @@
--- All links that are drawn: those out of a vertex, link by link, and then those out of each, vertex by vertex.
+-- All links that are drawn: those out of a vertex, link by link, and then those out of each, vertex
+-- by vertex.
 use Rattle.std.proofs.Common.{◌≡◌, ◌≢◌, inl, inr, ℕ, ◌+◌, ◌<◌, ◌≤◌, List, [], ◌++◌, length, take, get_or, refl, sym, ap, subst, ◌∙◌}
 use Rattle.std.specs.Prelude.{◌↔◌}
 use Rattle.std.specs.List.{AllPairs, Contains}

@@ -27,12 +27,12 @@ abbrev pub flags_or_none : Option ℕ → ℕ
 flags_or_none None = 0
 flags_or_none (Some flags) = flags
 
--- the bits of a router-LSA (A.4.2); 0 of a network-LSA, and where there is no LSA
+-- the bits of a router-LSA (A.4.2); 0 for a network-LSA or without an LSA
 abbrev pub bits_of_lsa : Option Body → ℕ
 bits_of_lsa None = 0
 bits_of_lsa (Some body) = flags_or_none (flags_of body)
 
--- they are the bits of the LSA that stands for the vertex
+-- the bits of the LSA that describes the vertex
 abbrev pub HasFlags : Database → Vertex → ℕ → Type 0
 HasFlags d v flags = (body : Option Body) × IsStanding d v body × (flags ≡ bits_of_lsa body)
 
@@ -52,14 +52,15 @@ stands_of drawing = map stand_of drawing.vertices
 abbrev pub reached_of : List Stand → List ReachedVertex
 reached_of stands = map (λ s. s.reached) stands
 
--- its next hops are those of the tree, and its roles those that its router-LSA says
+-- its next hops come from the tree, and its roles from its router-LSA
 pub record IsTold (d : Database) (t : AreaTreeValue) (v : DrawnVertex) : Type 0 where
   pub hops : v.hops ≡ listed_hops (get t.tree.hops v.vertex)
   pub roles : (flags : ℕ) × HasFlags d v.vertex flags × AreRoles flags v.roles
 
 -- ---- columns
 
--- The columns are one for the networks, and one for the routers, at each distance that some have, in this order. Their distances are these, and each vertex stands in its column.
+-- The columns are one for the networks, and one for the routers, at each distance that some have,
+-- in this order. Their distances are these, and each vertex is in its column.
 pub record AreColumns (distances : List ℕ) (stands : List Stand) : Type 0 where
   pub columns : List Column
   pub in_order : IsStrictlySortedBy column_cmp columns
@@ -71,13 +72,14 @@ pub record AreColumns (distances : List ℕ) (stands : List Stand) : Type 0 wher
 
 pub record IsDrawingOf (root : ℕ) (d : Database) (t : AreaTreeValue) (drawing : Drawing) : Type 0 where
   pub root_is : drawing.root ≡ root
-  -- exactly the vertices that are reached, each once
+  -- exactly the vertices that are reached, without duplicates
   pub reached : AreReached d t (reached_of (stands_of drawing))
   pub told : All (IsTold d t) drawing.vertices
   pub columns : AreColumns drawing.columns (stands_of drawing)
   -- from row to row, and in a row from left to right
   pub places : AreInPlaces (stands_of drawing)
   pub rows : HasRows drawing.rows (stands_of drawing)
-  -- exactly the links between them, each once; links that differ only in their label are drawn as one
+  -- exactly the links between them, without duplicates; links that differ only in their label are
+  -- drawn as one
   pub links : AreLinksBetween t.area.graph (stands_of drawing) drawing.links
   pub each_once : AllPairs (λ k l. k ≢ l) drawing.links

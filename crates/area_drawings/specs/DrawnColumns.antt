@@ -1,4 +1,4 @@
--- What is drawn of the columns: a line down each, and the distance of its vertices above it.
+-- The drawing of the columns: a line down each, and the distance of its vertices above it.
 use Rattle.std.specs.Prelude.{ℕ, ◌-◌, ◌++◌, List, codes, decimal}
 use Rattle.std.specs.List.{flat_map, enumerate_from}
 use Rattle.area_drawings.specs.Layout.{x_of, text_start}

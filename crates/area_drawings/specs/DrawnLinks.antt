@@ -1,4 +1,4 @@
--- What is drawn of the links: a curve for each, and the costs of those on the tree.
+-- The drawing of the links: a curve for each, and the costs of the links on the tree.
 use Rattle.std.specs.Prelude.{ℕ, ◌+◌, ◌-◌, ◌*◌, ◌/◌, ◌++◌, ◌==◌, List, [], codes, decimal, if◌then◌else◌, nat_lt}
 use Rattle.std.specs.List.{flat_map}
 use Rattle.ospf_types.specs.Text.{address_text}
@@ -7,12 +7,13 @@ use Rattle.area_drawings.specs.declared.drawing.DrawnLink.{DrawnLink}
 use Rattle.area_drawings.specs.Layout.{y_of, lift, bend_x, point_text, place_text, text_start}
 use Rattle.area_drawings.specs.Vertices.{id_of}
 
--- a Bezier curve from one place to the other. Both of its control points are where it is drawn to, each as high as one of the places
+-- a Bezier curve from one cell to the other. Both of its control points are at the x coordinate of
+-- its bend, each as high as one of the cells
 abbrev pub curve_text : GridCell → GridCell → List ℕ
 curve_text from to =
     codes "M" ++ place_text from ++ codes "C" ++ point_text (bend_x from to) (y_of from.row - lift from to) ++ codes " " ++ point_text (bend_x from to) (y_of to.row - lift from to) ++ codes " " ++ place_text to
 
--- what is told of a link under the pointer
+-- the text for a link under the pointer
 abbrev pub link_title : DrawnLink → List ℕ
 link_title l =
     codes "<title>" ++ address_text (id_of l.from.vertex) ++ codes " to " ++ address_text (id_of l.to.vertex) ++ codes ", cost " ++ decimal l.cost ++ codes "</title>"
@@ -21,16 +22,17 @@ link_title l =
 abbrev pub drawn_link : (class : List ℕ) → DrawnLink → List ℕ
 drawn_link class l = codes "<path class=\"" ++ class ++ codes "\" d=\"" ++ curve_text l.from.place l.to.place ++ codes "\">" ++ link_title l ++ codes "</path>\n"
 
--- where the cost of a link stands: to the right of the middle, or to the left of it where the link leads down
+-- the x coordinate of the cost of a link: right of the middle, or left of it if the link leads down
 abbrev pub cost_x : GridCell → GridCell → ℕ
 cost_x from to = if nat_lt from.row to.row then bend_x from to - 11 else bend_x from to + 11
 
--- how high the cost of a link stands: above one that stays in its row, whose curve rises by three quarters of what its control
--- points do, and else below it, where the names of vertices are not
+-- the height of the cost of a link: above a link that stays in its row, whose curve rises by three
+-- quarters of what its control points do, and else below it, where there are no names of vertices
 abbrev pub cost_y : GridCell → GridCell → ℕ
 cost_y from to = if from.row == to.row then y_of from.row - lift from to * 3 / 4 - 3 else (y_of from.row + y_of to.row) / 2 + 8
 
--- a cost beside the middle of a link between these places; nothing where it is 0, as from a network to its routers
+-- a cost near the middle of a link between these cells; nothing if it is 0, as from a network to
+-- its routers
 abbrev pub cost_text : GridCell → GridCell → (cost : ℕ) → List ℕ
 cost_text from to cost =
     if cost == 0

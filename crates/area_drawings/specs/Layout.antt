@@ -1,4 +1,4 @@
--- Where things stand in a picture, in pixels from its upper left corner.
+-- The coordinates in a picture, in pixels from its upper left corner.
 use Rattle.std.specs.Prelude.{ℕ, ◌+◌, ◌-◌, ◌*◌, ◌++◌, ◌&&◌, ◌==◌, Bool, List, codes, decimal, if◌then◌else◌, nat_lt}
 use Rattle.std.specs.Int.{abs_diff}
 use Rattle.area_drawings.specs.declared.drawing.GridCell.{GridCell}
@@ -11,15 +11,16 @@ x_of column = 60 + 118 * column
 abbrev pub y_of : (row : ℕ) → ℕ
 y_of row = 46 + 52 * row
 
--- the width of a picture of so many columns. One without columns has the room of one
+-- the width of a picture with this number of columns. One without columns has the room of one
 abbrev pub width_of : (columns : ℕ) → ℕ
 width_of columns = 218 + 118 * (columns - 1)
 
--- the height of a picture of so many rows. One without rows has the room of one
+-- the height of a picture with this number of rows. One without rows has the room of one
 abbrev pub height_of : (rows : ℕ) → ℕ
 height_of rows = 102 + 52 * (rows - 1)
 
--- whether both are in one row with a column between them, so that a straight line could run through what stands there
+-- true if both are in one row with a column between them, so that a straight line could lead
+-- through the vertices there
 abbrev pub is_blocked : GridCell → GridCell → Bool
 is_blocked from to = (from.row == to.row) && nat_lt 1 (abs_diff from.column to.column)
 
@@ -27,7 +28,8 @@ is_blocked from to = (from.row == to.row) && nat_lt 1 (abs_diff from.column to.c
 abbrev pub lift : GridCell → GridCell → ℕ
 lift from to = if is_blocked from to then 26 else 0
 
--- where the curve from one place to the other is drawn to: halfway, or to the right of both where they are in one column
+-- the x coordinate of the bend of the curve: halfway, or to the right of both if they are in one
+-- column
 abbrev pub bend_x : GridCell → GridCell → ℕ
 bend_x from to = if from.column == to.column then x_of from.column + 44 else 60 + 59 * (from.column + to.column)
 
@@ -39,6 +41,6 @@ point_text x y = decimal x ++ codes " " ++ decimal y
 abbrev pub place_text : GridCell → List ℕ
 place_text p = point_text (x_of p.column) (y_of p.row)
 
--- the beginning of a text of this class, the middle of which stands at this point
+-- the beginning of a text of this class, with its middle at this point
 unfoldable pub text_start : (class : List ℕ) → (x y : ℕ) → List ℕ
 text_start class x y = codes "<text class=\"" ++ (class ++ (codes "\" x=\"" ++ (decimal x ++ (codes "\" y=\"" ++ (decimal y ++ codes "\" text-anchor=\"middle\">")))))

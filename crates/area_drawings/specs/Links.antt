@@ -21,11 +21,12 @@ IsStandOf stands v s = Contains stands s × (s.reached.vertex ≡ v)
 abbrev pub LacksVertex : List Stand → Vertex → Type 0
 LacksVertex stands v = (s : Stand) → IsStandOf stands v s → ⊥
 
--- the end of a link at a vertex, in the place of that
+-- the end of a link at a vertex, in the cell of the vertex
 abbrev pub end_of : Stand → DrawnEnd
 end_of s = record { vertex = s.reached.vertex; place = s.place }
 
--- What is drawn of a link of this cost. It is on the tree where the distance and the cost together are the distance of its head.
+-- The drawing of a link of this cost. It is on the tree if the distance and the cost together are
+-- the distance of its head.
 abbrev pub link_between : Stand → ℕ → Stand → DrawnLink
 link_between s cost t = record { from = end_of s; to = end_of t; cost = cost; on_tree = s.reached.distance + cost == t.reached.distance }
 
@@ -57,6 +58,6 @@ AddsLink stands s link old new = (l : DrawnLink) → Contains new l ↔ (Contain
 abbrev pub HasOneMore : DrawnLink → List DrawnLink → List DrawnLink → Type 0
 HasOneMore link old new = (l : DrawnLink) → Contains new l ↔ (Contains old l ⊎ (l ≡ link))
 
--- none stands twice if none did
+-- there are no duplicates if there were none
 abbrev pub KeepsApart : List DrawnLink → List DrawnLink → Type 0
 KeepsApart old new = AllPairs (λ k l. k ≢ l) old → AllPairs (λ k l. k ≢ l) new

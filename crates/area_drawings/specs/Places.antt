@@ -1,4 +1,4 @@
--- Where vertices stand in a picture.
+-- The cells of the vertices in a picture.
 use Rattle.std.specs.Prelude.{◌↔◌, ◌⊎◌, ℕ, ◌+◌, ◌≡◌, ◌<◌, List, [], ◌∷◌, Contains, Option, None, Some, slice_get}
 use Rattle.std.specs.List.{AllPairs}
 use Rattle.area_drawings.specs.declared.drawing.GridCell.{GridCell}
@@ -10,7 +10,7 @@ use Rattle.area_drawings.specs.Columns.{column_of}
 abbrev pub IsBefore : GridCell → GridCell → Type 0
 IsBefore p q = (p.row < q.row) ⊎ ((p.row ≡ q.row) × (p.column < q.column))
 
--- Each stands before those behind it, so that no two have one place.
+-- Each comes before the next ones, so that no two have one cell.
 abbrev pub AreInPlaces : List Stand → Type 0
 AreInPlaces stands = AllPairs (λ s t. IsBefore s.place t.place) stands
 
@@ -18,7 +18,7 @@ AreInPlaces stands = AllPairs (λ s t. IsBefore s.place t.place) stands
 abbrev pub HasRows : ℕ → List Stand → Type 0
 HasRows rows stands = (row : ℕ) → (row < rows) ↔ ((s : Stand) × Contains stands s × (s.place.row ≡ row))
 
--- it stands in the column of its vertex
+-- it is in the column of its vertex
 abbrev pub IsInColumn : List Column → Stand → Type 0
 IsInColumn columns s = slice_get columns s.place.column ≡ Some (column_of s.reached)
 
@@ -27,7 +27,8 @@ abbrev pub rows_of : Option Stand → ℕ
 rows_of None = 0
 rows_of (Some s) = s.place.row + 1
 
--- the row of a vertex in the column, behind the one before it: that one's row, and then to the right of it, or a row that begins
+-- the row of a vertex in the column, after the one before it: the same row, and then to the right
+-- of it, or a row that begins
 abbrev pub IsNextRow : Option Stand → ℕ → ℕ → Type 0
 IsNextRow None column row = row ≡ 0
 IsNextRow (Some before) column row = ((row ≡ before.place.row) × (before.place.column < column)) ⊎ (row ≡ before.place.row + 1)
@@ -35,7 +36,7 @@ IsNextRow (Some before) column row = ((row ≡ before.place.row) × (before.plac
 abbrev pub IsNext : Option Stand → Stand → Type 0
 IsNext before s = IsNextRow before s.place.column s.place.row
 
--- each stands behind the one before it, the first behind this one, and another is the last
+-- each comes after the one before it, the first after this one, and another is the last
 abbrev pub IsRun : Option Stand → List Stand → Option Stand → Type 0
 IsRun before [] last = last ≡ before
 IsRun before (s ∷ ss) last = IsNext before s × IsRun (Some s) ss last

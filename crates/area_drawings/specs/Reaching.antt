@@ -8,7 +8,7 @@ use Rattle.lsdb.specs.Databases.{Database}
 use Rattle.area_trees.specs.Areas.{AreaTreeValue, vertex_of}
 use Rattle.area_drawings.specs.declared.reached.ReachedVertex.{ReachedVertex}
 
--- the database has an LSA that stands for the vertex: a router-LSA, or a network-LSA
+-- the database has an LSA that describes the vertex: a router-LSA, or a network-LSA
 abbrev pub HasVertex : Database → Vertex → Type 0
 HasVertex d v = (key : Key) × IsSome (get d key) × (vertex_of key ≡ Some v)
 
@@ -20,7 +20,8 @@ reached_by t v = option_map (λ distance. record { vertex = v; distance = distan
 abbrev pub AddsReached : AreaTreeValue → Vertex → List ReachedVertex → List ReachedVertex → Type 0
 AddsReached t v old new = new ≡ old ++ option_to_list (reached_by t v)
 
--- exactly the vertices that have an LSA in the database and are reached, each once, at its distance
+-- exactly the vertices that have an LSA in the database and are reached, without duplicates, at
+-- their distances
 pub record AreReached (d : Database) (t : AreaTreeValue) (reached : List ReachedVertex) : Type 0 where
   pub exact : (r : ReachedVertex) → Contains reached r ↔ (HasVertex d r.vertex × (get t.tree.distances r.vertex ≡ Some r.distance))
   pub once : AllPairs (λ p q. p.vertex ≢ q.vertex) reached

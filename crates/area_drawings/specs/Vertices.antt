@@ -1,4 +1,4 @@
--- What is drawn of the vertices: a mark for each, and its name.
+-- The drawing of the vertices: a mark for each, and its name.
 use Rattle.std.specs.Prelude.{ℕ, ◌+◌, ◌-◌, ◌++◌, ◌==◌, List, [], ◌∷◌, codes, decimal, if◌then◌else◌}
 use Rattle.std.specs.List.{flat_map, join_by}
 use Rattle.ospf_types.specs.declared.entry.Vertex.{Vertex}
@@ -20,7 +20,7 @@ abbrev pub hops_text : List NextHop → List ℕ
 hops_text [] = []
 hops_text (hop ∷ hops) = codes " over " ++ join_by hop_text (codes ", ") (hop ∷ hops)
 
--- what is told of a vertex under the pointer
+-- the text for a vertex under the pointer
 unfoldable pub vertex_title : DrawnVertex → List ℕ
 vertex_title v = codes "<title>" ++ address_text (id_of v.vertex) ++ codes ", cost " ++ decimal v.distance ++ hops_text v.hops ++ codes "</title>"
 
@@ -51,7 +51,7 @@ abbrev pub mark_text : (root : ℕ) → Vertex → GridCell → (title : List �
 mark_text root (Router id) p title = circle_text (router_class root id) p title
 mark_text root (Network id) p title = rectangle_text p title
 
--- B for an area border router, E for an AS boundary router, behind a space
+-- B for an area border router, E for an AS boundary router, after a space
 abbrev pub roles_text : Roles → List ℕ
 roles_text r = if r.border then (if r.boundary then codes " BE" else codes " B") else (if r.boundary then codes " E" else [])
 

@@ -58,7 +58,7 @@ fn draw_vertex(
     })
 }
 
-// Returns the bits of the router-LSA that stands for a router. They are 0 for a transit network.
+// Returns the bits of the router-LSA that describes a router. They are 0 for a transit network.
 fn flags_at(database: &Database, tree: &AreaTree, vertex: Vertex) -> u8
     requires { IsTreeIn database.now.lsas tree.now }
     ensures { HasFlags database.now.lsas vertex result }

@@ -1,4 +1,4 @@
--- The parts of a line, as they are written one behind the other.
+-- The parts of a line, as they are written one after the other.
 use Rattle.std.proofs.Common.{◌≡◌, ◌∙◌, ◌++◌, List, ℕ, codes, append_assoc}
 use Rattle.capture_recording.specs.Counts.{counted, found_text, counts_line}
 use Rattle.capture_recording.specs.declared.counts.Counts.{Counts}

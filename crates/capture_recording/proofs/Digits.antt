@@ -10,7 +10,7 @@ unfolding encode_with
 encoded_more t [] b = refl
 encoded_more t (x ∷ xs) b = ap (λ (ys : List ℕ). slice_index t (x / 16) ∷ slice_index t (x % 16) ∷ ys) (encoded_more t xs b)
 
--- so many pairs are appended
+-- the first `pair` pairs are appended
 pub record IsAppended (old now digits : List ℕ) (pair : ℕ) : Type 0 where
   pub gains : Gains old now
   pub encoded : encode_lower (drop (length old) now) ≡ take (2 * pair) digits

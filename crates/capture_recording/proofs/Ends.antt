@@ -1,4 +1,4 @@
--- What a capture that was gone through is finished with.
+-- The end of a capture that was read.
 use Rattle.std.proofs.Common.{◌≡◌, ◌∙◌, ◌++◌, List, [], ℕ, Option, Some, ◌⊎◌, inl, inr, Result, Err, Bool, refl, ap, sym, subst, append_assoc}
 use Rattle.std.specs.Prelude.{length, string_bytes}
 use Rattle.std.specs.Io.KnownBytes.{Appends}

@@ -1,4 +1,4 @@
--- The lines of events, as they are written one behind the other.
+-- The lines of events, as they are written one after the other.
 use Rattle.std.proofs.Common.{◌≡◌, ◌∙◌, ◌++◌, true, List, [], ◌∷◌, ℕ, map, ap, sym, subst, append_assoc, append-nil}
 use Rattle.std.specs.List.{flat_map}
 use Rattle.std.proofs.lemmas.List.{map-append}
@@ -34,7 +34,7 @@ appended_item f old mid new done x p q =
     let same : flat_map f (done ++ x ∷ []) ≡ flat_map f done ++ f x = flat_map-append f done (x ∷ []) ∙ ap (λ events. flat_map f done ++ events) (append-nil (f x)) in
     subst (AreAppended old new) (sym same) (appended_more old mid new (flat_map f done) (f x) p q)
 
--- one item more was gone through
+-- one more item of a list in a loop
 pub one_more : {X : Type 0} (done left more all : List X) (x : X) → done ++ left ≡ all → left ≡ x ∷ more → (done ++ x ∷ []) ++ more ≡ all
 one_more done left more all x whole is = append_assoc done (x ∷ []) more ∙ ap (λ l. done ++ l) (sym is) ∙ whole
 

@@ -1,4 +1,4 @@
--- What a capture comes to that was gone through, or of which no more is recorded.
+-- The outcome of a capture that was read, or of which no more is recorded.
 use Rattle.std.proofs.Common.{◌≡◌, ◌++◌, List, [], ℕ, Bool, true, false, Option, ◌⊎◌, inl, inr, Err, refl, sym, subst}
 use Rattle.std.specs.Prelude.{string_bytes}
 use Rattle.std.specs.Io.KnownBytes.{Appends}
@@ -131,7 +131,7 @@ module _ (rules : Rules) (beginning : Preamble) (before after old new told_befor
   outcome_recorded (Fault kind place) false is = inl (of_same rules before after _ _ (λ at steps lines p. (p.0, p.1, p.2.whole refl)) is)
   outcome_recorded Unread false is = inl (of_same rules before after _ _ (λ at steps lines p. (p.0, p.1, p.2.whole refl)) is)
 
-  -- the configuration is at fault
+  -- the configuration has a fault
   pub outcome_lacking : (ending : Ending) (fault : ConfigFault) (is_silent : Bool) → Lacks rules beginning before after old new (λ at. IsEnding ending at after) (HasSaid told_before told is_silent) fault
       → RuledOutcome rules beginning before after old new told_before told (unless_silent is_silent (Err (fault_lacking ending fault)))
   outcome_lacking ending fault true is = inr (fault, of_same rules before after _ _ (λ at steps lines p. ((ending, p.0), p.1, p.2, p.3.part refl)) is)

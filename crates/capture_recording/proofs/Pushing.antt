@@ -68,7 +68,7 @@ second_last (suc n) = ap (λ (xs : List ℕ). second_line ++ xs) (second_last n)
 pub one_second_more : (n : ℕ) → second_lines (n + 1) ≡ second_lines n ++ second_line
 one_second_more n = let same : n + 1 ≡ suc n = omega arith in ap second_lines same ∙ second_last n
 
--- one more line of a second stands in front
+-- one more line of a second is at the start
 pub seconds_more : (text : List ℕ) (n : ℕ) → 7 * n ≤ length text → take (7 * n) text ≡ second_lines n → take 7 (take (length text - 7 * n) (drop (7 * n) text)) ≡ second_line
     → take (7 * (n + 1)) text ≡ second_lines (n + 1)
 seconds_more text n within is line =

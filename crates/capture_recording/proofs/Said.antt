@@ -1,4 +1,4 @@
--- What was told of a text, and what was written of lines.
+-- The part of a text that was printed, and the lines that were written.
 use Rattle.std.proofs.Common.{◌≡◌, ◌∙◌, ◌++◌, ℕ, List, [], ◌∷◌, Bool, true, false, Option, refl, ap, sym, append_assoc, append-nil}
 use Rattle.std.specs.Io.KnownBytes.{Appends}
 use Rattle.replay.specs.Writing.{AppendsPart}
@@ -20,7 +20,7 @@ up_to_more old new bytes more p = record {
   written = p.written;
 }
 
--- behind what was written
+-- after the part that was written
 pub up_to_behind : (old mid new : Option (List ℕ)) (bytes more : List ℕ) → Appends old mid bytes → AppendsUpTo mid new more → AppendsUpTo old new (bytes ++ more)
 up_to_behind old mid new bytes more all p = record {
   part = bytes ++ p.part;
@@ -51,7 +51,7 @@ part_more old new bytes more p = record {
   written = p.written;
 }
 
--- ---- what was told
+-- ---- the part that was printed
 
 pub said_nothing : (told : Option (List ℕ)) (is_silent : Bool) → is_silent ≡ false → HasSaid told told is_silent []
 said_nothing told is_silent speaks = record { whole = λ _. appends_none told; part = λ silent. absurd cc; begun = up_to_all told told [] (appends_none told) }

@@ -33,6 +33,6 @@ gathered_more rules router steps step old new are more = record {
   config = more.config (config_of router steps) are.config ∙ ap (option_map facts_of) (config_more router steps step);
 }
 
--- what the steps come to, one behind the other
+-- the results of the steps, one after the other
 pub flat_map_more : {A : Type 0} (f : Step → List A) (steps : List Step) (step : Step) → flat_map f (steps ++ step ∷ []) ≡ flat_map f steps ++ f step
 flat_map_more f steps step = flat_map-append f steps (step ∷ []) ∙ ap (λ l. flat_map f steps ++ l) (append-nil (f step))

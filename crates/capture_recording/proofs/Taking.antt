@@ -1,4 +1,4 @@
--- What a packet comes to that was heard.
+-- The result of a packet that was heard.
 use Rattle.std.proofs.Common.{◌≡◌, ◌∙◌, ◌++◌, List, [], ℕ, Option, None, Some, inl, inr, refl, ap, sym, subst, append-nil}
 use Rattle.std.specs.Prelude.{◌⊎◌, option_map, String, string_bytes}
 use Rattle.packets.specs.declared.datagram_fault.DatagramFault.{DatagramFault}
@@ -55,7 +55,7 @@ module _ (old : Session) (g : Gathered) (packet : Shown) (heard : Heard) (hears 
   pub takes_nothing : heard ≡ Other ⊎ heard ≡ Part → TakesPacket old (record { gathered = g; lines = old.lines; notes = old.notes }) packet
   takes_nothing is = untaken old.notes.text (none_of is) (sym (append-nil (string_bytes old.notes.text)) ∙ ap (λ l. string_bytes old.notes.text ++ l) (sym (no_notes is)))
 
-  -- it brings a datagram at fault
+  -- its datagram has a fault
   pub takes_fault : (fault : DatagramFault) (text : String _) → heard ≡ Fault fault → string_bytes text ≡ string_bytes old.notes.text ++ datagram_note packet.time fault
       → TakesPacket old (record { gathered = g; lines = old.lines; notes = record { text = text; is_silent = old.notes.is_silent } }) packet
   takes_fault fault text is notes =

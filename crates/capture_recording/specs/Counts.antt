@@ -1,4 +1,4 @@
--- What was found in a capture, in numbers.
+-- The contents of a capture, in numbers.
 use Rattle.std.specs.Prelude.{ℕ, ◌+◌, ◌-◌, ◌^◌, ◌++◌, ◌==◌, Bool, true, false, min, if◌then◌else◌, List, count_by, codes, decimal}
 use Rattle.packets.specs.declared.kind.PacketKind.{PacketKind}
 use Rattle.packets.specs.declared.kind.PacketKind.TheVariants as kind_is
@@ -70,7 +70,7 @@ with_recorded c all = record c {
   faults = added c.faults (count_by is_fault all);
 }
 
--- the seconds that stand in the recording
+-- the seconds that are recorded
 abbrev pub with_seconds : Counts → ℕ → Counts
 with_seconds c seconds = record c { seconds = added c.seconds (recorded_of seconds) }
 

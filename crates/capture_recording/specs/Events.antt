@@ -26,7 +26,7 @@ installed scope lsa = event.Install scope lsa ∷ []
 abbrev pub purged : Scope → Key → List Event
 purged scope key = event.Purge scope key ∷ []
 
--- an LSA is installed, and purged right behind that if it is at MaxAge
+-- an LSA is installed, and purged right after that if it is at MaxAge
 abbrev pub install_events : Scope → Lsa → (purges : Bool) → List Event
 install_events scope lsa true = installed scope lsa ++ purged scope (key_of lsa)
 install_events scope lsa false = installed scope lsa
@@ -39,7 +39,7 @@ recorded_events (recorded.OtherArea area is_first) = []
 recorded_events (recorded.Fault fault) = []
 recorded_events (recorded.Cut fault) = []
 
--- so many seconds pass
+-- this number of seconds passes
 abbrev pub second_events : ℕ → List Event
 second_events seconds = replicate seconds event.Second
 
@@ -57,7 +57,7 @@ pub record IsRecordable (e : Event) : Type 0 where
   pub lsa : HasWholeLsa (line.Event e)
   pub version : (v : Version) → IsLineIn v (line.Event e)
 
--- behind the old text stand the lines of the events, as a recording has them
+-- the lines of the events are appended to the old text, as a recording has them
 pub record AreAppended (old new : List ℕ) (events : List Event) : Type 0 where
   pub text : new ≡ old ++ text_of_forms (map event_form events)
   pub each : All IsRecordable events

@@ -1,4 +1,4 @@
--- What a capture that was gone through is finished with.
+-- The end of a capture that was read.
 use Rattle.std.specs.Prelude.{ℕ, ◌≡◌, ◌++◌, List, [], Option, Some, None, string_bytes}
 use Rattle.std.specs.Io.KnownBytes.{Appends}
 use Rattle.captured_config.specs.Configs.{config_of}
@@ -21,7 +21,7 @@ abbrev pub router_of : Preamble → Option ℕ
 router_of (Given bytes) = None
 router_of (Router router) = Some router
 
--- a capture was gone through, and its front and some of the lines were written
+-- a capture was read, and its preamble and some of the lines were written
 pub record IsBegun (rules : Rules) (beginning : Preamble) (before after old now told_before told : Option (List ℕ)) (ended : Ended) : Type 0 where
   pub written : List ℕ
   pub through : GoesThrough rules (router_of beginning) before told_before after told ended written
@@ -29,12 +29,12 @@ pub record IsBegun (rules : Rules) (beginning : Preamble) (before after old now 
   pub is : IsFront beginning through.recorded.steps front
   pub begun : Appends old now (front ++ written)
 
--- a capture was gone through, and this is to stand before its lines
+-- a capture was read, and this has to come before its lines
 pub record IsBehind (rules : Rules) (beginning : Preamble) (before after told_before told : Option (List ℕ)) (kept : Kept) (front : List ℕ) : Type 0 where
   pub through : GoesThrough rules (router_of beginning) before told_before after told kept.ended kept.packed
   pub is : IsFront beginning through.recorded.steps front
 
--- a capture was gone through, and what it tells of the router has this fault
+-- a capture was read, and its configuration of the router has this fault
 pub record IsLacking (rules : Rules) (router : ℕ) (before after told_before told : Option (List ℕ)) (ended : Ended) (packed : List ℕ) (fault : ConfigFault) : Type 0 where
   pub through : GoesThrough rules (Some router) before told_before after told ended packed
   pub has : HasConfigFault (Router router) through.recorded.steps fault
@@ -47,7 +47,7 @@ pub record IsWhollyWritten (rules : Rules) (beginning : Preamble) (before after 
 
 -- ---- what is known of the router
 
--- the configuration is at fault, or memory ran out
+-- the configuration has a fault, or memory ran out
 abbrev pub IsNoFront : Captured → (areas : List ℕ) → PreambleFault → Type 0
 IsNoFront known areas (front_fault.Config fault) = config_fault_of (config_of known areas) ≡ Some fault
 IsNoFront known areas front_fault.Memory = Unit {0}

@@ -1,4 +1,4 @@
--- What the packets of a capture come to together: how much was found, which areas, and what is known of a router.
+-- The results of all packets of a capture: the counts, the areas, and the facts about a router.
 use Rattle.std.specs.Prelude.{ℕ, List, [], Option, None, Some}
 use Rattle.std.specs.List.{fold}
 use Rattle.captured_lsas.specs.declared.recorded.Recorded.{Recorded}
@@ -40,7 +40,7 @@ with_some_area areas (Some taken) = with_taken_area areas taken
 abbrev pub with_step_area : List ℕ → Step → List ℕ
 with_step_area areas step = with_some_area areas step.taken
 
--- each once, in the order in which they were first seen
+-- without duplicates, in the order in which they were first seen
 abbrev pub areas_of : List Step → List ℕ
 areas_of steps = fold with_step_area [] steps
 

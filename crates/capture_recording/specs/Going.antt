@@ -12,7 +12,8 @@ use Rattle.capture_recording.specs.Said.{HasSaid}
 use Rattle.capture_recording.specs.Steps.{Step, packets_of}
 use Rattle.capture_recording.specs.Texts.{AreLines, notes_of, step_events, step_notes}
 
--- Where the beginning is given, no line is held back while no byte of the next packet is at hand: a read of the input may wait.
+-- If the preamble is given, no line is held back while no byte of the next packet is at hand: a
+-- read of the input may wait.
 abbrev pub IsDue : Position → Session → Type 0
 IsDue at session = session.gathered.config ≡ None → at.pending ≡ [] → string_bytes session.lines ≡ []
 

@@ -1,5 +1,5 @@
--- What is printed of the faults in a capture, of time that goes back, of seconds that are not recorded, and of areas that a
--- recording does not have.
+-- The printed lines about the faults in a capture, about time that goes back, about seconds that
+-- are not recorded, and about areas that a recording does not have.
 use Rattle.std.specs.Prelude.{ℕ, Bool, ◌-◌, ◌/◌, ◌%◌, ◌++◌, ◌==◌, if◌then◌else◌, List, [], Option, Some, None, length, replicate, codes, decimal}
 use Rattle.std.specs.List.{flat_map}
 use Rattle.ospf_types.specs.Text.{address_text}
@@ -33,7 +33,8 @@ taken_seconds (taken.Fault f) = 0
 abbrev pub nine_digits : ℕ → List ℕ
 nine_digits n = replicate (9 - length (decimal n)) 48 ++ decimal n
 
--- a time in nanoseconds since the beginning of 1970, UTC: the seconds, with nine digits behind the point
+-- a time in nanoseconds since the beginning of 1970, UTC: the seconds, with nine digits after the
+-- point
 abbrev pub time_text : ℕ → List ℕ
 time_text time = decimal (time / 1000000000) ++ codes "." ++ nine_digits (time % 1000000000)
 

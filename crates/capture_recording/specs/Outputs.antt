@@ -1,4 +1,4 @@
--- What is written and said of a capture.
+-- The output for a capture: the recording, and the lines about it.
 use Rattle.std.specs.Prelude.{ℕ, ◌≡◌, ◌++◌, ◌⊎◌, List, [], length, map, Option, None, Some, Result, MatchResult}
 use Rattle.std.specs.Io.KnownBytes.{Appends}
 use Rattle.captures.specs.Positions.{Position, IsWhole, Stops}
@@ -32,7 +32,8 @@ use Rattle.capture_recording.specs.Texts.{notes_of}
 abbrev pub IsRecordingText : List ℕ → Type 0
 IsRecordingText bytes = (recording : RecordingValue) × IsText bytes recording
 
--- what the recording begins with: bytes that are a recording, or what the packets tell of a router
+-- the beginning of the recording: bytes that are a recording, or the preamble that the packets show
+-- for a router
 abbrev pub IsFront : Preamble → List Step → List ℕ → Type 0
 IsFront (Given bytes) steps front = (front ≡ bytes.now) × IsRecordingText bytes.now
 IsFront (Router router) steps front = IsText front (captured_recording (captured_of router steps) (areas_of steps))
@@ -45,7 +46,7 @@ areas_in recording = map (λ area. area.id) recording.base.config.areas
 abbrev pub IsOnly : List ℕ → RecordingValue → Type 0
 IsOnly bytes recording = (other : RecordingValue) → IsText bytes other → recording ≡ other
 
--- behind a beginning that is given, only LSAs of its areas are recorded
+-- after a preamble that is given, only LSAs of its areas are recorded
 abbrev pub IsLimit : Preamble → (areas : Option (List ℕ)) → Type 0
 IsLimit (Given bytes) areas = (recording : RecordingValue) → IsText bytes.now recording → areas ≡ Some (areas_in recording)
 IsLimit (Router router) areas = areas ≡ None
@@ -74,7 +75,7 @@ pub record IsWrittenUpTo (beginning : Preamble) (old new : Option (List ℕ)) (s
 abbrev pub counts_text : List Step → List ℕ
 counts_text steps = counts_line (counts_of steps) (length (areas_of steps))
 
--- what the packets do not tell of the router
+-- the parts of the router that the packets do not show
 abbrev pub unknown_of : Preamble → List Step → List ℕ
 unknown_of (Given bytes) steps = []
 unknown_of (Router router) steps = unknown_text (captured_of router steps) (areas_of steps)
@@ -84,12 +85,13 @@ all_notes beginning steps = notes_of steps ++ (unknown_of beginning steps ++ cou
 
 -- ---- the outcome
 
--- all that came is recorded; E holds of where it ended, and S of what there was to say
+-- all packets that were read are recorded; E holds of the place where the reading ended, and S of
+-- the lines about it
 abbrev pub IsRecorded : Rules → Preamble → (before after old new : Option (List ℕ)) → (E : Position → Type 0) → (S : List ℕ → Type 0) → Type 0
 IsRecorded rules beginning before after old new E S = FirstPackets rules before after (λ at steps lines.
     E at × IsWritten beginning old new steps lines × S (all_notes beginning steps))
 
--- the packets tell of no configuration of the router but one with this fault
+-- the packets show no configuration of the router but one with this fault
 abbrev pub HasConfigFault : Preamble → List Step → ConfigFault → Type 0
 HasConfigFault (Given bytes) steps fault = ⊥
 HasConfigFault (Router router) steps fault = config_fault_of (config_of (captured_of router steps) (areas_of steps)) ≡ Some fault
@@ -99,7 +101,7 @@ abbrev pub Lacks : Rules → Preamble → (before after old new : Option (List �
 Lacks rules beginning before after old new E S fault = FirstPackets rules before after (λ at steps lines.
     E at × HasConfigFault beginning steps fault × Appends old new [] × S (notes_of steps ++ counts_text steps))
 
--- all that came is recorded, unless the configuration is at fault
+-- all packets that were read are recorded, unless the configuration has a fault
 abbrev pub IsRecordedOrLacks : Rules → Preamble → (before after old new : Option (List ℕ)) → (E : Position → Type 0) → (S : List ℕ → Type 0) → Type 0
 IsRecordedOrLacks rules beginning before after old new E S =
     IsRecorded rules beginning before after old new E S
@@ -115,7 +117,7 @@ abbrev pub IsRecordedPart : Rules → Preamble → (before after old new told_be
 IsRecordedPart rules beginning before after old new told_before told = FirstPackets rules before after (λ at steps lines.
     IsWrittenPart beginning old new steps lines × AppendsUpTo told_before told (notes_of steps))
 
--- memory ran out behind some of the packets
+-- memory ran out after some of the packets
 abbrev pub IsRecordedUpTo : Rules → Preamble → (before old new told_before told : Option (List ℕ)) → Type 0
 IsRecordedUpTo rules beginning before old new told_before told = (left : Option (List ℕ)) × FirstPackets rules before left (λ at steps lines.
     (Appends old new [] ⊎ IsWrittenUpTo beginning old new steps lines) × AppendsUpTo told_before told (notes_of steps))

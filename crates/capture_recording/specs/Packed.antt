@@ -50,7 +50,7 @@ pub record IsPiece (bytes : List ℕ) (plain digits : List ℕ) (p : Piece) : Ty
   pub within : IsWithin bytes p
   pub text : piece_text bytes p ≡ plain ++ digits
 
--- these stand there
+-- this text is at that place
 pub record IsPart (bytes : List ℕ) (start : ℕ) (text : List ℕ) : Type 0 where
   pub within : start + length text ≤ length bytes
   pub is : part bytes start (length text) ≡ text

@@ -1,4 +1,4 @@
--- What a writer was told that may fail.
+-- The text that was written to a writer that may fail.
 use Rattle.std.specs.Prelude.{ℕ, ◌≡◌, ◌++◌, Bool, true, false, List, Option}
 use Rattle.std.specs.Io.KnownBytes.{Appends}
 use Rattle.replay.specs.Writing.{AppendsPart}
@@ -12,7 +12,7 @@ pub record AppendsUpTo (old new : Option (List ℕ)) (bytes : List ℕ) : Type 0
   pub joined : bytes ≡ part ++ rest
   pub written : Appends old new part
 
--- a writer was told this; once it failed, no more of it
+-- this was written to a writer; once it failed, no more of it
 pub record HasSaid (old new : Option (List ℕ)) (is_silent : Bool) (text : List ℕ) : Type 0 where
   pub whole : is_silent ≡ false → Appends old new text
   pub part : is_silent ≡ true → AppendsPart old new text

@@ -8,7 +8,7 @@ use Rattle.capture_recording.specs.FirstPackets.{FirstPackets}
 use Rattle.capture_recording.specs.Said.{AppendsUpTo}
 use Rattle.capture_recording.specs.Texts.{notes_of}
 
--- memory ran out behind some of the packets
+-- memory ran out after some of the packets
 abbrev pub IsGatheredUpTo : Rules → (before told_before told : Option (List ℕ)) → Type 0
 IsGatheredUpTo rules before told_before told =
     (left : Option (List ℕ)) × FirstPackets rules before left (λ at steps lines. AppendsUpTo told_before told (notes_of steps))
@@ -18,7 +18,7 @@ abbrev pub AreLinesPart : Rules → (before after old new told_before told : Opt
 AreLinesPart rules before after old new told_before told =
     FirstPackets rules before after (λ at steps lines. AppendsPart old new lines × AppendsUpTo told_before told (notes_of steps))
 
--- memory ran out behind some of the packets, of which lines were written
+-- memory ran out after some of the packets, whose lines were written in part
 abbrev pub AreLinesUpTo : Rules → (before old new told_before told : Option (List ℕ)) → Type 0
 AreLinesUpTo rules before old new told_before told =
     (left : Option (List ℕ)) × FirstPackets rules before left (λ at steps lines. AppendsUpTo old new lines × AppendsUpTo told_before told (notes_of steps))

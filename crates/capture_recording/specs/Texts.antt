@@ -1,4 +1,4 @@
--- What is printed of the packets of a capture.
+-- The printed lines of the packets of a capture.
 use Rattle.std.specs.Prelude.{ℕ, List, [], Option, None, Some}
 use Rattle.std.specs.List.{flat_map}
 use Rattle.event_state.specs.declared.event.Event.{Event}

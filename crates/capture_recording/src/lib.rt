@@ -10,7 +10,7 @@
 //!
 //! - If a preamble is given, the lines of a packet are written as soon as it is taken, or in large
 //!   pieces while more bytes are at hand. LSAs of areas that it does not have are left out, with a
-//!   line for each such area.
+//!   line for each such area. They are counted neither as LSAs nor as repeated.
 //! - If the capture gives the preamble, all lines wait until its end, as only then all areas and
 //!   interfaces are known. They are packed: hexadecimal digits by two in a byte, repeated
 //!   beginnings once, and seconds as a number.

@@ -1,4 +1,5 @@
-//! A text in less memory.
+//! A text in less memory: about 20 bytes more than the bytes of each LSA, and 16 for a run of
+//! seconds.
 
 ghost use Rattle.std.specs.Prelude.{◌≡◌, ◌≤◌, ◌<◌, ◌%◌, ◌++◌, [], length, take, ℕ, List, IfOk};
 ghost use Rattle.std.specs.Prelude.{IfSome, OnOk, OnErr};

@@ -33,7 +33,7 @@ either f g h same [] = refl
 either f g h same (l ∷ ls) =
     or_swapped (f l) (g l) (list_any f ls) (list_any g ls) ∙ ap (λ b. b || (list_any f ls || list_any g ls)) (same l) ∙ ap (λ b. h l || b) (either f g h same ls)
 
--- ---- masks, each once
+-- ---- masks, without duplicates
 
 -- a mask that is among them changes no answer
 known : (q : ℕ → Bool) (mask : ℕ) (masks : List ℕ) → list_any (λ m. m == mask) masks ≡ true → (list_any q masks || q mask) ≡ list_any q masks

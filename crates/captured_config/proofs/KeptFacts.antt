@@ -1,4 +1,4 @@
--- What is kept tells the same as the LSAs themselves.
+-- The facts that are kept give the same results as the LSAs themselves.
 use Rattle.std.proofs.Common.{◌≡◌, ◌∙◌, ◌&&◌, ◌||◌, ◌==◌, ◌++◌, Bool, true, false, cond, List, [], ◌∷◌, ℕ, Option, Some, None, map, fold, refl, sym, ap, append-nil}
 use Rattle.std.specs.Prelude.{is_none, is_some, not}
 use Rattle.std.specs.List.{cons_option, flat_map, filter_map, list_any}
@@ -38,7 +38,7 @@ counted c area l old new are counts is =
     ∙ ap (λ (f : FactLists). record { router = c.router; lists = f }) (facts_more c.router c.lsas (lsa_in area l))
     ∙ ap (λ (b : Bool). facts_of (cond b (record c { lsas = c.lsas ++ lsa_in area l ∷ [] }) c)) (sym (sym (ap (λ (f : Facts). is_counted f.router l) are) ∙ counts))
 
--- ---- what is told beside links
+-- ---- the facts that are not links
 
 left : (a b : Bool) → (a || b) ≡ false → a ≡ false
 left true b none = none
@@ -60,7 +60,7 @@ no_choice : (is : Bool) (cost : Option ℕ) → option_or (cond is None None) co
 no_choice true cost = refl
 no_choice false cost = refl
 
--- what tells nothing is not kept, and passes no test
+-- an LSA without facts is not kept, and passes no test
 module _ (t : Told) (silent : tells t ≡ false) (area : ℕ) where
   not_own : tells_own area t ≡ false
   not_own = and_none (t.area == area) t.is_own (left t.is_own _ silent)

@@ -5,7 +5,7 @@ use Rattle.std.specs.Ordering.{nat_cmp}
 use Rattle.std.specs.FinMap.{FinMap, entries, from_entries}
 use Rattle.std.specs.Map.{keys_of}
 
--- the Area IDs that were seen, and this one, each once
+-- the Area IDs that were seen, and this one, without duplicates
 abbrev pub with_area : List ℕ → ℕ → List ℕ
 with_area areas area = if list_any (λ a. area == a) areas then areas else areas ++ area ∷ []
 

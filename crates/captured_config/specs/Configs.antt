@@ -1,4 +1,4 @@
--- The configuration that a capture tells of.
+-- The configuration that a capture shows.
 use Rattle.std.specs.Prelude.{ℕ, ◌==◌, ◌||◌, Bool, false, nat_lt, List, [], length, map}
 use Rattle.ospf_types.specs.declared.config.AreaConfig.{AreaConfig}
 use Rattle.ospf_types.specs.declared.config.Config.{Config}

@@ -1,4 +1,4 @@
--- What is kept of the LSAs of a capture: what they tell of the router, and no LSA.
+-- The facts that are kept of the LSAs of a capture: those about the router, and no LSA.
 use Rattle.std.specs.Prelude.{ℕ, ◌≡◌, ◌==◌, ◌&&◌, ◌||◌, ◌++◌, Bool, if◌then◌else◌, List, [], Option, Some, None, map, is_some}
 use Rattle.std.specs.List.{cons_option, flat_map, filter_map}
 use Rattle.ospf_types.specs.declared.lsa.Link.{Link}
@@ -9,7 +9,8 @@ use Rattle.captured_config.specs.Lsas.{AreaLsa, Captured, is_own_router_lsa, lac
 use Rattle.captured_config.specs.StubAreas.{default_route, other_network}
 use Rattle.captured_config.specs.Interfaces.{is_point_to_point}
 
--- links of the router's own router-LSAs, links of any router-LSA that lead back to it, and what each LSA tells beside links
+-- links of the router's own router-LSAs, links of any router-LSA that lead back to it, and the
+-- other facts of each LSA
 pub record FactLists : Type 0 where
   pub own : List OwnLink
   pub back : List LinkBack
@@ -38,7 +39,7 @@ link_back_at router area neighbour l =
 abbrev pub back_from : (router : ℕ) → AreaLsa → List LinkBack
 back_from router x = if x.lsa.header.kind == 1 then filter_map (link_back_at router x.area x.lsa.header.router) (links_within x.lsa) else []
 
--- what it tells beside links
+-- its other facts
 abbrev pub told_of : (router : ℕ) → AreaLsa → Told
 told_of router x = record {
   area = x.area;
@@ -48,7 +49,7 @@ told_of router x = record {
   has_other_summary = is_some (other_network router x.lsa);
 }
 
--- whether that is anything
+-- true if it has any fact
 abbrev pub tells : Told → Bool
 tells t = t.is_own || (t.lacks_externals || (is_some t.default || t.has_other_summary))
 

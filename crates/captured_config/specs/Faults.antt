@@ -17,7 +17,7 @@ abbrev pub IsFaultIn : Config → PreambleFault → Type 0
 IsFaultIn config (fault.Config f) = config_fault_of config ≡ Some f
 IsFaultIn config fault.Memory = Unit {0}
 
--- where the configuration is at fault, the text is as before
+-- if the configuration has a fault, the text is unchanged
 abbrev pub IsRefused : {Z : Type 0} → Config → (old new : String Z) → PreambleFault → Type 0
 IsRefused {Z} config old new (fault.Config f) = (config_fault_of config ≡ Some f) × (string_bytes new ≡ string_bytes old)
 IsRefused {Z} config old new fault.Memory = Unit {0}

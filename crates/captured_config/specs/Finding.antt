@@ -22,7 +22,8 @@ own_in area own = filter_map (λ o. if o.area == area then Some o.link else None
 abbrev pub back_in : (area : ℕ) → List LinkBack → List LinkBack
 back_in area back = filter (λ b. b.area == area) back
 
--- a link back of the neighbour, from an address that one of the router's own stub links joins with this one
+-- a link back of the neighbour, from an address that one of the router's own stub links joins with
+-- this one
 abbrev pub leads_back : (own : List Link) (address neighbour : ℕ) → LinkBack → Bool
 leads_back own address neighbour b = (b.router == neighbour) && list_any (joins address b.address) own
 

@@ -27,7 +27,7 @@ interface_forms interfaces = map (λ x. form_of (interface_event x)) interfaces
 abbrev pub HasText : RecordingValue → Type 0
 HasText r = IsText (text_of r) r
 
--- a configuration, and behind it its interfaces
+-- a configuration, followed by its interfaces
 abbrev pub recording_with : Config → (interfaces : List (ℕ × Interface)) → RecordingValue
 recording_with config interfaces = recording_of One (bare config) (map interface_event interfaces)
 

@@ -1,4 +1,5 @@
--- Which stub links join the two ends of a point-to-point link, told by hosts and masks (RFC 2328, 12.4.1.1).
+-- The stub links that join the two ends of a point-to-point link, found by hosts and masks (RFC
+-- 2328, 12.4.1.1).
 use Rattle.std.specs.Prelude.{ℕ, ◌≡◌, ◌==◌, ◌&&◌, ◌++◌, Bool, if◌then◌else◌, List, [], ◌∷◌, bit_and}
 use Rattle.std.specs.List.{list_any, fold}
 use Rattle.std.specs.BTreeSet.{contains}
@@ -22,7 +23,7 @@ AreHosts own hosts = (address : ℕ) → has_host hosts address ≡ list_any (le
 abbrev pub agree : (address peer mask : ℕ) → Bool
 agree address peer mask = bit_and peer mask == bit_and address mask
 
--- the masks, and this one, each once
+-- the masks, and this one, without duplicates
 abbrev pub with_mask : List ℕ → ℕ → List ℕ
 with_mask masks mask = if list_any (λ m. m == mask) masks then masks else masks ++ mask ∷ []
 

@@ -35,11 +35,13 @@ lies_in address l = bit_and address l.detail == bit_and l.id l.detail
 
 -- ---- the address of a neighbour (12.4.1.1)
 
--- a stub link for a point-to-point link: to the host at its other end, or to a network that both ends lie in
+-- a stub link for a point-to-point link: to the host at its other end, or to a network with both
+-- ends in it
 abbrev pub joins : (address peer : ℕ) → Link → Bool
 joins address peer l = is_stub l.kind && (lies_in peer l && (lies_in address l || (l.detail == 4294967295)))
 
--- the neighbour's link back to the router, from an address that one of the router's own stub links joins with this one
+-- the neighbour's link back to the router, from an address that one of the router's own stub links
+-- joins with this one
 abbrev pub is_link_back : (router : ℕ) (own : List Link) (address : ℕ) → Link → Bool
 is_link_back router own address l = is_point_to_point l.kind && ((l.id == router) && list_any (joins address l.detail) own)
 
@@ -99,14 +101,14 @@ reaches area l f = list_any (λ x. is_on area l x.1) f.interfaces
 abbrev pub is_alone : (area : ℕ) → Found → Link → Bool
 is_alone area f l = is_stub l.kind && not (reaches area l f)
 
--- An interface without neighbours. A capture tells its network, and not its address.
+-- An interface without neighbours. A capture shows its network, and not its address.
 abbrev pub with_stub_link : (area : ℕ) → Found → Link → Found
 with_stub_link area f l = if is_alone area f l then with_interface f (interface_at area l.id 0) else f
 
 abbrev pub with_stub_links : (area : ℕ) → (own : List Link) → Found → Found
 with_stub_links area own f = fold (with_stub_link area) f own
 
--- those with an address of the router, and behind them those of stub links
+-- those with an address of the router, followed by those of stub links
 abbrev pub with_own : (area : ℕ) → (peer : Link → ℕ) → (own : List Link) → Found → Found
 with_own area peer own f = with_stub_links area own (with_links area peer own f)
 
@@ -117,6 +119,6 @@ with_area_links area router lsas own f = with_own area (peer_of area router lsas
 abbrev pub with_interfaces_of : (router : ℕ) → List AreaLsa → Found → (area : ℕ) → Found
 with_interfaces_of router lsas f area = with_area_links area router lsas (links_in area router lsas) f
 
--- those of these areas, one behind the other
+-- those of these areas, one after the other
 abbrev pub interfaces_in : (router : ℕ) → List AreaLsa → (ids : List ℕ) → Found
 interfaces_in router lsas ids = fold (with_interfaces_of router lsas) none_found ids

@@ -1,4 +1,4 @@
--- Which LSAs of a capture tell of a router's configuration.
+-- The LSAs of a capture that show a router's configuration.
 use Rattle.std.specs.Prelude.{ℕ, ◌==◌, ◌&&◌, ◌||◌, ◌++◌, Bool, if◌then◌else◌, List, [], ◌∷◌, map, bit_and}
 use Rattle.std.specs.List.{list_any, flat_map}
 use Rattle.ospf_types.specs.Lsa.{Lsa}

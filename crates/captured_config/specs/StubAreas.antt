@@ -53,8 +53,8 @@ default_cost area router lsas = fold (λ cost x. option_or (default_metric area 
 abbrev pub has_other_summary : (area router : ℕ) → List AreaLsa → Bool
 has_other_summary area router lsas = list_any (λ x. (x.area == area) && is_some (other_network router x.lsa)) lsas
 
--- what a stub area is sent: a default cost that is not captured is taken to be 1, and summaries for networks are sent too, unless there is a default
--- route and nothing else
+-- the settings of a stub area: a default cost that is not captured is taken to be 1, and summaries
+-- for networks are sent too, unless there is a default route and nothing else
 abbrev pub stub_with : (is_stub_area : Bool) → (cost : Option ℕ) → (has_other_summary : Bool) → Option Stub
 stub_with is cost has_other_summary = if is then Some (record { cost = unwrap_or cost 1; summaries = is_none cost || has_other_summary }) else None
 

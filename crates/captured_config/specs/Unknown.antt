@@ -1,4 +1,4 @@
--- What is printed of a configuration that a capture does not tell.
+-- The printed text about a configuration that a capture does not show.
 use Rattle.std.specs.Prelude.{ℕ, ◌++◌, Bool, not, nat_lt, if◌then◌else◌, List, [], length, codes}
 use Rattle.std.specs.List.{flat_map, list_any}
 use Rattle.ospf_types.specs.Text.{address_text}
@@ -10,7 +10,7 @@ use Rattle.captured_config.specs.declared.found.Found.{Found}
 use Rattle.captured_config.specs.Facts.{Facts}
 use Rattle.captured_config.specs.Finding.{interfaces_by, is_cost_unknown_by, tells_own}
 
--- a line, if it is told
+-- a line, if it is wanted
 abbrev pub line_if : Bool → List ℕ → List ℕ
 line_if told line = if told then line else []
 
@@ -28,7 +28,8 @@ no_ranges_line = codes "abr: address ranges are not in a capture: there are none
 abbrev pub left_out_line : List ℕ
 left_out_line = codes "abr: more than 255 interfaces: the others are left out\n"
 
--- of one area, by whether the router has a router-LSA there, and whether its default cost is unknown
+-- the lines of one area; they depend on the router having a router-LSA there, and on its default
+-- cost being unknown
 abbrev pub area_lines_with : (router area : ℕ) → (has_router_lsa is_cost_unknown : Bool) → List ℕ
 area_lines_with router area has_router_lsa is_cost_unknown =
     line_if (not has_router_lsa) (no_interface_line router area) ++ line_if is_cost_unknown (unknown_cost_line area)

@@ -1,4 +1,8 @@
 //! The hosts that stub links lead to (RFC 2328, 12.4.1.1).
+//!
+//! A stub link that joins two ends is found by this set of hosts, and by the masks of the networks
+//! around one end. There are at most 33 masks. So 255 interfaces cost 255 passes over the links,
+//! and not a pass over all pairs of them.
 ghost use Rattle.std.specs.Prelude.{◌≡◌, ◌||◌, ℕ, IfOk, OnOk};
 ghost use Rattle.captured_config.specs.Hosts.{AreHosts, has_host, leads_to_host};
 

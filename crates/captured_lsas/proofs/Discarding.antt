@@ -1,4 +1,4 @@
--- What is discarded is told by its test, and what one more instance makes of the newest ones.
+-- The test if an LSA is discarded, and the newest instances after one more.
 use Rattle.std.proofs.Common.{◌≡◌, ◌∙◌, Bool, true, false, cond, List, [], ◌∷◌, Option, Some, None, refl, ap, sym, subst}
 use Rattle.std.specs.Prelude.{◌&&◌, ◌||◌, not}
 use Rattle.std.specs.Map.{lookup}

@@ -1,4 +1,4 @@
--- The newest instance of an LSA is what its own instances come to, and none behind it is newer.
+-- The newest instance of an LSA is the result of its own instances, and none after it is newer.
 use Rattle.std.proofs.Common.{arith, ◌≡◌, ◌∙◌, ℕ, Bool, true, false, cond, List, [], ◌∷◌, ◌++◌, map, Option, Some, None, Ok, Err, refl, ap, sym, subst}
 use Rattle.std.specs.Prelude.{◌↔◌, is_none}
 use Rattle.std.specs.List.{All, Contains, filter}
@@ -70,7 +70,7 @@ newest_of_all name all (x ∷ xs) =
     by true = refl
     by false = refl
 
--- whether there was an LSA
+-- if there was an LSA
 abbrev begun_by : Bool → List Instance → Bool
 begun_by was [] = was
 begun_by was (x ∷ xs) = true
@@ -86,7 +86,7 @@ begun_is (x ∷ xs) = (λ b. (x, first_element x xs), λ c. refl)
 
 -- ---- of packets
 
--- from one progress to a later one, these LSAs came
+-- from one progress to a later one, these LSAs were taken
 record Adds (p q : Progress) (lsas : List Instance) : Type 0 where
   pub options_stay : q.options ≡ p.options
   pub areas_stay : q.areas ≡ p.areas

@@ -1,4 +1,5 @@
--- The derived equality of names, in the terms of the definitions; names that are alike are the same.
+-- The derived equality of names, in the terms of the definitions; names that are alike are the
+-- same.
 use Rattle.std.proofs.Common.{◌≡◌, ◌&&◌, ℕ, Bool, true, false, refl, ap}
 use Rattle.std.proofs.lemmas.Bool.{eqb-true, eq-eqb}
 use Rattle.ospf_types.specs.contracts.key.ScopePartialEq.TheImpl as scope_equality

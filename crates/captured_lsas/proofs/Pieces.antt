@@ -92,7 +92,7 @@ other_recorded p area kind body recorded not_update empty = none_recorded p area
 pub other_noted : (p : Progress) (area : ℕ) (kind : PacketKind) (body : List ℕ) → (kind ≡ LinkStateUpdate → ⊥) → p ≡ with_pieces p area (pieces_for kind body)
 other_noted p area kind body not_update = none_noted p area (pieces_for kind body) (no_pieces kind body not_update)
 
--- ---- where not even their number stands
+-- ---- without even their number
 
 pieces_cut : (body : List ℕ) → length body < 4 → pieces_in body ≡ Err Count ∷ []
 pieces_cut body short = let is : nat_lt (length body) 4 ≡ true = grind (arith, nat_tests) in rw is refl

@@ -1,4 +1,4 @@
--- What a captured packet brings.
+-- The content of a captured packet.
 use Rattle.std.specs.Prelude.{ℕ, ◌≡◌, ◌==◌, ◌&&◌, not, nat_lt, Bool, false, if◌then◌else◌, List, length, slice_index, Option, Some, None}
 use Rattle.packets.specs.declared.link.LinkType.{LinkType}
 use Rattle.packets.specs.declared.datagram.Datagram.{Datagram}
@@ -19,7 +19,7 @@ use Rattle.captured_lsas.specs.Payloads.{bytes_of}
 abbrev pub is_of_other_protocol : List ℕ → Bool
 is_of_other_protocol bytes = nat_lt 9 (length bytes) && not (slice_index bytes 9 == 89)
 
--- the frame, of the link type with the number, carries the IPv4 packet, which is of no other protocol than OSPF
+-- the frame, of the link type with the number, carries the IPv4 packet, and its protocol is OSPF
 pub record CarriesOspf (link : ℕ) (frame bytes : List ℕ) : Type 0 where
   pub kind : LinkType
   pub known : link_of_number link ≡ Some kind
@@ -40,7 +40,7 @@ payload_after d kept = if is_whole d then Some d.payload.now else payload_with d
 abbrev pub kept_after : Datagram → List Kept → List Kept
 kept_after d kept = if is_whole d then kept else kept_with d kept
 
--- of a fragment: the payload is whole just if all fragments that came make it whole
+-- for a fragment: the payload is whole exactly if all fragments so far make it whole
 abbrev pub IsMade : Datagram → (old new : List Kept) → Option (List ℕ) → Type 0
 IsMade d old new payload = is_whole d ≡ false → IsTaken (key_of d) (part_of d) old new payload
 

@@ -1,4 +1,4 @@
--- What was recorded of all packets, said of the packets themselves.
+-- The recorded events of all packets, stated by the packets themselves.
 use Rattle.std.specs.Prelude.{ℕ, ◌≡◌, ◌<◌, ◌+◌, ◌*◌, ◌^◌, ◌↔◌, false, true, if◌then◌else◌, List, [], ◌∷◌, ◌++◌, Option, Some, None, Ok, Err, map, is_none}
 use Rattle.std.specs.List.{All, Contains, filter, flat_map}
 use Rattle.ospf_types.specs.declared.lsa.Header.{Header}
@@ -36,7 +36,7 @@ lsa_of_piece areas area (Err fault) = []
 abbrev pub lsas_of_pieces : Option (List ℕ) → ℕ → List Piece → List Instance
 lsas_of_pieces areas area pieces = flat_map (lsa_of_piece areas area) pieces
 
--- a packet at fault brings none
+-- a packet with a fault has none
 abbrev pub lsas_of_payload : Option (List ℕ) → List ℕ → List Instance
 lsas_of_payload areas payload =
     if is_none (packet_fault_of payload) then lsas_of_pieces areas (area_field payload) (pieces_of_packet payload) else []
@@ -49,7 +49,7 @@ lsas_of areas packets = flat_map (λ packet. lsas_of_payload areas packet.payloa
 abbrev pub headers_of : LsaName → List Instance → List Header
 headers_of name lsas = map (λ one. one.header) (filter (λ one. same_name name one.name) lsas)
 
--- the instance is one of these, was installed, and those behind it were not
+-- the instance is one of these, was installed, and those after it were not
 pub record IsNewestOf (headers : List Header) (newest : Header) : Type 0 where
   pub earlier : List Header
   pub later : List Header
@@ -84,9 +84,10 @@ unfoldable pub seconds_given : Progress → List Captured → ℕ
 seconds_given p [] = 0
 seconds_given p (one ∷ more) = seconds_at p one + seconds_given (with_packet p one.time one.payload) more
 
--- After the packets: unless all are kept, the newest instance of an LSA is what its own instances, one after the other, come to;
--- none behind it is newer. All nanoseconds that passed from packet to packet are in the seconds that were given, but those that
--- wait. A second may be given just if there was an LSA.
+-- After the packets: unless all are kept, the newest instance of an LSA is the result of its own
+-- instances, one after the other; none after it is newer. All nanoseconds that passed from packet
+-- to packet are in the seconds that were given, except those that wait. A second may be given only
+-- if there was an LSA.
 pub record IsHistory (options : Options) (areas : Option (List ℕ)) (packets : List Captured) (p : Progress) : Type 0 where
   pub options_stay : p.options ≡ options
   pub areas_stay : p.areas ≡ areas

@@ -35,13 +35,14 @@ is_first First = true
 is_first Second = false
 is_first Same = false
 
--- The last one was flushed: it came at MaxAge, and was purged right behind that. So the database has none, and one below MaxAge
--- is installed whatever its sequence number, which may be the initial one again (RFC 2328, 12.1.6 and 13 (5)).
+-- The last one was flushed: it came at MaxAge, and was purged right after that. So the database has
+-- none. One below MaxAge is installed whatever its sequence number, which may be the initial one
+-- again (RFC 2328, 12.1.6 and 13 (5)).
 abbrev pub begins_anew : (new last : Header) → Bool
 begins_anew new last = is_max_age last && not (is_max_age new)
 
--- A router installs an instance that is newer (13.1) than its database copy (13 (5)). It discards the same instance (13 (7)), and
--- an older one (13 (8)).
+-- A router installs an instance that is newer (13.1) than its database copy (13 (5)). It discards
+-- the same instance (13 (7)), and an older one (13 (8)).
 abbrev pub is_installed : (new last : Header) → Bool
 is_installed new last = begins_anew new last || is_first (newer_of new last)
 
@@ -50,7 +51,7 @@ abbrev pub is_discarded : (new : Header) → (last : Option Header) → Bool
 is_discarded new None = false
 is_discarded new (Some last) = not (is_installed new last)
 
--- the newest one, once this one came
+-- the newest instance, after this one
 abbrev pub newest_after : (new : Header) → (last : Option Header) → Header
 newest_after new None = new
 newest_after new (Some last) = if is_installed new last then new else last

@@ -1,4 +1,4 @@
--- What an OSPF packet comes to.
+-- The result of an OSPF packet.
 use Rattle.std.specs.Prelude.{ℕ, ◌≡◌, List, [], Option, Some, None}
 use Rattle.packets.specs.Updates.{Piece}
 use Rattle.packets.specs.Packets.{packet_fault_of, kind_of_number, kind_field, router_field, area_field, body_field}
@@ -27,7 +27,7 @@ abbrev pub unless_faulty : Option PacketFault → (p read : Progress) → Progre
 unless_faulty None p read = read
 unless_faulty (Some fault) p read = p
 
--- bytes that are no packet change nothing
+-- bytes that are not a packet change nothing
 abbrev pub with_packet : Progress → Option ℕ → List ℕ → Progress
 with_packet p time bytes = unless_faulty (packet_fault_of bytes) p (with_read_packet p time bytes)
 

@@ -1,4 +1,4 @@
--- What was recorded so far.
+-- The state of a recording so far.
 use Rattle.std.specs.Prelude.{ℕ, Bool, false, List, [], Option, None}
 use Rattle.captured_lsas.specs.declared.options.Options.{Options}
 use Rattle.captured_lsas.specs.Newest.{Newest}

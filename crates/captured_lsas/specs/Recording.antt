@@ -1,4 +1,4 @@
--- What the LSAs of the packets come to.
+-- The results of the LSAs of the packets.
 use Rattle.std.specs.Prelude.{ℕ, ◌≡◌, ◌==◌, ◌&&◌, not, Bool, true, false, if◌then◌else◌, List, Option, Some, None, is_none}
 use Rattle.std.specs.List.{list_any}
 use Rattle.indexmap.specs.IndexSet.{insert_key}
@@ -64,7 +64,7 @@ with_strange p area = record p { strange = insert_key same_area p.strange area }
 abbrev pub with_read_lsa : Progress → ℕ → List ℕ → Progress
 with_read_lsa p area lsa = if has_lsa p.areas area lsa then with_noted p (instance_in area lsa) else with_strange p area
 
--- bytes at fault change nothing
+-- bytes with a fault change nothing
 abbrev pub with_lsa : Progress → ℕ → List ℕ → Progress
 with_lsa p area lsa = if is_none (fault_of lsa) then with_read_lsa p area lsa else p
 

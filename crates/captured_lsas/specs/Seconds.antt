@@ -2,7 +2,8 @@
 use Rattle.std.specs.Prelude.{ℕ, ◌+◌, ◌-◌, ◌/◌, ◌%◌, ◌^◌, ◌||◌, not, min, Bool, if◌then◌else◌, Option, Some, None}
 use Rattle.captured_lsas.specs.Progress.{Progress}
 
--- the time that passes from one packet to the next, in nanoseconds; none if the next has the time of an earlier one, or one is not known
+-- the time that passes from one packet to the next, in nanoseconds; 0 if the next has the time of
+-- an earlier one, or one is not known
 abbrev pub passed : Option ℕ → Option ℕ → ℕ
 passed (Some last) (Some time) = time - last
 passed (Some last) None = 0
@@ -24,7 +25,8 @@ seconds_due p time = if is_without_seconds p then 0 else waiting_at p time / 100
 abbrev pub left_waiting : Progress → Option ℕ → ℕ
 left_waiting p time = if is_without_seconds p then waiting_at p time else waiting_at p time % 1000000000
 
--- by how many whole seconds the time is before that of the last packet, from which on seconds would be counted
+-- the number of whole seconds by which the time is before the time of the last packet, from which
+-- seconds would be counted
 abbrev pub seconds_back : Progress → Option ℕ → ℕ
 seconds_back p time = if p.options.without_seconds then 0 else passed time p.last_time / 1000000000
 

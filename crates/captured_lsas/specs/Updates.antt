@@ -1,4 +1,4 @@
--- What the LSAs of a Link State Update come to, one after the other.
+-- The results of the LSAs of a Link State Update, one after the other.
 use Rattle.std.specs.Prelude.{ℕ, ◌≡◌, nat_lt, if◌then◌else◌, List, [], ◌∷◌, ◌++◌, length, Ok, Err}
 use Rattle.packets.specs.Updates.{Piece, pieces_of}
 use Rattle.packets.specs.declared.fault.UpdateFault.TheVariants.{Count}
@@ -9,7 +9,7 @@ use Rattle.captured_lsas.specs.declared.recorded.Recorded.TheVariants.{Cut}
 use Rattle.captured_lsas.specs.Progress.{Progress}
 use Rattle.captured_lsas.specs.Recording.{with_lsa, IsRecorded}
 
--- the LSAs in the body, and the fault where one is to stand
+-- the LSAs in the body, and the fault at the place of one
 abbrev pub pieces_in : List ℕ → List Piece
 pieces_in body = if nat_lt (length body) 4 then Err Count ∷ [] else pieces_of body
 

@@ -1,4 +1,4 @@
--- What stands at the front of bytes, and what is shown of it.
+-- The item at the start of bytes, and its packet.
 use Rattle.std.proofs.Common.{ℕ, zero, suc, ◌≡◌, ◌+◌, ◌-◌, ◌≤◌, Bool, true, false, List, ◌++◌, length, take, drop, Option, Some, None, Result, Ok, Err, refl, ap, ◌∙◌, arith, length-take}
 use Rattle.std.specs.Prelude.{nat_lt, if◌then◌else◌, MatchResult, ◌||◌, ◌==◌, not, slice_range}
 use Rattle.captures.specs.Options.{timing_of}
@@ -17,7 +17,7 @@ use Rattle.captures.specs.Times.{time_of}
 use Rattle.captures.specs.Runs.{Shown, shown_of}
 use Rattle.captures.specs.Steps.{and_then}
 
--- what is shown of a front does not depend on what stands behind these bytes
+-- the packet of an item does not depend on the bytes that follow
 pub record IsShownBy {F : Type 0} (show : F → List ℕ → List Shown) (bytes : List ℕ) (r : Result F FaultKind) : Type 0 where
   pub same : MatchResult r (λ front. (more : List ℕ) → show front (bytes ++ more) ≡ show front bytes) (λ _. Unit {0})
 

@@ -27,7 +27,7 @@ pub reads_none : (s : State) (ahead : ℕ) (old new : List ℕ) (place : ℕ) (b
 reads_none s ahead old new place before after kept same small =
     reads_more s ahead old new place before after [] (Consumes-kept before before after [] (Consumes-nil before) kept) (same ∙ sym (append-nil old)) small
 
--- one way behind another
+-- one way after another
 pub both_ways : (p q s : Position) (before between after : Option (List ℕ)) (first second : List Shown) → GoesOn p before q between first → GoesOn q between s after second
     → GoesOn p before s after (first ++ second)
 both_ways p q s before between after first second one two = record {

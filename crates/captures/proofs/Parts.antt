@@ -63,7 +63,7 @@ fault_run s kind (suc m) all fault enough = ap (λ f. go_on f s all (λ t rest. 
 
 -- a part lies ahead, of which these packets are shown
 module _ (s : State) (pending : List ℕ) (place : ℕ) (left : Option (List ℕ)) (small : place < 2 ^ 64) (steady : IsSteady s pending) where
-  -- the front is there whatever comes behind
+  -- the item is there whatever follows
   stays : (front : _) → front_of s pending ≡ Ok front → ((count : ℕ) → IsSettledBy count (Ok front)) → (more : List ℕ) → front_of s (pending ++ more) ≡ Ok front
   stays front is settled more = steady more (subst (IsSettledBy (length (pending ++ more))) (sym is) (settled (length (pending ++ more)))) ∙ is
 
@@ -111,7 +111,7 @@ module _ (s : State) (pending : List ℕ) (place : ℕ) (left : Option (List ℕ
             ∙ ap (λ shown. with_front shown r) shown;
       }
 
-  -- the bytes are at fault
+  -- the bytes have a fault
   pub at_fault : (kind : FaultKind) → front_of s pending ≡ Err kind → IsFaulty (at s 0 pending place) kind place
   at_fault kind is = record {
     run = λ more limit enough.
@@ -119,7 +119,7 @@ module _ (s : State) (pending : List ℕ) (place : ℕ) (left : Option (List ℕ
     place = refl;
   }
 
--- the input ends within a part, or behind one
+-- the input ends within a part, or after one
 module _ (s : State) (pending : List ℕ) (n : ℕ) (front : _) (is : front_of s pending ≡ Ok front) (part : IsPart front pending (Part.More n)) where
   end_run : (limit : ℕ) → length pending < limit → run limit s pending ≡ ends_by (if has_begun s && (length pending == 0) then Whole else CutOff)
   unfolding run

@@ -1,4 +1,4 @@
--- Step behind step.
+-- One step after another.
 use Rattle.std.proofs.Common.{ℕ, ◌≡◌, ◌⊎◌, inl, inr, List, [], Option, Result, Err, IsErrAnd, sym, ap, subst, ◌∙◌}
 use Rattle.std.proofs.lemmas.Result.{err_from_is_err_and}
 use Rattle.captures.specs.Runs.{Shown}

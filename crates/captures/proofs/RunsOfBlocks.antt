@@ -58,7 +58,7 @@ simple_bytes Little wire packet behind rest = first_of_all packet behind (number
 
 -- ---- one block
 
--- what is handed out of a packet with a time, from the bytes where it stands
+-- the packet that is returned for a packet with a time, from its bytes
 timed_shown : (interfaces : List Interface) (p : TimedPacket) (interface : Interface) (time : ℕ) (bytes : List ℕ) → slice_get interfaces p.number ≡ Some interface → time_of interface.timing p.units ≡ Some time → bytes ≡ p.bytes
     → (let shown : List Shown = record { time = Some time; link = interface.link; wire_length = p.wire_length; bytes = bytes } ∷ [] in shown) ≡ shown_timed (slice_get interfaces p.number) p
 timed_shown interfaces p interface time bytes found since same =
@@ -71,7 +71,7 @@ simple_shown interfaces wire packet interface bytes found same =
     let at : List ℕ → List Shown = λ b. record { time = None; link = interface.link; wire_length = wire; bytes = b } ∷ [] in
     ap at same ∙ sym (ap (λ i. shown_simple i wire packet) found)
 
--- a block in front is gone past, and its packet handed out
+-- a block at the start is skipped, and its packet returned
 pub block_run : (n : ℕ) (k : Known) (b : Block) (rest : List ℕ) → IsLegalBlock k b
     → run (suc n) (state_of k) (bytes_of k.order b ++ rest) ≡ with_front (shown_by k b) (run n (state_of (known_behind k b)) rest)
 block_run n k (Begins order minor size options) rest legal =

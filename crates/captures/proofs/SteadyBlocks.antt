@@ -1,4 +1,4 @@
--- What stands at the front of bytes is there still where more bytes stand behind them: blocks, and the whole.
+-- The item at the start of bytes stays if more bytes follow them: blocks, and the whole.
 use Rattle.std.proofs.Common.{◌≡◌, ℕ, ◌-◌, ◌≤◌, Bool, true, false, ◌||◌, not, List, [], ◌++◌, length, Option, None, Some, Result, Ok, Err, refl, ap, ◌∙◌, arith, length-append}
 use Rattle.std.specs.Prelude.{nat_lt, ◌==◌, ◌%◌, if◌then◌else◌, IfOk}
 use Rattle.std.proofs.lemmas.Bool.{ltb-false}

@@ -1,4 +1,4 @@
--- What a step answers.
+-- The result of a step.
 use Rattle.captures.specs.Runs.{Whole, ends_by}
 use Rattle.std.proofs.Common.{inl, inr, Bool, true, false, ◌∷◌, drop, ℕ, ◌≡◌, ◌<◌, ◌^◌, ◌++◌, length, append-nil, arith, IfOk, OnErr, List, [], Option, Result, Ok, Err, IsErrAnd, refl, sym, ap, subst, ◌∙◌}
 use Rattle.std.specs.Prelude.{MatchResult, ◌&&◌, ◌==◌}
@@ -28,7 +28,7 @@ pub stops : (f : ReadFault) (p : Position) (left : Option (List ℕ)) → IsUnre
 stops fault.Read p left unread = unread
 stops fault.Memory p left unread = tt
 
--- a step that fails for want of memory or by the input
+-- a step that fails by a lack of memory or by the input
 pub failed : (old : Position) (before : Option (List ℕ)) (new : Position) (after : Option (List ℕ)) (bytes : List ℕ) (r : Result Step CaptureError) (f : ReadFault)
     → IsErrAnd r (λ e. e ≡ error_of f) → GoesOn old before new after [] → Stops (error_of f) new after → Steps old before new after bytes r
 failed old before new after bytes r f err goes stopped =
@@ -68,7 +68,7 @@ ends_ahead q new after same some none ended =
       place = refl;
     })
 
--- the input can't be read further where less than a whole part is pending, or bytes are to be read past
+-- the input can't be read further if less than a whole part is pending, or bytes are to be skipped
 pub unread_ahead : (q new : Position) → new ≡ q → 0 < q.ahead → q.pending ≡ [] → IsUnread new
 unread_ahead q new same some none =
     subst IsUnread (sym same)

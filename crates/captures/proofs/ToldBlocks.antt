@@ -1,4 +1,4 @@
--- What is read as an interface or a packet of a pcapng was written as a block.
+-- Bytes that are read as an interface or a packet of a pcapng were written as a block.
 use Rattle.std.proofs.Common.{◌≡◌, ℕ, zero, suc, ◌+◌, ◌-◌, ◌%◌, ◌≤◌, Bool, true, false, ◌||◌, not, List, [], ◌∷◌, ◌++◌, length, take, drop, Result, Ok, Err, refl, sym, ap, subst, ◌∙◌, arith, lit<, append_assoc, drop-drop, length-take, length-drop}
 use Rattle.std.specs.List.{slice_get}
 use Rattle.std.proofs.Math.Seq.{take-append_seam}
@@ -26,7 +26,7 @@ use Rattle.captures.proofs.Told.{IsBytes, IsBytes-drop, back_at, long_enough, no
 use Rattle.captures.proofs.ToldBodies.{interface_was, enhanced_was, obsolete_was, simple_was}
 use Rattle.captures.proofs.WrittenFrames.{length-block_bytes}
 
--- the frame is that of a whole block
+-- the frame of a whole block
 pub record IsFramed (order : Order) (bytes : List ℕ) (size : ℕ) : Type 0 where
   pub filled : size % 4 ≡ 0
   pub least : 12 ≤ size

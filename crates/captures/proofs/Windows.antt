@@ -36,7 +36,7 @@ consumed xs start end count inside =
 length-post : (all : List ℕ) (end : ℕ) → end ≤ length all → length (post_of end (length all - end) all) ≡ 0
 length-post all end within = omega (arith, length-drop (length all - end) (drop end all), length-drop end all)
 
--- in a Vec, of which what stands behind the end is written over
+-- in a Vec, whose bytes after the end are overwritten
 put_is : (v : Vec ℕ) (all ys : List ℕ) (end : ℕ) → all ≡ v.items → end ≤ length all → length ys ≡ length all - end
     → (with_items v (put_mid end (length all - end) all ys)).items ≡ put_mid end (length all - end) all ys
 put_is v all ys end same within long =

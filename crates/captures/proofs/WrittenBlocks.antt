@@ -1,4 +1,4 @@
--- What is written of a pcapng is read as it.
+-- A pcapng that is written is read as it.
 use Rattle.std.proofs.Common.{◌≡◌, ℕ, ◌+◌, ◌-◌, ◌*◌, ◌/◌, ◌%◌, ◌^◌, ◌<◌, ◌≤◌, Bool, false, List, ◌++◌, length, drop, None, Some, Result, Ok, Err, refl, sym, ap, subst, ◌∙◌, arith, lit<, length-append}
 use Rattle.std.specs.Prelude.{if◌then◌else◌}
 use Rattle.std.specs.List.{slice_get}
@@ -28,7 +28,7 @@ type_written Little type body rest fits = again Little 4 type (drop 4 (block_byt
 
 -- ---- packets with a time
 
--- what stands in the body from the time on, behind the first 4 bytes
+-- the body from the time on, after the first 4 bytes
 pub record HasTimed (order : Order) (p : TimedPacket) (body : List ℕ) : Type 0 where
   pub high : number_at order 4 4 body ≡ p.units / 4294967296
   pub low : number_at order 4 8 body ≡ p.units % 4294967296

@@ -53,7 +53,7 @@ in_body order type body size place fits =
     ∙ ap (λ k. number_of order size (drop (k + place) (front ++ body))) (sym long)
     ∙ ap (number_of order size) (drop-append-add front body place)
 
--- the block stands in front of bytes
+-- the block is at the start of the bytes
 pub record IsBlockAt (order : Order) (type : ℕ) (body bytes : List ℕ) : Type 0 where
   pub size : number_at order 4 4 bytes ≡ 12 + length body
   pub last : number_at order 4 (12 + length body - 4) bytes ≡ 12 + length body

@@ -35,7 +35,7 @@ end_written order end (inr last) = subst (λ (b : List ℕ). is_end order b ≡ 
 
 -- ---- one option
 
--- the option stands in front of bytes
+-- the option is at the start of the bytes
 pub record HasSetting (order : Order) (s : Setting) (tail bytes : List ℕ) : Type 0 where
   pub code : code_of order bytes ≡ s.code
   pub size : length_of order bytes ≡ length s.value

@@ -1,4 +1,5 @@
--- The frame of a block of a pcapng: its type and its total length in front, and the total length again at its end.
+-- The frame of a block of a pcapng: its type and its total length at the start, and the total
+-- length again at its end.
 use Rattle.std.specs.Prelude.{ℕ, ◌%◌, ◌==◌, ◌≤◌, Bool, ◌||◌, not, nat_lt, if◌then◌else◌, List, Result, Ok, Err}
 use Rattle.captures.specs.declared.fault.FaultKind.{FaultKind}
 use Rattle.captures.specs.declared.fault.FaultKind.TheVariants.{NoCapture, BlockLength}

@@ -5,7 +5,8 @@ use Rattle.captures.specs.declared.front.Front.{Front}
 use Rattle.captures.specs.declared.front.TheConstants.{MOST_CAPTURED}
 use Rattle.captures.specs.declared.front.Front.TheVariants.{Short, Header, Declared, Other, Captured}
 
--- a part goes on by at least a byte, a packet is whole and not too long, and no more than 1 MiB is ever asked for
+-- a part is at least a byte long, a packet is whole and not too long, and no more than 1 MiB is
+-- ever needed
 abbrev pub IsInReach : List ℕ → Front → Type 0
 IsInReach bytes (Short needed) = (length bytes < needed) × (needed ≤ 1048576)
 IsInReach bytes (Header format size) = (0 < size) × (size ≤ length bytes)
@@ -14,7 +15,7 @@ IsInReach bytes (Other size) = 0 < size
 IsInReach bytes (Captured packet size) =
     (0 < size) × (size ≤ length bytes) × (packet.start + packet.captured ≤ size) × (packet.captured ≤ MOST_CAPTURED)
 
--- so many bytes settle it: it is whole, or more than those are needed
+-- this number of bytes settles it: it is whole, or more than those are needed
 abbrev pub IsSettledBy : ℕ → Result Front FaultKind → Type 0
 IsSettledBy count (Err fault) = Unit {0}
 IsSettledBy count (Ok (Short needed)) = count < needed

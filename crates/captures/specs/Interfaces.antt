@@ -1,4 +1,5 @@
--- The block that declares an interface: a link type, 2 reserved bytes and a snap length, and then options.
+-- The block that declares an interface: a link type, 2 reserved bytes and a snap length, and then
+-- options.
 use Rattle.std.specs.Prelude.{ℕ, ◌-◌, List, length, slice_range, Result, Ok}
 use Rattle.captures.specs.declared.fault.FaultKind.{FaultKind}
 use Rattle.captures.specs.declared.front.Front.{Front}
@@ -17,7 +18,7 @@ interface_of order block timing = record {
   timing = timing;
 }
 
--- of a whole block; its options stand between the snap length and the total length at the end
+-- for a whole block; its options lie between the snap length and the total length at the end
 abbrev pub interface_front : Order → List ℕ → Result Front FaultKind
 interface_front order block =
     and_then (timing_of order (slice_range block 16 (length block - 4))) (λ timing. Ok (Declared (interface_of order block timing) (length block)))

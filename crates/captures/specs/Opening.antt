@@ -19,7 +19,7 @@ abbrev pub header_front : Option Magic → List ℕ → Result Front FaultKind
 header_front (Some magic) bytes = file_front magic bytes
 header_front None bytes = Err NoCapture
 
--- the header of a section, which tells its own byte order, or that of a pcap
+-- the header of a section, which has its own byte order, or the header of a pcap
 abbrev pub opening_front : List ℕ → Result Front FaultKind
 opening_front bytes =
     if nat_lt (length bytes) 4 then Ok (Short 4)

@@ -1,4 +1,5 @@
--- Options, one behind the other: a code, a length, and so many bytes, filled up to a multiple of 4.
+-- Options, one after the other: a code, a length, and that number of bytes, padded to a multiple of
+-- 4.
 use Rattle.std.specs.Prelude.{ℕ, zero, suc, ◌+◌, ◌*◌, ◌/◌, ◌==◌, Bool, ◌&&◌, ◌||◌, nat_lt, nat_le, if◌then◌else◌, List, length, drop, slice_index, Result, Ok, Err}
 use Rattle.captures.specs.declared.fault.FaultKind.{FaultKind}
 use Rattle.captures.specs.declared.order.Order.{Order}
@@ -30,7 +31,8 @@ is_end order bytes = (length bytes == 0) || (nat_le 4 (length bytes) && (code_of
 abbrev pub is_cut : Order → List ℕ → Bool
 is_cut order bytes = nat_lt (length bytes) 4 || nat_lt (length bytes) (size_of order bytes)
 
--- with what the option in front says: the resolution by code 9, of 1 byte, and the offset by code 14, of 8 bytes
+-- the timing after the first option: the resolution by code 9, of 1 byte, and the offset by code
+-- 14, of 8 bytes
 abbrev pub with_option : Order → List ℕ → Timing → Result Timing FaultKind
 with_option order bytes timing =
     if code_of order bytes == 9 then (
@@ -39,7 +41,7 @@ with_option order bytes timing =
     if length_of order bytes == 8 then Ok (record timing { offset = offset_of (number_at order 8 4 bytes) }) else Err FaultKind.Options
     ) else Ok timing)
 
--- with what all options say, of which there are no more than so many
+-- the timing after all options, of which there are no more than the given number
 unfoldable pub with_options : Order → ℕ → List ℕ → Timing → Result Timing FaultKind
 with_options order zero bytes timing = Ok timing
 with_options order (suc n) bytes timing =
@@ -51,6 +53,6 @@ with_options order (suc n) bytes timing =
 abbrev pub usual_timing : Timing
 usual_timing = record { resolution = Decimal 6; offset = Later 0 }
 
--- what options say of times, the last where one stands twice
+-- the timing that options give: the last option counts if one occurs twice
 abbrev pub timing_of : Order → List ℕ → Result Timing FaultKind
 timing_of order bytes = with_options order (length bytes) bytes usual_timing

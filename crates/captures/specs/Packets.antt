@@ -15,8 +15,7 @@ use Rattle.captures.specs.Times.{time_of}
 abbrev pub is_too_long : ℕ → ℕ → Bool
 is_too_long captured room = nat_lt room captured || nat_lt MOST_CAPTURED captured
 
--- ---- enhanced packets, and obsolete ones: the interface, the high and the low half of the time, the captured length, the
--- length on the wire, the bytes, options
+-- ---- enhanced packets, and obsolete ones: interface, halves of the time, lengths, bytes, options
 
 abbrev pub units_in : Order → List ℕ → ℕ
 units_in order block = number_at order 4 12 block * 4294967296 + number_at order 4 16 block
@@ -46,7 +45,7 @@ timed_front order number interfaces block = timed_of order (slice_get interfaces
 
 -- ---- simple packets: the length on the wire, and the bytes
 
--- what is captured of so many bytes, where no more than the snap length is, if that is not 0
+-- the number of captured bytes, which is at most the snap length if that is not 0
 abbrev pub snapped : ℕ → ℕ → ℕ
 snapped snap_length wire_length = if snap_length == 0 then wire_length else min snap_length wire_length
 

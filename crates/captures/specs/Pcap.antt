@@ -1,4 +1,4 @@
--- A pcap: a header of 24 bytes, and then packets, each behind a header of 16 bytes.
+-- A pcap: a header of 24 bytes, and then packets, each after a header of 16 bytes.
 use Rattle.std.specs.Prelude.{ℕ, ◌+◌, ◌*◌, ◌%◌, ◌==◌, not, nat_lt, if◌then◌else◌, List, length, Option, None, Some, Result, Ok, Err}
 use Rattle.captures.specs.declared.fault.FaultKind.{FaultKind}
 use Rattle.captures.specs.declared.fault.FaultKind.TheVariants.{Version, PacketLength}

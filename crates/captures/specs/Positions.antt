@@ -9,8 +9,8 @@ use Rattle.captures.specs.Runs.{Shown, Whole, CutOff, Faulty, Run, ends_by, with
 use Rattle.captures.specs.declared.capture_error.CaptureError.{CaptureError}
 use Rattle.captures.specs.declared.capture_error.CaptureError.TheVariants.{Fault, Read, Memory}
 
--- what is known of the capture, how many bytes are to be read past before the next part, the bytes that were read of the
--- input and are not read past, and the place of the first of them in the capture
+-- the state of the capture, the number of bytes to skip before the next part, the bytes of the
+-- input that were read and not yet skipped, and the place of the first of them in the capture
 pub record Position : Type 0 where
   pub state : State
   pub ahead : ℕ
@@ -25,7 +25,7 @@ beginning = record { state = unread; ahead = 0; pending = []; place = 0 }
 abbrev pub further : ℕ → ℕ → ℕ
 further place count = min (place + count) (2 ^ 64 - 1)
 
--- what is read of all bytes of an input, by no more than so many parts, where so many bytes are to be read past before
+-- the reading of all bytes of an input, in at most `limit` parts, after `ahead` bytes are skipped
 abbrev pub run_behind : (ahead limit : ℕ) → State → List ℕ → Run
 run_behind ahead limit s bytes = if nat_lt (length bytes) ahead then ends_by CutOff else run limit s (drop ahead bytes)
 
@@ -33,8 +33,8 @@ run_behind ahead limit s bytes = if nat_lt (length bytes) ahead then ends_by Cut
 abbrev pub IsRun : Position → List ℕ → Run → Type 0
 IsRun p bytes r = (limit : ℕ) → length (drop p.ahead bytes) < limit → run_behind p.ahead limit p.state bytes ≡ r
 
--- From a position, and what is left of the input, to others. Whatever comes behind, the packets are the first of it, and
--- those of the new position come next.
+-- From a position, and the rest of the input, to others. Whatever follows, these packets are the
+-- first of it, and those of the new position come next.
 pub record GoesOn (old : Position) (before : Option (List ℕ)) (new : Position) (after : Option (List ℕ)) (packets : List Shown) : Type 0 where
   -- the bytes that were read of the input
   pub read : List ℕ
@@ -45,7 +45,7 @@ pub record GoesOn (old : Position) (before : Option (List ℕ)) (new : Position)
   pub place : new.place ≡ further old.place (length past)
   pub run : (more : List ℕ) (r : Run) → IsRun new (new.pending ++ more) r → IsRun old (past ++ (new.pending ++ more)) (with_front packets r)
 
--- the capture has ended behind a part
+-- the capture has ended after a part
 pub record IsWhole (p : Position) (left : Option (List ℕ)) : Type 0 where
   pub run : IsRun p [] (ends_by Whole)
   pub none : p.pending ≡ []
@@ -58,29 +58,31 @@ pub record IsCutOff (p : Position) (left : Option (List ℕ)) (kind : FaultKind)
   pub of_input : kind ≡ FaultKind.CutOff
   pub place : at ≡ further p.place (length p.pending)
 
--- the next part, which begins at this place, is at fault, whatever comes behind
+-- the next part, which begins at this place, has this fault, whatever follows
 pub record IsFaulty (p : Position) (kind : FaultKind) (at : ℕ) : Type 0 where
   pub run : (more : List ℕ) → IsRun p (p.pending ++ more) (ends_by (Faulty kind))
   pub place : at ≡ p.place
 
--- the bytes that were read have no whole part: with them alone the capture ends behind a part, or within one
+-- the bytes that were read have no whole part: with them alone the capture ends after a part, or
+-- within one
 abbrev pub IsUnread : Position → Type 0
 IsUnread p = IsRun p p.pending (ends_by Whole) ⊎ IsRun p p.pending (ends_by CutOff)
 
--- why there is no packet
+-- the reason why no packet is returned
 abbrev pub Stops : CaptureError → Position → Option (List ℕ) → Type 0
 Stops (Fault kind place) p left = IsFaulty p kind place ⊎ IsCutOff p left kind place
 Stops Read p left = IsUnread p
 Stops Memory p left = Unit {0}
 
--- a packet that is handed out, and its bytes
+-- a packet as it is returned, and its bytes
 abbrev pub shown : PacketHead → List ℕ → Shown
 shown head bytes = record { time = head.time; link = head.link; wire_length = head.wire_length; bytes = bytes }
 
 abbrev pub shown_packet : Packet → Shown
 shown_packet packet = record { time = packet.time; link = packet.link; wire_length = packet.wire_length; bytes = packet.bytes.now }
 
--- what `next` answers: the next packet, or that the capture has ended, or why there is none; no byte is lost
+-- the result of `next`: the next packet, or that the capture has ended, or the reason why there is
+-- none; no byte is lost
 abbrev pub ReadsNext : (old : Position) (before : Option (List ℕ)) (new : Position) (after : Option (List ℕ)) (bytes : List ℕ) → Result (Option PacketHead) CaptureError → Type 0
 ReadsNext old before new after bytes result =
     MatchResult result

@@ -1,4 +1,4 @@
--- What is read of a capture, part by part.
+-- The reading of a capture, part by part.
 use Rattle.std.specs.Prelude.{ℕ, ◌≡◌, ◌<◌, ◌≤◌, Bool, true, false, List, [], ◌∷◌, ◌++◌, length, take, drop, Result, Ok, Err, MatchResult}
 use Rattle.captures.specs.declared.capture.Packet.{Packet}
 use Rattle.captures.specs.declared.capture.Part.{Part}
@@ -40,11 +40,11 @@ front_in Unread interfaces bytes = opening_front bytes
 front_in (Pcap file) interfaces bytes = packet_front file bytes
 front_in (Section order) interfaces bytes = block_front order interfaces bytes
 
--- what stands at the front of bytes
+-- the item at the start of the bytes
 abbrev pub front_of : State → List ℕ → Result Front FaultKind
 front_of s bytes = front_in s.format s.interfaces bytes
 
--- the packet that a header tells of, with its bytes
+-- the packet of a header, with its bytes
 pub record IsPacketOf (header : PacketHeader) (all : List ℕ) (packet : Packet) : Type 0 where
   pub time : packet.time ≡ header.time
   pub link : packet.link ≡ header.link
@@ -56,18 +56,19 @@ IsPacketPart header size bytes (Part.More needed) = ⊥
 IsPacketPart header size bytes (Part.Skip length) = ⊥
 IsPacketPart header size bytes (Part.Packet packet length) = (length ≡ size) × IsPacketOf header bytes packet
 
--- a part goes on by at least a byte, a packet is whole and not too long, and no more than 1 MiB is ever asked for
+-- a part is at least a byte long, a packet is whole and not too long, and no more than 1 MiB is
+-- ever needed
 abbrev pub IsPartInReach : List ℕ → Part → Type 0
 IsPartInReach bytes (Part.More needed) = (length bytes < needed) × (needed ≤ 1048576)
 IsPartInReach bytes (Part.Skip size) = 0 < size
 IsPartInReach bytes (Part.Packet packet size) = (0 < size) × (size ≤ length bytes) × (length packet.bytes.now ≤ MOST_CAPTURED)
 
--- bytes that come behind change nothing of what stands in front, unless it was short and they are enough
+-- bytes that follow do not change the first item, unless it was short and they are enough
 abbrev pub IsSteady : State → List ℕ → Type 0
 IsSteady s bytes =
     (more : List ℕ) → IsSettledBy (length (bytes ++ more)) (front_of s bytes) → front_of s (bytes ++ more) ≡ front_of s bytes
 
--- what is known behind a front
+-- the state after an item
 abbrev pub state_behind : Front → State → State
 state_behind (Short needed) s = s
 state_behind (Header format size) s = record { format = format; interfaces = [] }
@@ -83,7 +84,7 @@ IsPart (Declared interface size) bytes part = part ≡ Part.Skip size
 IsPart (Other size) bytes part = part ≡ Part.Skip size
 IsPart (Captured header size) bytes part = IsPacketPart header size bytes part
 
--- whether memory may run out: only where there is one more interface to keep
+-- memory may run out only if there is one more interface to keep
 abbrev pub MayLackMemory : Front → Type 0
 MayLackMemory (Short needed) = ⊥
 MayLackMemory (Header format size) = ⊥

@@ -9,14 +9,14 @@ use Rattle.captures.specs.Pcap.{nanoseconds_of}
 use Rattle.captures.specs.Reading.{State, front_of, has_begun, state_behind}
 use Rattle.captures.specs.Writing.{FileHeader, file_bytes, FilePacket, IsLegalFilePacket, file_packet_bytes}
 
--- a packet that is handed out
+-- a packet as it is returned
 pub record Shown : Type 0 where
   pub time : Option ℕ
   pub link : ℕ
   pub wire_length : ℕ
   pub bytes : List ℕ
 
--- how the reading ends: behind a part, within one or before the first, or at a fault
+-- the end of the reading: after a part, within one or before the first, or at a fault
 pub data End : Type 0 where
   Whole : End
   CutOff : End
@@ -68,7 +68,7 @@ go_on (Ok (Declared interface size)) s bytes further = go_past (Declared interfa
 go_on (Ok (Other size)) s bytes further = go_past (Other size) s bytes further
 go_on (Ok (Captured header size)) s bytes further = go_past (Captured header size) s bytes further
 
--- what is read of all bytes of an input, from what is known on, by no more than so many parts
+-- the reading of all bytes of an input, from a state on, in at most this number of parts
 unfoldable pub run : ℕ → State → List ℕ → Run
 run zero s bytes = ends_by CutOff
 run (suc n) s bytes = go_on (front_of s bytes) s bytes (λ t rest. run n t rest)
@@ -82,7 +82,7 @@ run_of s bytes = run (suc (length bytes)) s bytes
 abbrev pub pcap_bytes : FileHeader → List FilePacket → List ℕ
 pcap_bytes h packets = file_bytes h ++ flat_map (file_packet_bytes h.magic.order) packets
 
--- what a packet is handed out as
+-- the form in which a packet is returned
 abbrev pub shown_as : Fraction → ℕ → FilePacket → Shown
 shown_as fraction link p = record {
   time = Some (nanoseconds_of fraction p.seconds p.fraction);

@@ -78,7 +78,7 @@ IsLegalBlock k (Simple wire_length packet behind) =
 IsLegalBlock k (Passed type body) =
     (type < 2 ^ 32) × (kind_of_number type ≡ BlockKind.Other) × (length body % 4 ≡ 0) × (12 + length body < 2 ^ 32)
 
--- ---- what a block is handed out as
+-- ---- the form in which a block is returned
 
 abbrev pub shown_at : Interface → TimedPacket → Option ℕ → List Shown
 shown_at interface p None = []
@@ -102,7 +102,7 @@ shown_by k (Obsolete drops p) = shown_timed (slice_get k.interfaces p.number) p
 shown_by k (Simple wire_length packet behind) = shown_simple (slice_get k.interfaces 0) wire_length packet
 shown_by k (Passed type body) = []
 
--- ---- one block behind the other
+-- ---- one block after the other
 
 abbrev pub AreLegal : Known → List Block → Type 0
 AreLegal k [] = Unit {0}

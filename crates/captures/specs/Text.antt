@@ -1,4 +1,4 @@
--- What is printed of faults.
+-- The printed texts of faults.
 use Rattle.std.specs.Prelude.{ℕ, List, codes}
 use Rattle.captures.specs.declared.fault.FaultKind.{FaultKind}
 use Rattle.captures.specs.declared.fault.ReadError.{ReadError}

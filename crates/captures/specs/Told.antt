@@ -1,4 +1,4 @@
--- What is read was written: no other bytes are taken for a packet or an interface.
+-- All that is read was written: no other bytes are read as a packet or an interface.
 use Rattle.std.specs.Prelude.{ℕ, ◌≡◌, ◌+◌, ◌^◌, ◌<◌, ◌≤◌, List, ◌++◌, length, drop, Result, Ok, Err}
 use Rattle.captures.specs.declared.fault.FaultKind.{FaultKind}
 use Rattle.captures.specs.declared.frame.BlockKind.{BlockKind}
@@ -12,7 +12,7 @@ use Rattle.captures.specs.Reading.{State, front_of}
 use Rattle.captures.specs.Writing.{FilePacket, IsLegalFilePacket, file_packet_bytes}
 use Rattle.captures.specs.WritingBlocks.{block_bytes, IsLegalBody, TimedPacket, IsLegalTimed, interface_body, enhanced_body, obsolete_body, simple_body}
 
--- an interface or a packet stands in front
+-- an interface or a packet is the first item
 abbrev pub IsTold : Result Front FaultKind → Type 0
 IsTold (Err fault) = ⊥
 IsTold (Ok (Short needed)) = ⊥
@@ -54,7 +54,8 @@ IsBodyOf BlockKind.Simple order type body = (type ≡ 3) × IsSimpleBody order b
 IsBodyOf BlockKind.Enhanced order type body = (type ≡ 6) × IsEnhancedBody order body
 IsBodyOf BlockKind.Other order type body = ⊥
 
--- what is read as an interface or a packet of a pcapng was written as the block of one, in the byte order of the section
+-- an item that is read as an interface or a packet of a pcapng was written as such a block, in the
+-- byte order of the section
 abbrev pub WasBlock : State → List ℕ → Type 0
 WasBlock s bytes =
     (order : Order) → s.format ≡ Format.Section order → IsTold (front_of s bytes)

@@ -1,4 +1,4 @@
--- What a clause reads of a window.
+-- The parts of a window that clauses use.
 use Rattle.std.specs.Prelude.{ℕ, ◌-◌, List, slice_range, vec_len}
 use Rattle.captures.specs.declared.window.Window.{Window}
 
@@ -6,6 +6,6 @@ use Rattle.captures.specs.declared.window.Window.{Window}
 abbrev pub pending : Window → List ℕ
 pending w = slice_range w.bytes.items w.start w.end
 
--- how many bytes can be read behind them
+-- the number of bytes that can be read after them
 abbrev pub room : Window → ℕ
 room w = vec_len w.bytes - w.end

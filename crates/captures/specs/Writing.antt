@@ -1,4 +1,4 @@
--- Captures as they are written, field behind field. What is written so is read so.
+-- Captures as they are written, field by field. They are read as they were written.
 use Rattle.std.specs.Prelude.{ℕ, ◌≡◌, ◌+◌, ◌*◌, ◌^◌, ◌<◌, ◌≤◌, List, ◌++◌, length, Some, Ok}
 use Rattle.byteorder.specs.Endian.{big_bytes, little_bytes}
 use Rattle.captures.specs.declared.front.Format.{Format}
@@ -13,7 +13,7 @@ use Rattle.captures.specs.declared.pcap.PcapFile.{PcapFile}
 use Rattle.captures.specs.Pcap.{nanoseconds_of}
 use Rattle.captures.specs.Reading.{State, front_of}
 
--- a number in so many bytes
+-- a number in `size` bytes
 abbrev pub number_bytes : Order → ℕ → ℕ → List ℕ
 number_bytes Big size number = big_bytes size number
 number_bytes Little size number = little_bytes size number
@@ -31,7 +31,7 @@ pub record FileHeader : Type 0 where
   pub reserved : ℕ
   pub snap_length : ℕ
   pub link : ℕ  -- the LINKTYPE_ number
-  pub high : ℕ  -- what the high 16 bits beside it say
+  pub high : ℕ  -- the high 16 bits next to it
 
 abbrev pub file_bytes : FileHeader → List ℕ
 file_bytes h =

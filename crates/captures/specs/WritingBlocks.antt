@@ -1,4 +1,4 @@
--- A pcapng as it is written, block behind block. What is written so is read so.
+-- A pcapng as it is written, block by block. It is read as it was written.
 use Rattle.std.specs.Prelude.{ℕ, ◌≡◌, ◌+◌, ◌/◌, ◌%◌, ◌^◌, ◌<◌, ◌≤◌, List, ◌++◌, length, Some, None, Result, Ok}
 use Rattle.std.specs.List.{slice_get, AllByRecursion}
 use Rattle.captures.specs.declared.fault.FaultKind.{FaultKind}
@@ -30,7 +30,7 @@ pub record IsLegalBody (body : List ℕ) : Type 0 where
   pub filled : length body % 4 ≡ 0
   pub fits : 12 + length body ≤ 1048576
 
--- a section may begin a capture, or come behind another one
+-- a section may begin a capture, or follow another one
 abbrev pub MayBeginSection : Format → Type 0
 MayBeginSection Format.Unread = Unit {0}
 MayBeginSection (Format.Pcap file) = ⊥
@@ -62,7 +62,7 @@ ReadsInterface s bytes =
     → bytes ≡ block_bytes order 1 body ++ rest
     → front_of s bytes ≡ Ok (Declared (record { link = link; snap_length = snap_length; timing = told_by order settings usual_timing }) (12 + length body))
 
--- a packet with a time, which counts units of its interface. What is behind its bytes fills them up, and is options.
+-- a packet with a time, which counts units of its interface. Padding and options follow its bytes.
 pub record TimedPacket : Type 0 where
   pub number : ℕ  -- that of its interface
   pub units : ℕ
@@ -90,7 +90,7 @@ enhanced_body order p = number_bytes order 4 p.number ++ timed_body order p
 abbrev pub obsolete_body : Order → (drops : ℕ) → TimedPacket → List ℕ
 obsolete_body order drops p = number_bytes order 2 p.number ++ number_bytes order 2 drops ++ timed_body order p
 
--- what a packet with a time is read as, of so many bytes in all
+-- the result of reading a packet with a time, of this size in all
 abbrev pub timed_as : Interface → ℕ → TimedPacket → ℕ → Result Front FaultKind
 timed_as interface time p size = Ok (Captured (record {
   time = Some time;
@@ -136,7 +136,7 @@ ReadsSimple s bytes =
       captured = length packet;
     }) (12 + length (simple_body order wire_length packet behind)))
 
--- a block of another type in front is passed over, however long it is, and of its bytes no more than 12 are needed
+-- a block of another type is skipped, however long it is, and at most 12 of its bytes are needed
 abbrev pub PassesOther : State → List ℕ → Type 0
 PassesOther s bytes =
     (order : Order) (type size : ℕ) (rest : List ℕ) → s.format ≡ Format.Section order → 12 ≤ length bytes

@@ -17,7 +17,7 @@ pub record Setting : Type 0 where
 abbrev pub setting_bytes : Order → Setting → List ℕ
 setting_bytes order s = number_bytes order 2 s.code ++ number_bytes order 2 (length s.value) ++ s.value ++ s.filling
 
--- code 0 is that of the end
+-- code 0 is the code of the end
 pub record IsLegalSetting (s : Setting) : Type 0 where
   pub code : s.code < 2 ^ 16
   pub further : s.code ≢ 0
@@ -29,7 +29,7 @@ pub record IsLegalSetting (s : Setting) : Type 0 where
 abbrev pub settings_bytes : Order → List Setting → List ℕ
 settings_bytes order settings = flat_map (setting_bytes order) settings
 
--- behind the options there is nothing, or the one of code 0 and length 0, and then anything
+-- after the options there is nothing, or the one of code 0 and length 0, and then anything
 abbrev pub IsEnd : List ℕ → Type 0
 IsEnd bytes = (bytes ≡ []) ⊎ ((more : List ℕ) × (bytes ≡ 0 ∷ 0 ∷ 0 ∷ 0 ∷ more))
 

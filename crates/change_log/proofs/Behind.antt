@@ -1,4 +1,4 @@
--- A front, and lines behind it, of which one came with it.
+-- A preamble, and lines after it, one of which ended it.
 use Rattle.std.proofs.Common.{◌≡◌, ◌+◌, ℕ, List, [], Option, Result, Ok, Err, refl, subst, sym}
 use Rattle.std.proofs.KnownBytes.{Consumes-nil}
 use Rattle.std.specs.Prelude.{IfErr, IfOk, string_bytes}
@@ -24,7 +24,7 @@ use Rattle.change_log.proofs.Comes.{held_none}
 use Rattle.change_log.proofs.FollowSteps.{SoFar, cut_last, ends_on, fault_next, followed_none, given_on, so_far_more, so_far_none, so_far_page, stops_next, stops_on}
 
 module _ (old : Run) (kept : List ℕ) (left : Option (List ℕ)) (from : Option (List ℕ)) where
-  -- nothing came behind the front
+  -- nothing follows the preamble
   pub over_behind : EndsBehind front_end.Over end.Over old old kept left left from from
   over_behind = λ text held known whole opens before given. (
     kept,
@@ -33,7 +33,7 @@ module _ (old : Run) (kept : List ℕ) (left : Option (List ℕ)) (from : Option
     ([], followed_none before old from, subst (λ (o : Option (List ℕ)). Consumes (prepend_known kept left) o []) (held_none left kept opens.1.0) (Consumes-nil (prepend_known kept left)), opens.1.1),
   )
 
-  -- what came has no line feed
+  -- the bytes that follow have no line feed
   pub cut_behind : EndsBehind front_end.Cut (end.AtFault fault.Truncated) old old kept left left from from
   cut_behind = λ text held known whole (mid, rest, read, w) before given.
       let h = so_far_none before old mid rest from in
@@ -46,7 +46,7 @@ module _ (old : Run) (kept : List ℕ) (left : Option (List ℕ)) (from : Option
   pub fault_behind : (f : LineFault) (e : End) → EndsBehind (front_end.AtFault f) e old old kept left left from from
   fault_behind f e = λ text held known whole opens before given. absurd whole
 
-  -- the line that ended the front is at fault
+  -- the line that ended the preamble has a fault
   pub line_faults : (at : Fault) (new : Run) (on : Option (List ℕ)) → IsLeft at old new from on → EndsBehind front_end.Line (end.AtFault at) old new kept left left from on
   line_faults at new on x = λ text held known whole (mid, rest, read, w) before given.
       (mid, rest, read, fault_next before old old mid mid rest rest from from given (so_far_none before old mid rest from) old refl refl refl refl refl refl refl refl kept left w at new on x)

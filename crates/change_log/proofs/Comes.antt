@@ -1,4 +1,4 @@
--- What comes of an input, of which some bytes are held back.
+-- The bytes of an input, some of which are held back.
 use Rattle.std.proofs.Common.{◌≡◌, ℕ, List, [], ◌++◌, Option, Some, None, sym, ap, subst, ◌∙◌, append_assoc, append-nil}
 use Rattle.std.proofs.KnownBytes.{Consumes-trans, prepend_known-nil}
 use Rattle.std.specs.Io.KnownBytes.{Consumes, prepend_known}
@@ -29,7 +29,7 @@ comes_behind a b c bytes more first next = record {
 pub comes_all : (a b : Option (List ℕ)) (bytes : List ℕ) → Consumes a b bytes → ComesFrom a b bytes
 comes_all a b bytes read = record { ahead = []; read = subst (Consumes a b) (sym (append-nil bytes)) read }
 
--- the front of what came
+-- a prefix of the bytes
 pub comes_less : (a b : Option (List ℕ)) (bytes more : List ℕ) → ComesFrom a b (bytes ++ more) → ComesFrom a b bytes
 comes_less a b bytes more h = record { ahead = more ++ h.ahead; read = subst (Consumes a b) (append_assoc bytes more h.ahead) h.read }
 

@@ -1,6 +1,6 @@
--- What holds of each core's lists of due summaries: no area is there twice, and each list is in order.
+-- The lists of due summaries of each core: no area is there twice, and each list is in order.
 --   sound_lists, distinct_lists: of a core
---   give_taken: the changes that are told of a line lead on from what was told before
+--   give_taken: the changes that are reported for a line follow those before
 --   current_line: and table and due summaries follow the line
 use Rattle.std.proofs.Common.{◌≡◌, ◌∙◌, ℕ, suc, Bool, true, false, List, [], ◌∷◌, ◌++◌, length, map, take, refl, sym, ap, subst, inl, inr, arith}
 use Rattle.std.specs.Prelude.{Result, Ok, Err}
@@ -56,7 +56,7 @@ input_ids : (f : AreaConfig → Area) → ((a : AreaConfig) → (f a).id ≡ a.i
 input_ids f same [] = refl
 input_ids f same (a ∷ areas) = λ i. same a i ∷ input_ids f same areas i
 
--- the lists of a state are those of the configured areas
+-- the lists of a state belong to the configured areas
 due_ids : (b : Base) (limits : Limits) (es : List Event) (lists : Lists) → AreDue (run_of b limits es) lists → ids_of lists ≡ config_ids b.config.areas
 due_ids b limits es lists due =
     let s : State = run_of b limits es in

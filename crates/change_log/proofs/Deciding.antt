@@ -1,5 +1,5 @@
--- Of two items, and of two metrics, it can be decided whether they are equal.
---   same_items, same_metrics: they are, where they can't be told apart
+-- The equality of two items, and of two metrics, is decidable.
+--   same_items, same_metrics: they are equal if they are not found different
 use base.Stored.{Gv, gnil, gnum, gcons, num}
 use Rattle.std.proofs.Common.{◌≡◌, ℕ, Option, refl, ap, inl, inr}
 use Rattle.std.specs.Coded.{Coded, coded_option, coded_ℕ}

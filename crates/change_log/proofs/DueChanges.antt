@@ -1,5 +1,5 @@
--- What the changes give of the summaries that are due in an area, one after the other.
---   metrics_both: one list behind the other
+-- The summaries due in an area, by the changes one after the other.
+--   metrics_both: one list after the other
 --   networks_leave: the table is none of it
 --   due_follow: what differs of the lists leads to the next ones
 use Rattle.std.proofs.Common.{◌≡◌, ◌≢◌, ◌==◌, ℕ, true, false, cond, List, [], ◌∷◌, ◌++◌, map, Option, Some, None, refl, sym, ap, subst, ◌∙◌, inl, inr}
@@ -90,7 +90,7 @@ in_order_behind : (x : DueSummary) (xs : List DueSummary) → AreInOrder (x ∷ 
 unfolding IsStrictlySortedBy
 in_order_behind x xs h = h.1
 
--- such a list tells of each destination at one metric, or has nothing of it
+-- such a list has each destination at one metric, or not at all
 pub metric_in : (list : List DueSummary) → IsSound list → (d : Dest) → (o : Option ℕ) × IsMetricIn list d o
 metric_in [] sound d = (None, λ m. (λ e. absurd cc, λ c. absurd (no_element (due_for d m) c)))
 metric_in (x ∷ xs) sound d = elim (one_or_other dest_total dest_exact x.dest d) [

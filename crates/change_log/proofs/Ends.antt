@@ -36,7 +36,7 @@ module _ (t : ChangeOptions) (r : RecordingValue) (opened : CoreValue) (opening 
   abbrev base : List ℕ
   base = base_lines t.wanted r opened
 
-  -- the lines of the recording that were run, and those behind them
+  -- the lines of the recording that were run, and those after them
   pub telling : (ls : List Line) (taken : List Taken) (text : List ℕ) (after : List Change) (now : CoreValue) → TellsLines t.wanted t.answers opened first (map Says ls ++ taken) (all_of opened) text after now
       → IsTelling t (record r { lines = ls }) taken (base ++ text)
   telling ls taken text after now run = record {
@@ -83,7 +83,7 @@ module _ (t : ChangeOptions) (r : RecordingValue) (opened : CoreValue) (opening 
       subst (λ n. ToldPart why t.wanted t.answers opened n (map Says (take count r.lines)) (all_of opened) b c put) counted part in
       cut why a c count h.text h.after h.now h.run (part_more why a b c [] put base h.text none_whole printed h.part)
 
-  -- all of them are told
+  -- all of them are reported
   pub begun : (run : Run) (number : ℕ) (a b c : Option (List ℕ)) (buffer put moved : List ℕ) → number ≡ first → buffer ≡ [] → Adds a b buffer put (lines_of (number - 1) t.wanted (all_of opened))
       → Told t.wanted t.answers opened number (map Says r.lines) (all_of opened) run.core b c put moved → IsCore run.core → IsCurrent run.core
       → run.version ≡ r.version → run.skips_faults ≡ t.skips_faults → run.at.wanted ≡ t.wanted → run.at.answers ≡ t.answers → run.at.number ≡ number + length r.lines → string_bytes run.buffer ≡ moved

@@ -32,7 +32,7 @@ shortened_none raw none =
     let bytes : List ℕ = drop LONGEST raw in
     All-append (λ byte. byte ≢ 10) (take LONGEST raw) (mark_of bytes) (All-take (λ byte. byte ≢ 10) LONGEST raw none) (mark_none (list_all is_hexadecimal bytes) (is_odd_number (length bytes)))
 
--- the last line of a text begins behind these bytes
+-- the last line of a text begins after these bytes
 pub last_behind : (before line after : List ℕ) → HasNoLineFeed line → 1 ≤ length line → (after ≡ 10 ∷ []) ⊎ (after ≡ []) → last_line (before ++ (line ++ after)) ≡ line_feeds before + 1
 last_behind before line after none some (inl feed) =
     let whole : before ++ (line ++ after) ≡ (before ++ line) ++ 10 ∷ [] = ap (λ l. before ++ (line ++ l)) feed ∙ sym (append_assoc before line (10 ∷ [])) in

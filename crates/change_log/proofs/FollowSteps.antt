@@ -73,16 +73,16 @@ module _ (old : Run) (t : Taken) (reads : IsReadAs old.version old.line.items t)
     };
   }
 
-  -- what is told of it was not written whole
+  -- its report was not written whole
   pub stops_behind : (why : PrintError) (from to on : Option (List ℕ)) (new : CoreValue) (put : List ℕ) → ToldTaken wanted old.at.answers old.core old.at.number t new from to (string_bytes old.buffer) put → AddsPart why to on put → StopsTaking why old from on
   stops_behind why from to on new put h part =
       told_first why from on new h.told h.tells (part_moved why from to on (string_bytes old.buffer) put (lines_of old.at.number wanted h.told) whole h.printed part)
 
-  -- memory ran out behind it
+  -- memory ran out after it
   pub stops_after : (from to : Option (List ℕ)) (new : CoreValue) (put : List ℕ) → ToldTaken wanted old.at.answers old.core old.at.number t new from to (string_bytes old.buffer) put → StopsTaking stop.Memory old from to
   stops_after from to new put h = told_first stop.Memory from to new h.told h.tells (part_now from to (string_bytes old.buffer) put (lines_of old.at.number wanted h.told) whole h.printed)
 
--- a fault that is told of
+-- a fault that is reported
 pub fault_tells : (old : Run) (at : Fault) (from to : Option (List ℕ)) (put : List ℕ) → Adds from to (string_bytes old.buffer) put (lines_of old.at.number old.at.wanted (AtFault at ∷ []))
     → ToldTaken old.at.wanted old.at.answers old.core old.at.number (Fails at) old.core from to (string_bytes old.buffer) put
 fault_tells old at from to put printed = record { told = AtFault at ∷ []; tells = (refl, refl); printed = printed }
@@ -91,7 +91,7 @@ pub fault_stops : (why : PrintError) (old : Run) (at : Fault) (from to : Option 
     → StopsAtTaken why old.at.wanted old.at.answers old.core old.at.number (Fails at) old.core from to (string_bytes old.buffer)
 fault_stops why old at from to part = inl (AtFault at ∷ [], (refl, refl), part)
 
--- lines at fault are skipped
+-- lines with a fault are skipped
 pub skipped : (skips_faults : Bool) → skips_faults ≡ true → skips_faults ≡ false → ⊥
 skipped skips_faults is none = apart (sym is ∙ none)
   where
@@ -102,7 +102,7 @@ skipped skips_faults is none = apart (sym is ∙ none)
 pub read_as : (v : Version) (line given : List ℕ) (t : Taken) → given ≡ line → IsReadAs v given t → IsReadAs v line t
 read_as v line given t is reads = subst (λ (l : List ℕ). IsReadAs v l t) is reads
 
--- what is told of the line was handed on, and the next has the number behind it
+-- the report of the line was passed on, and the next line has the next number
 pub settled : (old mid new : Run) (from to on : Option (List ℕ)) → IsTaken old mid from to × (mid.at.number ≡ old.at.number) → Adds to on (string_bytes mid.buffer) (string_bytes new.buffer) [] → new.at.number ≡ mid.at.number + 1
     → new.version ≡ mid.version → new.skips_faults ≡ mid.skips_faults → new.progress ≡ mid.progress → new.at.wanted ≡ mid.at.wanted → new.at.answers ≡ mid.at.answers → new.core ≡ mid.core
     → IsTaken old new from on × (new.at.number ≡ old.at.number + 1)
@@ -157,11 +157,11 @@ stops_at why old t new from to reads said whole (inl (told, tells, part)) = told
 stops_at why old t new from to reads said whole (inr (is, same)) =
     subst (λ (w : PrintError). StopsTaking w old from to) (sym is) (subst (λ (o : Option (List ℕ)). StopsTaking stop.Memory old from o) (sym same) (stops_before old from whole))
 
--- what was told was not handed on whole
+-- the report was not passed on whole
 pub told_stops : (why : PrintError) (old mid : Run) (from to on : Option (List ℕ)) → IsTaken old mid from to → AreWhole (string_bytes old.buffer) → AddsPart why to on (string_bytes mid.buffer) → StopsTaking why old from on
 told_stops why old mid from to on h whole part = stops_behind old h.taken h.reads h.said whole why from to on mid.core (string_bytes mid.buffer) h.told part
 
--- memory ran out behind it
+-- memory ran out after it
 pub told_memory : (old mid : Run) (from to on : Option (List ℕ)) (buffer : List ℕ) → IsTaken old mid from to → Adds to on (string_bytes mid.buffer) buffer [] → AreWhole (string_bytes old.buffer) → StopsTaking stop.Memory old from on
 told_memory old mid from to on buffer h moved whole =
     let told : List ℕ = lines_of old.at.number old.at.wanted h.told.told in
@@ -194,7 +194,7 @@ module _ (before : List Change) (old mid : Run) (held kept : List ℕ) (known le
   abbrev f : IsFollowed before h.bytes old mid from to
   f = h.followed
 
-  -- ---- a line more, which stands in this run
+  -- ---- a line more, which is in this run
 
   module _ (came : Run) (version : came.version ≡ mid.version) (skips_faults : came.skips_faults ≡ mid.skips_faults) (progress : came.progress ≡ mid.progress) (number : came.at.number ≡ mid.at.number) (wanted : came.at.wanted ≡ mid.at.wanted) (answers : came.at.answers ≡ mid.at.answers)
       (core : came.core ≡ mid.core) (buffer : string_bytes came.buffer ≡ string_bytes mid.buffer) where
@@ -271,7 +271,7 @@ module _ (before : List Change) (old mid : Run) (held kept : List ℕ) (known le
             };
           }
 
-      -- it is at fault, and not taken
+      -- it has a fault, and is not taken
       pub fault_next : (at : Fault) (new : Run) (on : Option (List ℕ)) → IsLeft at came new to on → IsAtFault at before old new held known further from on
       fault_next at new on x = record {
         bytes = h.bytes;
@@ -344,7 +344,7 @@ module _ (before : List Change) (old mid : Run) (held kept : List ℕ) (known le
               (subst (λ (l : List Taken). AreTaken old.version longer (f.taken ++ t ∷ l)) (sym first.1) (taken_more old.version h.bytes w.raw f.taken t f.lines w.one (reads_as t first.0)))
               (λ no. say_more f.taken (t ∷ ts) (f.said no) (subst AllSay (sym is) (x.said (skips_is ∙ no))))
 
-  -- ---- lines behind these
+  -- ---- lines after these
 
   module _ (further : Option (List ℕ)) where
     comes_on : (bytes : List ℕ) → ComesFrom (prepend_known kept left) further bytes → ComesFrom (prepend_known held known) further (h.bytes ++ bytes)

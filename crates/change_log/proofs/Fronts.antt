@@ -1,4 +1,4 @@
--- The front of a recording, and what comes behind it, from beginning to end.
+-- The preamble of a recording, and the lines after it, from beginning to end.
 use Rattle.std.proofs.Common.{◌≡◌, ◌+◌, ◌⊎◌, ℕ, length, OnOk, Result, Err, List, [], ◌∷◌, ◌++◌, Option, refl, sym, ap, subst, ◌∙◌, append-nil, inl, inr}
 use Rattle.std.proofs.KnownBytes.{Consumes-trans}
 use Rattle.std.proofs.lemmas.Bool.Decides.{leb_tells}
@@ -34,7 +34,7 @@ use Rattle.change_log.proofs.Feeds.{long_last}
 use Rattle.change_log.proofs.OpeningSteps.{no_mark}
 use Rattle.change_log.proofs.Reached.{ended_closed, ended_line, ended_memory, ended_ok, ended_read, ended_write, given_begun, lines_part}
 
--- ---- what came
+-- ---- the bytes that were read
 
 module _ (held kept front : List ℕ) (before left : Option (List ℕ)) (none : held ≡ []) where
   at_once : (next : List ℕ) (after : Option (List ℕ)) → Takes held before next after front → Consumes before (prepend_known next after) front
@@ -54,12 +54,12 @@ module _ (held kept front : List ℕ) (before left : Option (List ℕ)) (none : 
   front_came line front_end.LongLine whole opens = absurd whole
   front_came line (front_end.AtFault f) whole opens = absurd whole
 
-  -- ---- the front is at fault
+  -- ---- the preamble has a fault
 
   plain : (bytes : List ℕ) (f : LineFault) → ComesFrom before left bytes → IsFaultOf bytes f → FailsAtFront before left f
   plain bytes f comes is = record { bytes = bytes; comes = comes; is = inl is }
 
-  -- with the line that came last, which may be a long one
+  -- with the last line, which may be a long one
   with_last : (mid : List ℕ) (rest : Option (List ℕ)) (raw line after : List ℕ) (f : LineFault) → Takes held before mid rest front → Takes mid rest kept left (raw ++ after) → HasNoLineFeed raw → line ≡ shortened raw
       → IsFaultOf (front ++ (line ++ after)) f → FailsAtFront before left f
   with_last mid rest raw line after f read more one is has =
@@ -153,7 +153,7 @@ module _ (t : ChangeOptions) (before left after : Option (List ℕ)) (held kept 
   given : Give h.after run.core
   given = given_begun t r run from to h
 
-  -- it stops behind the front
+  -- it stops after the preamble
   pub stopped_behind : (why : PrintError) (on : Option (List ℕ)) → StopsBehind end why run kept left after to on → TellsPart why t before after from on
   stopped_behind why on stops =
       let (mid, rest, read, stopped) = stops front held before whole opens_run h.after given in

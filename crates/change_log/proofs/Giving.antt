@@ -1,6 +1,7 @@
--- The changes give table and due summaries: those of a core from nothing on, and behind them those of the next one.
+-- The changes give the table and the due summaries: those of a core from nothing, and then those of
+-- the next one.
 --   give_all: what a core begins with
---   give_more: what differs, behind what was told before
+--   give_more: the differences, after the changes that were reported before
 use Rattle.std.proofs.Common.{◌≡◌, ℕ, Bool, true, false, List, [], ◌∷◌, ◌++◌, map, Option, Some, None, refl, sym, ap, subst, ◌∙◌}
 use Rattle.std.specs.FinMap.{get, empty, entries, get-empty}
 use Rattle.std.specs.List.{Contains, flat_map}
@@ -21,7 +22,7 @@ use Rattle.change_log.specs.Changes.{AreDifferences, AreMetricsOf, DueMetrics, G
 use Rattle.change_log.proofs.DueChanges.{AreDistinct, AreSound, IsSound, Lists, due_follow, ids_of, metric_in, metrics_both, networks_leave}
 use Rattle.change_log.proofs.ItemChanges.{items_all, items_both, items_follow}
 
--- ---- behind what was told before
+-- ---- after the changes that were reported before
 
 pub give_more : (before told : List Change) (old new : CoreValue) → Give before old → AreDifferences old new told → ids_of new.summaries ≡ ids_of old.summaries → AreDistinct (ids_of old.summaries) → AreSound new.summaries
     → Give (before ++ told) new
@@ -41,7 +42,7 @@ give_more before told old new given h ids distinct sound =
           (λ e there is. subst (λ (id : ℕ). AreMetricsOf e.1 (metrics_from id empty before)) is (given.due e there)) g has refl);
     }
 
--- nothing was told, and nothing differs
+-- nothing was reported, and nothing differs
 pub give_still : (before told : List Change) (c : CoreValue) → Give before c → told ≡ [] → Give (before ++ told) c
 give_still before told c given none = subst (λ (changes : List Change). Give changes c) (sym (ap (λ l. before ++ l) none ∙ append_none before)) given
   where
@@ -49,14 +50,14 @@ give_still before told c given none = subst (λ (changes : List Change). Give ch
     append_none [] = refl
     append_none (x ∷ xs) = ap (λ l. x ∷ l) (append_none xs)
 
--- one more was told, by which nothing changed
+-- one more was reported, which changed nothing
 pub give_unchanged : (before : List Change) (change : Change) (c : CoreValue) → Give before c → ((items : Items) → items_after items change ≡ items) → ((id : ℕ) (m : DueMetrics) → metrics_after id m change ≡ m) → Give (before ++ change ∷ []) c
 give_unchanged before change c given items metrics = record {
   items = items_both empty before (change ∷ []) ∙ items (items_from empty before) ∙ given.items;
   due = λ e has. subst (AreMetricsOf e.1) (sym (metrics_both e.0 empty before (change ∷ []) ∙ metrics e.0 (metrics_from e.0 empty before))) (given.due e has);
 }
 
--- it was told, or not
+-- it was reported, or not
 pub give_answered : (answers : Bool) (before : List Change) (change : Change) (c : CoreValue) → Give before c → ((items : Items) → items_after items change ≡ items) → ((id : ℕ) (m : DueMetrics) → metrics_after id m change ≡ m)
     → Give (before ++ answered answers change) c
 give_answered true before change c given items metrics = give_unchanged before change c given items metrics

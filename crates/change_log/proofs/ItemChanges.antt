@@ -1,5 +1,5 @@
--- What the changes give of the table, one after the other.
---   items_both: one list behind the other
+-- The table by the changes, one after the other.
+--   items_both: one list after the other
 --   items_follow: what differs of a table leads to the next one
 --   items_all: the whole table leads to it from nothing
 

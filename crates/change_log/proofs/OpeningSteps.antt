@@ -29,11 +29,11 @@ below n limit h = elim (leb_tells (suc n) limit) [ inl is ↦ is.1 | inr other �
 from : (n limit : ℕ) → nat_lt n limit ≡ false → limit ≤ n
 from n limit h = elim (leb_tells (suc n) limit) [ inl is ↦ absurd (both (nat_lt n limit) is.0 h) | inr other ↦ omega (arith, other.1) ]
 
--- what has room is handed on as it is
+-- a line that has room is unchanged
 pub no_mark : (limit : ℕ) (raw : List ℕ) → length raw < limit → take limit raw ++ mark_of (drop limit raw) ≡ raw
 no_mark limit raw within = ap (λ rest. take limit raw ++ mark_of rest) (drop_all limit raw (omega arith)) ∙ append-nil (take limit raw) ∙ take_all limit raw (omega arith)
 
--- where a line that was handed on is long, so is what came
+-- if a line that was returned is long, so are its bytes
 at_least : (limit : ℕ) (raw : List ℕ) → limit ≤ length (take limit raw ++ mark_of (drop limit raw)) → limit ≤ length raw
 at_least limit raw long = elim (leb_tells limit (length raw)) [
   | inl is ↦ is.1

@@ -1,4 +1,4 @@
--- Where the lines behind the front were taken: what is told, and what is written where it ends.
+-- The lines after the preamble were taken: their report, and the written part at the end.
 use Rattle.std.proofs.Common.{◌≡◌, ◌≢◌, ◌+◌, ◌⊎◌, ℕ, false, OnOk, Result, Ok, Err, List, [], ◌∷◌, ◌++◌, length, map, take, Option, refl, sym, ap, subst, ◌∙◌, append_assoc, append-nil, arith, inl, inr}
 use Rattle.std.proofs.KnownBytes.{Consumes-trans}
 use Rattle.std.proofs.lemmas.List.{length-map, take_all}
@@ -42,13 +42,13 @@ use Rattle.change_log.proofs.Comes.{comes_all, comes_behind, comes_less}
 use Rattle.change_log.proofs.Ends.{all_out, telling}
 use Rattle.change_log.proofs.RunSteps.{gives_after, given_first, tells_more}
 
--- ---- the bytes that came
+-- ---- the bytes that were read
 
 with_none : (r : RecordingValue) (bytes : List ℕ) → IsText bytes r → IsText (bytes ++ []) (record r { lines = r.lines ++ [] })
 with_none r bytes text =
     subst (λ (ls : List Line). IsText (bytes ++ []) (record r { lines = ls })) (sym (append-nil r.lines)) (subst (λ (l : List ℕ). IsText l r) (sym (append-nil bytes)) text)
 
--- the text of a recording, and behind it lines that say something, are the text of one
+-- the text of a recording, followed by lines that say something, is the text of one
 text_and_lines : (r : RecordingValue) (front behind : List ℕ) (taken : List Taken) → IsText front r → AreTaken r.version behind taken → AllSay taken → IsText (front ++ behind) (record r { lines = r.lines ++ lines_in taken })
 text_and_lines r front behind [] text none all = subst (λ (l : List ℕ). IsText (front ++ l) (record r { lines = r.lines ++ [] })) (sym none) (with_none r front text)
 text_and_lines r front behind (Says l ∷ taken) text (raw, rest, one, none, is, more) all = absurd none
@@ -72,7 +72,7 @@ front_bytes t r front text = record {
   whole = λ no. subst (λ (ls : List Line). IsText front (record r { lines = ls })) (sym (append-nil r.lines)) text;
 }
 
--- ---- what is told of the front and of what came behind it
+-- ---- the report of the preamble and of the lines after it
 
 module _ (t : ChangeOptions) (r : RecordingValue) (run : Run) (from to : Option (List ℕ)) (h : IsBegun t r run from to) where
   abbrev first : ℕ
@@ -112,7 +112,7 @@ module _ (t : ChangeOptions) (r : RecordingValue) (run : Run) (from to : Option 
     whole = λ no. text_and_lines r front behind taken is (subst (λ v. AreTaken v behind taken) h.version lines) (said (h.skips_faults ∙ no));
   }
 
--- all that came up to here is told: it was written, or stands on the buffer
+-- all lines so far are reported: the report was written, or is in the buffer
 pub record Reached (t : ChangeOptions) (before after : Option (List ℕ)) (r : RecordingValue) (bytes : List ℕ) (buffer : List ℕ) (from to : Option (List ℕ)) : Type 0 where
   pub comes : ComesFrom before after bytes
   pub taken : List Taken
@@ -125,7 +125,7 @@ whole_lines : (t : ChangeOptions) (r : RecordingValue) (taken : List Taken) (tex
 whole_lines t r taken text h = subst (λ (ls : List Line). IsTelling t (record r { lines = ls }) taken text) (sym (take_all (length r.lines) r.lines (omega arith))) h
 
 module _ (t : ChangeOptions) (before after : Option (List ℕ)) (r : RecordingValue) (bytes buffer : List ℕ) (from to last : Option (List ℕ)) (h : Reached t before after r bytes buffer from to) where
-  -- what stood on the buffer was written
+  -- the contents of the buffer were written
   pub reached_these : Adds to last buffer [] [] → TellsThese t before after bytes from last
   reached_these out = record {
     comes = h.comes;
@@ -194,7 +194,7 @@ module _ (t : ChangeOptions) (before mid after : Option (List ℕ)) (held front 
       printed = printed_behind;
     }
 
-  -- a line of them is at fault
+  -- one of the lines has a fault
   pub at_fault : (new : Run) (on last : Option (List ℕ)) (l : LineFault) (f : IsAtFault l.fault h.after run new held mid after to on) → l.line ≡ new.at.number → Adds on last (string_bytes new.buffer) [] []
       → FailsBehind t before after l from last
   at_fault new on last l f numbered out =

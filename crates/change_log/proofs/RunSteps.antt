@@ -1,4 +1,4 @@
--- Runs of lines of which is told what they changed, and one line more.
+-- Runs of lines with their reports, and one line more.
 use Rattle.std.proofs.Common.{◌≡◌, ℕ, suc, ◌≤◌, ◌+◌, Bool, true, false, List, [], ◌∷◌, ◌++◌, length, map, take, Option, refl, sym, ap, subst, ◌∙◌, append_assoc, append-nil, arith, inl, inr}
 use Rattle.std.proofs.lemmas.List.{length-append, length-map, map-append, take-append-le, take_all}
 use Rattle.change_log.specs.declared.printing.ChangeFilter.{ChangeFilter}
@@ -35,7 +35,7 @@ module _ (wanted : ChangeFilter) (answers : Bool) where
       → TellsLines wanted answers old number (t ∷ []) before (lines_of number wanted told) (before ++ told) new
   one_line old new number t before told tells gives = (new, told, [], tells, gives, sym (append-nil (lines_of number wanted told)), (refl, refl, refl))
 
-  -- one run behind the other
+  -- one run after the other
   pub tells_more : (old mid new : CoreValue) (number : ℕ) (xs ys : List Taken) (before between after : List Change) (t u : List ℕ) → TellsLines wanted answers old number xs before t between mid
       → TellsLines wanted answers mid (number + length xs) ys between u after new → TellsLines wanted answers old number (xs ++ ys) before (t ++ u) after new
   tells_more old mid new number [] ys before between after t u (none, same, is) q =
@@ -49,7 +49,7 @@ module _ (wanted : ChangeFilter) (answers : Bool) where
       let more = tells_more next mid new (number + 1) xs ys (before ++ told) between after rest u tail (subst (λ n. TellsLines wanted answers mid n ys between u after new) count q) in
       (next, told, rest ++ u, tells, gives, ap (λ w. w ++ u) text ∙ append_assoc (lines_of number wanted told) rest u, more)
 
-  -- behind the lines the changes give what the core has
+  -- after the lines the changes give the table and the due summaries of the core
   pub gives_after : (old new : CoreValue) (number : ℕ) (taken : List Taken) (before after : List Change) (text : List ℕ) → Give before old → TellsLines wanted answers old number taken before text after new → Give after new
   gives_after old new number [] before after text given (none, same, is) =
       subst (λ (changes : List Change). Give changes new) (sym same) (subst (λ (c : CoreValue). Give before c) (sym is) given)
@@ -58,7 +58,7 @@ module _ (wanted : ChangeFilter) (answers : Bool) where
 pub given_first : (c : CoreValue) → IsCore c → Give (all_of c) c
 given_first c core = give_all c (distinct_lists c core) (sound_lists c core)
 
--- some of the lines were run and told of, and these are left
+-- some of the lines were run and reported, and these are left
 pub record ChangeOptions (wanted : ChangeFilter) (answers : Bool) (old : CoreValue) (first : ℕ) (lines rest : List Line) (number : ℕ) (now : CoreValue) (from to : Option (List ℕ)) (buffer put : List ℕ) : Type 0 where
   pub done : List Line
   pub left : lines ≡ done ++ rest
@@ -222,7 +222,7 @@ module _ (wanted : ChangeFilter) (answers : Bool) (old : CoreValue) (number : �
       pub changed_cut : (why : PrintError) (to : Option (List ℕ)) → AddsPart why from to (buffer ++ lines_of number wanted (all_changes new)) → StopsAtLine why wanted answers old number (line.Event e) new from to buffer
       changed_cut why to part = inl (all_changes new, changed_tells, part)
 
-  -- a look-up
+  -- a lookup
   pub lookup_silent : (address : ℕ) → answers ≡ false → ToldLine wanted answers old number (line.Lookup address) old from from buffer buffer
   lookup_silent address silent = record { told = []; tells = (subst (λ b. IsFoundIn b old address []) (sym silent) refl, refl); printed = adds_none from buffer }
 
@@ -243,7 +243,7 @@ module _ (wanted : ChangeFilter) (answers : Bool) (old : CoreValue) (number : �
     pub lookup_cut : (why : PrintError) (to : Option (List ℕ)) (put : List ℕ) → put ≡ buffer ++ change_line wanted.format number (Found address old.table.serial found) → AddsPart why from to put → StopsAtLine why wanted answers old number (line.Lookup address) old from to buffer
     lookup_cut why to put is part = inl (told_found, found_tells, line_cut buffer (change_line wanted.format number (Found address old.table.serial found)) why from to put is part)
 
-  -- what a table, which is that of the core, has for an address
+  -- the match of an address in a table, which is the table of the core
   module _ (address : ℕ) (table : TableValue) (same : table ≡ old.table) (put : List ℕ) (asked : answers ≡ true)
       (h : (found : Match) × IsMatch table.items address found × (put ≡ buffer ++ lookup_line wanted.format number address table.serial found)) where
     put_here : (found : Match) × IsMatch old.table.items address found × (put ≡ buffer ++ lookup_line wanted.format number address old.table.serial found)

@@ -1,4 +1,5 @@
--- Two lists of changes, printed one behind the other; and one line, put on the buffer and written.
+-- Two lists of changes, printed one after the other; and one line, appended to the buffer and
+-- written.
 use Rattle.std.proofs.Common.{◌≡◌, ◌∙◌, ◌++◌, ℕ, List, [], Option, ap, append-nil, subst, sym}
 use Rattle.change_log.specs.declared.printing.ChangeFilter.{ChangeFilter}
 use Rattle.replay.specs.Pages.{Adds, AddsPart}
@@ -33,7 +34,7 @@ module _ (buffer line : List ℕ) where
   line_shown a b put moved whole is spilled =
       subst (Adds a b buffer moved) (sym (append-nil line)) (adds_moved a a b buffer put moved line (adds_put a a buffer buffer [] put line (adds_none a buffer) is whole) spilled)
 
-  -- memory ran out before it stood on the buffer
+  -- memory ran out before it was in the buffer
   pub line_missing : (a : Option (List ℕ)) → AreWhole buffer → AddsPart stop.Memory a a (buffer ++ (line ++ []))
   line_missing a whole = part_longer stop.Memory a a buffer [] (line ++ []) (part_now a a buffer buffer [] whole (adds_none a buffer))
 
@@ -41,6 +42,6 @@ module _ (buffer line : List ℕ) where
   pub line_cut : (why : PrintError) (a b : Option (List ℕ)) (put : List ℕ) → put ≡ buffer ++ line → AddsPart why a b put → AddsPart why a b (buffer ++ (line ++ []))
   line_cut why a b put is part = subst (AddsPart why a b) (is ∙ ap (λ l. buffer ++ l) (sym (append-nil line))) part
 
--- nothing was to be told
+-- there was nothing to report
 pub none_cut : (why : PrintError) (a b : Option (List ℕ)) (buffer : List ℕ) → AddsPart why a b buffer → AddsPart why a b (buffer ++ [])
 none_cut why a b buffer part = subst (AddsPart why a b) (sym (append-nil buffer)) part

@@ -1,4 +1,4 @@
--- The lines that tell changes: each is whole, and those of a list stand one behind the other.
+-- The lines that report changes: each is whole, and those of a list follow one another.
 use Rattle.std.proofs.Common.{◌≡◌, ◌++◌, ◌+◌, ℕ, true, false, cond, List, [], ◌∷◌, codes, drop, map, Some, refl, sym, ap, ◌∙◌, append_assoc, inr}
 use Rattle.std.specs.Prelude.{decimal, slice_get}
 use Rattle.std.proofs.lemmas.List.{drop_more}
@@ -57,7 +57,7 @@ change_whole format.Json number change = object_whole number change
 pub line_whole : (number : ℕ) (wanted : ChangeFilter) (change : Change) → AreWhole (line_of number wanted change)
 line_whole number wanted change = elim (is_told wanted.only change) as (λ b. AreWhole (cond b (change_line wanted.format number change) (codes ""))) [ true ↦ change_whole wanted.format number change | false ↦ none_whole ]
 
--- what a look-up prints is a line of this kind
+-- the line of a lookup is a line of this kind
 pub found_line : (fm : Format) (number address serial : ℕ) (found : Match) → lookup_line fm number address serial found ≡ change_line fm number (Found address serial found)
 found_line format.Text number address serial found = refl
 found_line format.Json number address serial found = refl
@@ -101,11 +101,11 @@ listed_is number wanted (w ∷ areas) =
 abbrev pub changed_in : ℕ → ChangeFilter → ℕ × Metrics → List ℕ
 changed_in number wanted e = lines_of number wanted (area_changes e)
 
--- the lines of the area at a place, and those of the areas behind it
+-- the lines of the area at a place, and those of the areas after it
 pub area_next : {A : Type 0} (lines : A → List ℕ) (xs : List A) (i : ℕ) (x : A) → slice_get xs i ≡ Some x → flat_map lines (drop i xs) ≡ lines x ++ flat_map lines (drop (i + 1) xs)
 area_next {A} lines xs i x is = ap (flat_map lines) (drop_more xs i x (slice_get_within xs i x is) ∙ ap (λ (y : A). y ∷ drop (i + 1) xs) (get_or_from_slice_get xs i x x is))
 
--- ---- the pieces of a line, as they are written one behind the other
+-- ---- the pieces of a line, as they are written one after the other
 
 pub due_printed : (old front place new : List ℕ) (number area kind metric : ℕ) (dest : Dest) → kind ≡ kind_of dest
     → front ≡ old ++ (decimal number ++ (codes " due " ++ (address_text area ++ (codes " " ++ (decimal kind ++ codes " "))))) → place ≡ front ++ dest_text dest

@@ -79,7 +79,7 @@ pub record IsFollowed (before : List Change) (bytes : List ℕ) (old new : Run) 
   pub counted : new.at.number ≡ old.at.number + length taken
   pub told : Told old.at.wanted old.at.answers old.core old.at.number taken before new.core from to (string_bytes old.buffer) (string_bytes new.buffer)
 
--- the next line has this fault, or there is no line feed after the last
+-- the next line has this fault, or the last one has no line feed
 pub record IsAtFault (f : Fault) (before : List Change) (old new : Run) (held : List ℕ) (known left : Option (List ℕ)) (from to : Option (List ℕ)) : Type 0 where
   pub bytes : List ℕ
   pub followed : IsFollowed before bytes old new from to

@@ -87,8 +87,8 @@ IsFaultWith more front e = (e ≡ replay_fault.Memory) ⊎ ((f : LineFault) × (
 abbrev pub IsFormless : (text : List ℕ) → (number : ℕ) → LineFault → Type 0
 IsFormless text number f = (r : RecordingValue) × IsText text r × (f ≡ record { line = number; fault = fault.Line })
 
--- The reason why there is no recording. If a line was too long and cut short, and the preamble then
--- has no fault, the fault is that this line has no form.
+-- The reason why the preamble is not valid. If a line was too long and cut short, and the preamble
+-- then has no fault, the fault is that this line has no form.
 abbrev pub HasFault : PreambleEnd → (front line : List ℕ) → LineFault → Type 0
 HasFault front_end.Over front line f = IsFaultOf front f
 HasFault front_end.Line front line f = IsFaultUpTo (line ++ 10 ∷ []) front f

@@ -1,4 +1,5 @@
--- What the parse makes of the command line `abr capture` with a file, and with any of `--router`, `--begin`, `--all` and `--no-seconds` behind it.
+-- The parse of the command line `abr capture` with a file, and with any of `--router`, `--begin`,
+-- `--all` and `--no-seconds` after it.
 use Rattle.std.proofs.Common.{◌≡◌, ◌∙◌, ap, inl, refl, Bool, true, false, List, [], ◌∷◌, ◌++◌, Option, Some, None, codes}
 use Rattle.std.specs.Prelude.{fold}
 use Rattle.clap.specs.Walk.{Text, Walk, finished, nothing_held, rows_after, walk, walked}
@@ -24,7 +25,7 @@ abbrev after_option : Text → Walk → Option Text → Walk
 after_option id before None = before
 after_option id before (Some word) = walk_given capture_sub id before word
 
--- an option that may be given, and the words behind it
+-- an option that may be given, and the words after it
 module _ (id flag : Text) (before : Walk) (waits : walked capture_sub.rules [] before flag ≡ walk_waiting capture_sub id before)
     (step : (word : Text) → IsFileWord word → walked capture_sub.rules [] (walk_waiting capture_sub id before) word ≡ walk_given capture_sub id before word)
     (rest : List Text) where
@@ -39,7 +40,7 @@ module _ (id flag : Text) (before : Walk) (waits : walked capture_sub.rules [] b
       faultless_cons capture_sub [] _ _ flag (word ∷ rest) none waits
       (faultless_cons capture_sub [] _ _ word rest (option_file_fault capture_sub (held_waiting capture_sub id before) before.position id word p) (step word p) h)
 
--- ---- behind the file, `--router` and `--begin`
+-- ---- after the file, `--router` and `--begin`
 
 abbrev at_file : CaptureTexts → Walk
 at_file t = first_walk capture_sub t.file
@@ -90,7 +91,7 @@ begin_step file None head p = option_file_step capture_sub.rules (held_waiting c
 begin_step file (Some address) head p =
     option_file_step capture_sub.rules (held_waiting capture_sub (codes "begin") (behind_router file (Some address))) 2 (codes "begin") head p
 
--- ---- behind the flags
+-- ---- after the flags
 
 -- what the words say is kept, and there is no fault
 record Reads (t : CaptureTexts) : Type 0 where

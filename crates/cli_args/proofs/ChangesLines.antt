@@ -1,4 +1,5 @@
--- What the parse makes of the command line `abr changes` with a file, and with `--only`, `--format` or `--progress` behind it.
+-- The parse of the command line `abr changes` with a file, and with `--only`, `--format` or
+-- `--progress` after it.
 use Rattle.std.proofs.Common.{◌≡◌, inl, refl, true, false, List, [], ◌∷◌, Some, codes}
 use Rattle.clap.specs.Walk.{Row, Text, nothing_held, rows_after, walked}
 use Rattle.clap.specs.Simple.{Shape, built_leaf, inherited, subcommand_of}

@@ -1,4 +1,5 @@
--- What the parse makes of the command line `abr explain` with a file and an address, and with `--due`, `--format` or `--progress` behind them.
+-- The parse of the command line `abr explain` with a file and an address, and with `--due`,
+-- `--format` or `--progress` after them.
 use Rattle.std.proofs.Common.{◌≡◌, ◌∙◌, ap, inl, refl, true, false, List, [], ◌∷◌, Some, codes}
 use Rattle.std.specs.Prelude.{fold}
 use Rattle.clap.specs.Walk.{Row, Text, Walk, finished, rows_after, walked}
@@ -17,12 +18,12 @@ is_explain = record { stops = refl; passes = refl }
 abbrev explain_sub : Shape
 explain_sub = built_leaf (inherited program.top (explain_command (references format_names)).top)
 
--- ---- the address behind the file, and what follows the two
+-- ---- the address after the file, and the words that follow the two
 
 abbrev address_walk : Text → Text → Walk
 address_walk file address = on_positional explain_sub.rules (first_walk explain_sub file) address
 
--- the walk goes on behind them
+-- the walk continues after them
 abbrev walk_behind : List Text → Walk → Walk
 walk_behind rest w = fold (walked explain_sub.rules []) w rest
 

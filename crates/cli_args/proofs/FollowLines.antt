@@ -1,4 +1,4 @@
--- What the parse makes of the command line `abr follow`, and with `--strict`, `--only` or `--format` behind it.
+-- The parse of the command line `abr follow`, and with `--strict`, `--only` or `--format` after it.
 use Rattle.std.proofs.Common.{◌≡◌, inl, refl, true, false, List, [], ◌∷◌, Some, codes}
 use Rattle.clap.specs.Walk.{Row, Text, nothing_held, rows_after, walk, walked}
 use Rattle.clap.specs.Simple.{Shape, built_leaf, inherited, subcommand_of}

@@ -1,4 +1,5 @@
--- What the parse makes of the command lines `abr one` with five words, and `abr decode` and `abr fault` with one. The words do not begin with a hyphen.
+-- The parse of the command lines `abr one` with five words, and `abr decode` and `abr fault` with
+-- one. The words do not begin with a hyphen.
 use Rattle.std.proofs.Common.{◌≡◌, ◌∙◌, ap, refl, inl, true, false, List, [], ◌∷◌, codes}
 use Rattle.clap.specs.Walk.{Row, Text, Walk, finished, nothing_held, rows_after, walk, walk_from, walked}
 use Rattle.clap.specs.Simple.{Shape, built_leaf, inherited, subcommand_of}

@@ -1,4 +1,4 @@
--- What the getters of matches say, in rows.
+-- The getters of matches, in rows.
 use Rattle.std.proofs.Common.{ℕ, Bool, true, false, ◌≡◌, ◌∙◌, sym, ap, subst, refl, List, Option, Some, None, codes, option_map}
 use Rattle.std.specs.Prelude.{Box}
 use Rattle.std.specs.Box.{box_value}

@@ -1,4 +1,4 @@
--- Where the names that options take stand in memory is of no matter to the command line.
+-- The place in memory of the names that options take does not matter to the command line.
 use Rattle.std.proofs.Common.{◌≡◌, ◌∙◌, ◌||◌, Bool, sym, ap, ap₂, subst, refl, List, [], ◌∷◌, map, Option, Some, None, is_some, true}
 use Rattle.std.specs.Prelude.{option_map, if◌then◌else◌}
 use Rattle.std.specs.List.{list_any}
@@ -82,7 +82,7 @@ is_free_with : (p : Places) → is_simple_and_free (program_with p) ≡ true
 unfolding clap_on_literals
 is_free_with p = refl
 
--- the matches of the program, and why it fails, are those of its words
+-- the matches of the program, and the reason why it fails, depend on its words
 pub met_as_given : (a : App) (m : ArgMatches) (words : List Text) → IsProgram a → HasMatchesOf a words m → subcommand_rows_of m ≡ subcommand_of program words
 met_as_given a m words is h =
     (h (ap is_simple is.2 ∙ is_simple_with is.0)).1 ∙ ap (λ (x : App). subcommand_of x words) is.2 ∙ subcommand_is is.0 words is.1

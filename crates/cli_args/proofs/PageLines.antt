@@ -1,4 +1,5 @@
--- What the parse makes of the command line `abr page` with a file, and with `-o` or `--output`, or `--progress`, behind it.
+-- The parse of the command line `abr page` with a file, and with `-o` or `--output`, or
+-- `--progress`, after it.
 use Rattle.std.proofs.Common.{◌≡◌, refl, inl, inr, true, false, List, [], ◌∷◌, Some, codes}
 use Rattle.clap.specs.Walk.{Row, Text, nothing_held, rows_after, walked}
 use Rattle.clap.specs.Simple.{Shape, built_leaf, inherited, subcommand_of}

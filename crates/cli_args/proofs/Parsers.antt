@@ -1,4 +1,5 @@
--- What a parse of a simple command makes of the words stays where the parsers of values change and take the same values.
+-- The parse of a simple command does not change if the parsers of values change and take the same
+-- values.
 use Rattle.std.proofs.Common.{◌≡◌, ◌∙◌, ◌==◌, ◌+◌, ◌&&◌, ◌||◌, ℕ, Bool, false, not, zero, suc, refl, sym, ap, ap₂, List, [], ◌∷◌, map, length, drop, min, Option, Some, None, is_some}
 use Rattle.std.specs.Prelude.{encode_utf8, slice_get, find, fold, option_map, if◌then◌else◌}
 use Rattle.std.specs.List.{list_any}

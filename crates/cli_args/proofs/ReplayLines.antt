@@ -1,4 +1,5 @@
--- What the parse makes of the command line `abr replay` with a file, and with `--show`, `--workers`, `--format` or `--progress` behind it.
+-- The parse of the command line `abr replay` with a file, and with `--show`, `--workers`,
+-- `--format` or `--progress` after it.
 use Rattle.std.proofs.Common.{ℕ, ◌≡◌, ◌==◌, ap, inl, subst, refl, arith, eqb-true, lit<, Bool, true, false, List, [], ◌∷◌, None, codes}
 use Rattle.std.specs.Str.Parse.{IsNumeral, without_leading_plus}
 use Rattle.clap.specs.Lexer.{strip_byte}

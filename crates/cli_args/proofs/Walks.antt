@@ -1,4 +1,4 @@
--- What the parse makes of the words behind a command's name, and of the whole line.
+-- The parse of the words after a command's name, and of the whole line.
 use Rattle.std.proofs.Common.{ℕ, ◌≡◌, ◌∙◌, ◌==◌, ◌++◌, sym, ap, ap₂, refl, inl, inr, is_some, Bool, true, false, List, [], ◌∷◌, Option, Some, None, append-nil, append_assoc}
 use Rattle.std.specs.Prelude.{fold}
 use Rattle.clap.specs.Lexer.{short_of, strip_byte}
@@ -130,7 +130,7 @@ module _ (s : Shape) where
       (faultless_cons s [] (at_rest nothing_held 1) (first_walk word) word rest (file_fault s nothing_held 1 word p ∙ takes) (file_step s.rules nothing_held 1 word p) walks)
       ends
 
-  -- an option, with its id, behind what was walked
+  -- an option, with its id, after the words so far
   abbrev pub held_waiting : Text → Walk → Held
   held_waiting id w = record (settled s.rules w.held) { pending = Some (id, []) }
 
@@ -155,7 +155,7 @@ module _ (s : Shape) where
         faultless_cons s [] _ _ flag (given ∷ []) none waits
         (faultless_cons s [] _ _ given [] (option_file_fault s (held_waiting id before) before.position id given p) step refl)
 
-  -- an option behind the first word
+  -- an option after the first word
   module _ (id flag word given : Text) (waits : walked s.rules [] (first_walk word) flag ≡ walk_waiting id (first_walk word))
       (step : walked s.rules [] (walk_waiting id (first_walk word)) given ≡ walk_given id (first_walk word) given) where
     pub rows_given_are : IsFileWord word → rows_after s.rules [] (word ∷ flag ∷ given ∷ []) ≡ rows_given id (first_walk word) given
@@ -181,7 +181,7 @@ labels = names_of (built program)
 abbrev pub start : Walk
 start = walk_from nothing_held
 
--- the command was met, and these words behind it
+-- the command was met, and these words after it
 abbrev stopped_at : Text → List Text → Walk
 stopped_at command words = record start { stopped = Some (command, words) }
 

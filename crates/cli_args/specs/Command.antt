@@ -1,4 +1,9 @@
--- The command line: `abr one ROUTER AREA ADDRESS HEX LOOKUP`, `abr decode HEX [--long]`, `abr replay FILE [--workers N] [--show NAME] [--format NAME] [--progress]`, `abr changes FILE [--only PREFIX] [--format NAME] [--progress]`, `abr follow [--only PREFIX] [--strict] [--format NAME]`, `abr explain FILE ADDRESS [--due AREA] [--format NAME] [--progress]`, `abr page FILE [-o OUT] [--progress]`, `abr capture FILE [--router ADDRESS] [--begin HEAD] [--all] [--no-seconds]` and `abr fault NUMBER`.
+-- The command line: `abr one ROUTER AREA ADDRESS HEX LOOKUP`, `abr decode HEX [--long]`, `abr
+-- replay FILE [--workers N] [--show NAME] [--format NAME] [--progress]`, `abr changes FILE [--only
+-- PREFIX] [--format NAME] [--progress]`, `abr follow [--only PREFIX] [--strict] [--format NAME]`,
+-- `abr explain FILE ADDRESS [--due AREA] [--format NAME] [--progress]`, `abr page FILE [-o OUT]
+-- [--progress]`, `abr capture FILE [--router ADDRESS] [--begin HEAD] [--all] [--no-seconds]` and
+-- `abr fault NUMBER`.
 use Rattle.std.specs.Prelude.{ℕ, ◌≡◌, ◌⊎◌, ◌≤◌, Bool, true, false, List, [], ◌∷◌, ◌++◌, Option, Some, None, Result, MatchResult, codes, map, option_map}
 use Rattle.std.specs.Borrow.{Bor}
 use Rattle.std.specs.Str.{bytes_eq}
@@ -181,7 +186,7 @@ IsShowOption rule = (names : References) × AreShowNames names × (rule ≡ show
 abbrev pub IsFormatOption : Rule → Type 0
 IsFormatOption rule = (names : References) × AreFormatNames names × (rule ≡ format_option names)
 
--- where the options of the program have their names: those of `--show`, and of `--format` in each command
+-- the places of the names of options: those of `--show`, and of `--format` in each command
 pub record Places : Type 0 where
   pub shows : References
   pub of_replay : References
@@ -189,7 +194,7 @@ pub record Places : Type 0 where
   pub of_follow : References
   pub of_explain : References
 
--- the names stand there
+-- the names are at these places
 pub record HaveNames (p : Places) : Type 0 where
   pub shows : AreShowNames p.shows
   pub of_replay : AreFormatNames p.of_replay
@@ -263,11 +268,11 @@ HasFlag rows id is_set = (value : Text) × (first_of id rows ≡ Some value) × 
 abbrev pub HasDecodeWords : List Row → Text → Bool → Type 0
 HasDecodeWords rows hex long = (first_of (codes "HEX") rows ≡ Some hex) × HasFlag rows (codes "long") long
 
--- there may be so many workers
+-- the number of workers is allowed
 abbrev pub AreWorkers : ℕ → Type 0
 AreWorkers n = (1 ≤ n) × (n ≤ 16)
 
--- the word writes so many workers: decimal digits, and a plus sign may stand before them
+-- the word writes this number of workers: decimal digits, which may follow a plus sign
 pub record WritesWorkers (word : Text) (n : ℕ) : Type 0 where
   pub numeral : IsNumeral 10 (without_leading_plus word)
   pub written : digits_value 10 (without_leading_plus word) ≡ n
@@ -320,7 +325,9 @@ pub record CaptureTexts : Type 0 where
 abbrev pub HasFormat : List Row → Format → Type 0
 HasFormat rows format = first_of (codes "format") rows ≡ Some (format_name format)
 
--- this file, so many workers, the name of what is shown, its form, and `--progress` or not were given; if no number was given, the matches have 1, if no name was, `routes`, and if `--progress` was not, `false`
+-- This file, this number of workers, the name of the show, its form, and `--progress` or not were
+-- given. The matches have 1 if no number was given, `routes` if no name was, and `false` if
+-- `--progress` was not.
 abbrev pub HasReplayWords : List Row → ReplayTexts → Type 0
 HasReplayWords rows t = (first_of (codes "FILE") rows ≡ Some t.file)
     × ((word : Text) × (first_of (codes "workers") rows ≡ Some word) × WritesWorkers word t.workers)
@@ -328,18 +335,21 @@ HasReplayWords rows t = (first_of (codes "FILE") rows ≡ Some t.file)
     × HasFormat rows t.format
     × HasFlag rows (codes "progress") t.progress
 
--- this file was given, this network or none, the form, and `--progress` or not; if not, the matches have `false`
+-- this file was given, this network or none, the form, and `--progress` or not; if not, the matches
+-- have `false`
 abbrev pub HasChangesWords : List Row → ChangesTexts → Type 0
 HasChangesWords rows t = (first_of (codes "FILE") rows ≡ Some t.file)
     × (first_of (codes "only") rows ≡ t.only)
     × HasFormat rows t.format
     × HasFlag rows (codes "progress") t.progress
 
--- this network was given or none, `--strict` or not, and the form; if `--strict` was not given, the matches have `false`
+-- this network was given or none, `--strict` or not, and the form; if `--strict` was not given, the
+-- matches have `false`
 abbrev pub HasFollowWords : List Row → FollowTexts → Type 0
 HasFollowWords rows t = (first_of (codes "only") rows ≡ t.only) × HasFlag rows (codes "strict") t.strict × HasFormat rows t.format
 
--- this file and this address were given, this area or none, the form, and `--progress` or not; if not, the matches have `false`
+-- this file and this address were given, this area or none, the form, and `--progress` or not; if
+-- not, the matches have `false`
 abbrev pub HasExplainWords : List Row → ExplainTexts → Type 0
 HasExplainWords rows t = (first_of (codes "FILE") rows ≡ Some t.file)
     × (first_of (codes "ADDRESS") rows ≡ Some t.address)
@@ -347,11 +357,13 @@ HasExplainWords rows t = (first_of (codes "FILE") rows ≡ Some t.file)
     × HasFormat rows t.format
     × HasFlag rows (codes "progress") t.progress
 
--- this file was given, this file for the page or none, and `--progress` or not; if not, the matches have `false`
+-- this file was given, this file for the page or none, and `--progress` or not; if not, the matches
+-- have `false`
 abbrev pub HasPageWords : List Row → PageTexts → Type 0
 HasPageWords rows t = (first_of (codes "FILE") rows ≡ Some t.file) × (first_of (codes "output") rows ≡ t.output) × HasFlag rows (codes "progress") t.progress
 
--- this file was given, this router or none, this file with a beginning or none, and `--all` and `--no-seconds` or not; where one is not, the matches have `false`
+-- this file was given, this router or none, this file with a beginning or none, and `--all` and
+-- `--no-seconds` or not; if one is not, the matches have `false`
 abbrev pub HasCaptureWords : List Row → CaptureTexts → Type 0
 HasCaptureWords rows t = (first_of (codes "FILE") rows ≡ Some t.file)
     × (first_of (codes "router") rows ≡ t.router)
@@ -429,7 +441,7 @@ HasJob met = (texts : JobTexts) × HasTexts met texts
 abbrev pub IsJob : Option (Text × List Row) → Job → Type 0
 IsJob met job = HasTexts met (job_texts job)
 
--- the job can be done: if it is a replay, there may be so many workers
+-- the job can be done: if it is a replay, its number of workers is allowed
 abbrev pub IsFit : Job → Type 0
 IsFit (One w) = Unit {0}
 IsFit (Decode word long) = Unit {0}
@@ -441,7 +453,8 @@ IsFit (Page file output progress) = Unit {0}
 IsFit (Capture words) = Unit {0}
 IsFit (Fault number) = Unit {0}
 
--- A mistake is one that the command line has. If no mistake is found and there is no job, a word is missing.
+-- A mistake is one that the command line has. If no mistake is found and there is no job, a word is
+-- missing.
 abbrev pub IsMistake : List Text → Usage → Type 0
 IsMistake words (Told e) = IsAmong (kind_of e) (fault_of program words)
     ⊎ ((kind_of e ≡ MissingRequiredArgument) × (¬ HasJob (subcommand_of program words)))
@@ -568,13 +581,14 @@ abbrev pub flag_words : Text → Bool → List Text
 flag_words flag false = []
 flag_words flag true = flag ∷ []
 
--- the words of `abr capture` behind its file that say this
+-- the words of `abr capture` after its file that say this
 abbrev pub capture_words : CaptureTexts → List Text
 capture_words t =
     option_words (codes "--router") t.router
     ++ (option_words (codes "--begin") t.begin ++ (flag_words (codes "--all") t.keeps_all ++ flag_words (codes "--no-seconds") t.without_seconds))
 
--- the command line `abr capture` that says this, with its words in the order of the help, whatever the program is called
+-- the command line `abr capture` that says this, with its words in the order of the help, whatever
+-- the program is called
 abbrev pub capture_line : Text → CaptureTexts → List Text
 capture_line name t = name ∷ codes "capture" ∷ t.file ∷ capture_words t
 
@@ -612,7 +626,8 @@ plain_changes file = record { file = file; only = None; format = form.Text; prog
 abbrev pub plain_follow : FollowTexts
 plain_follow = record { only = None; strict = false; format = form.Text }
 
--- `abr explain` with this file and this address only: by the routing table, as text, without progress
+-- `abr explain` with this file and this address only: by the routing table, as text, without
+-- progress
 abbrev pub plain_explain : Text → Text → ExplainTexts
 plain_explain file address = record { file = file; address = address; due = None; format = form.Text; progress = false }
 
@@ -640,26 +655,30 @@ GivesDecode line result = (name hex : Text) → line ≡ decode_line name hex �
 abbrev pub GivesLong : List Text → Result Job Usage → Type 0
 GivesLong line result = (name hex : Text) → line ≡ long_line name hex → IsPlainWord hex → GivesJob result (OfDecode hex true)
 
--- if the line is `abr replay` with a file, the job is `replay` of it by one worker, to show the routing table as text, and no progress
+-- if the line is `abr replay` with a file, the job is `replay` of it by one worker, to show the
+-- routing table as text, and no progress
 abbrev pub GivesReplay : List Text → Result Job Usage → Type 0
 GivesReplay line result = (name file : Text) → line ≡ replay_line name file → IsFileWord file → GivesJob result (OfReplay (plain_replay file))
 
--- if the line is `abr replay` with a file and `--workers`, the job is `replay` of it by so many
+-- if the line is `abr replay` with a file and `--workers`, the job is `replay` of it by this number
 abbrev pub GivesWorkers : List Text → Result Job Usage → Type 0
 GivesWorkers line result =
     (name file number : Text) (count : ℕ) → line ≡ workers_line name file number
     → IsFileWord file → WritesWorkers number count → GivesJob result (OfReplay (record (plain_replay file) { workers = count }))
 
--- if the line is `abr replay` with a file and `--show`, the job is `replay` of it by one worker, to show that
+-- if the line is `abr replay` with a file and `--show`, the job is `replay` of it by one worker, to
+-- show that
 abbrev pub GivesShow : List Text → Result Job Usage → Type 0
 GivesShow line result =
     (name file : Text) (show : Show) → line ≡ show_line name file show → IsFileWord file → GivesJob result (OfReplay (record (plain_replay file) { show = show }))
 
--- if the line is `abr changes` with a file, the job is `changes` of it, of all networks, as text and without progress
+-- if the line is `abr changes` with a file, the job is `changes` of it, of all networks, as text
+-- and without progress
 abbrev pub GivesChanges : List Text → Result Job Usage → Type 0
 GivesChanges line result = (name file : Text) → line ≡ changes_line name file → IsFileWord file → GivesJob result (OfChanges (plain_changes file))
 
--- if the line is `abr changes` with a file, `--only` and a plain word, the job is `changes` of it, of that network
+-- if the line is `abr changes` with a file, `--only` and a plain word, the job is `changes` of it,
+-- of that network
 abbrev pub GivesOnly : List Text → Result Job Usage → Type 0
 GivesOnly line result =
     (name file prefix : Text) → line ≡ only_line name file prefix
@@ -673,34 +692,40 @@ GivesFollow line result = (name : Text) → line ≡ follow_line name → GivesJ
 abbrev pub GivesStrict : List Text → Result Job Usage → Type 0
 GivesStrict line result = (name : Text) → line ≡ strict_line name → GivesJob result (OfFollow (record plain_follow { strict = true }))
 
--- if the line is `abr follow` with `--only` and a plain word, the job is `follow` of that network, not strict
+-- if the line is `abr follow` with `--only` and a plain word, the job is `follow` of that network,
+-- not strict
 abbrev pub GivesFollowOnly : List Text → Result Job Usage → Type 0
 GivesFollowOnly line result =
     (name prefix : Text) → line ≡ follow_only_line name prefix → IsPlainWord prefix → GivesJob result (OfFollow (record plain_follow { only = Some prefix }))
 
--- if the line is `abr explain` with a file and a plain word, the job explains the word by the file's routing table, as text and without progress
+-- if the line is `abr explain` with a file and a plain word, the job explains the word by the
+-- file's routing table, as text and without progress
 abbrev pub GivesExplain : List Text → Result Job Usage → Type 0
 GivesExplain line result =
     (name file address : Text) → line ≡ explain_line name file address
     → IsFileWord file → IsPlainWord address → GivesJob result (OfExplain (plain_explain file address))
 
--- if the line is `abr explain` with a file, a plain word, `--due` and another, the job explains the first word's summary in the area that the other names
+-- if the line is `abr explain` with a file, a plain word, `--due` and another, the job explains the
+-- first word's summary in the area that the other names
 abbrev pub GivesDue : List Text → Result Job Usage → Type 0
 GivesDue line result =
     (name file address area : Text) → line ≡ due_line name file address area
     → IsFileWord file → IsPlainWord address → IsPlainWord area → GivesJob result (OfExplain (record (plain_explain file address) { due = Some area }))
 
--- if the line is `abr page` with a file, the job writes the page of it to standard output, without progress
+-- if the line is `abr page` with a file, the job writes the page of it to standard output, without
+-- progress
 abbrev pub GivesPage : List Text → Result Job Usage → Type 0
 GivesPage line result = (name file : Text) → line ≡ page_line name file → IsFileWord file → GivesJob result (OfPage (plain_page file))
 
--- if the line is `abr page` with a file, `-o` or `--output`, and another, the job writes the page of the first to the second
+-- if the line is `abr page` with a file, `-o` or `--output`, and another, the job writes the page
+-- of the first to the second
 abbrev pub GivesOutput : List Text → Result Job Usage → Type 0
 GivesOutput line result =
     (name file flag output : Text) → line ≡ output_line name file flag output → IsOutputFlag flag
     → IsFileWord file → IsFileWord output → GivesJob result (OfPage (record (plain_page file) { output = Some output }))
 
--- if the line is `abr capture` with a file and any of its options and flags, in the order of the help, the job is `capture` with these, and has none of the others
+-- if the line is `abr capture` with a file and any of its options and flags, in the order of the
+-- help, the job is `capture` with these, and has none of the others
 abbrev pub GivesCapture : List Text → Result Job Usage → Type 0
 GivesCapture line result = (name : Text) (t : CaptureTexts) → line ≡ capture_line name t → AreReadable t → GivesJob result (OfCapture t)
 
@@ -721,7 +746,8 @@ abbrev pub GivesFollowFormat : List Text → Result Job Usage → Type 0
 GivesFollowFormat line result =
     (name : Text) (format : Format) → line ≡ follow_format_line name format → GivesJob result (OfFollow (record plain_follow { format = format }))
 
--- if the line is `abr explain` with a file, a plain word and `--format`, the job explains the word in that form
+-- if the line is `abr explain` with a file, a plain word and `--format`, the job explains the word
+-- in that form
 abbrev pub GivesExplainFormat : List Text → Result Job Usage → Type 0
 GivesExplainFormat line result =
     (name file address : Text) (format : Format) → line ≡ explain_format_line name file address format
@@ -732,25 +758,29 @@ abbrev pub GivesFormat : List Text → Result Job Usage → Type 0
 GivesFormat line result =
     GivesReplayFormat line result × GivesChangesFormat line result × GivesFollowFormat line result × GivesExplainFormat line result
 
--- if the line is `abr replay` with a file and `--progress`, the job is `replay` of it, with progress
+-- if the line is `abr replay` with a file and `--progress`, the job is `replay` of it, with
+-- progress
 abbrev pub GivesReplayProgress : List Text → Result Job Usage → Type 0
 GivesReplayProgress line result =
     (name file : Text) → line ≡ replay_progress_line name file
     → IsFileWord file → GivesJob result (OfReplay (record (plain_replay file) { progress = true }))
 
--- if the line is `abr changes` with a file and `--progress`, the job is `changes` of it, with progress
+-- if the line is `abr changes` with a file and `--progress`, the job is `changes` of it, with
+-- progress
 abbrev pub GivesChangesProgress : List Text → Result Job Usage → Type 0
 GivesChangesProgress line result =
     (name file : Text) → line ≡ changes_progress_line name file
     → IsFileWord file → GivesJob result (OfChanges (record (plain_changes file) { progress = true }))
 
--- if the line is `abr explain` with a file, a plain word and `--progress`, the job explains the word, with progress
+-- if the line is `abr explain` with a file, a plain word and `--progress`, the job explains the
+-- word, with progress
 abbrev pub GivesExplainProgress : List Text → Result Job Usage → Type 0
 GivesExplainProgress line result =
     (name file address : Text) → line ≡ explain_progress_line name file address
     → IsFileWord file → IsPlainWord address → GivesJob result (OfExplain (record (plain_explain file address) { progress = true }))
 
--- if the line is `abr page` with a file and `--progress`, the job writes the page of it, with progress
+-- if the line is `abr page` with a file and `--progress`, the job writes the page of it, with
+-- progress
 abbrev pub GivesPageProgress : List Text → Result Job Usage → Type 0
 GivesPageProgress line result =
     (name file : Text) → line ≡ page_progress_line name file

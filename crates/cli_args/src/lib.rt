@@ -2,7 +2,7 @@
 //! the command.
 //!
 //! `--due` takes the area as its value, and the network or router is given where the address would
-//! be: an option has one value.
+//! be: an option has one value. `--version` prints one version, which all commands share.
 #![tactic(auto)]
 
 mod command;

@@ -45,12 +45,12 @@ answers words g line say h = record {
   printed = h.printed ∙ ap (λ (w : List ℕ). lookup_line w h.table h.found) (sym say.lookup.spelled);
 }
 
--- the pieces of the format, as they are written one behind the other
+-- the pieces of the format, as they are written one after the other
 pub line_printed : (line word : List ℕ) (serial : ℕ) (t : TableValue) (found : Match)
     → line ≡ codes "lookup " ++ (word ++ (codes " " ++ (decimal serial ++ (codes " " ++ (match_text found ++ codes "\n"))))) → serial ≡ t.serial → line ≡ lookup_line word t found
 line_printed line word serial t found written is = written ∙ rw is (simp append_assoc)
 
--- the answer for a fault is that of the fault, or that of want of memory
+-- the answer for a fault is for the fault, or for a lack of memory
 pub fault_answers : (Prints : List ℕ → Type 0) (Is : CommandFault → Type 0) (f : CommandFault) (a : AnswerValue) → Is f → Is fault.Memory → (a ≡ faulty f) ⊎ (a ≡ faulty fault.Memory) → IsAnswer Prints Is a
 fault_answers Prints Is f a h memory (inl e) = inr (f, h, e)
 fault_answers Prints Is f a h memory (inr e) = inr (fault.Memory, memory, e)

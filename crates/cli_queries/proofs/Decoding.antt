@@ -7,7 +7,7 @@ use Rattle.ospf_types.specs.declared.lsa.Header.{Header}
 use Rattle.ospf_types.specs.Text.{address_text}
 use Rattle.cli_queries.specs.Decode.{front_text, ids_text, instance_text, fields_text}
 
--- the pieces of a format, as they are written one behind the other
+-- the pieces of a format, as they are written one after the other
 two : (p a q b : List ℕ) → p ++ (a ++ (q ++ b)) ≡ p ++ a ++ q ++ b
 two p a q b = simp append_assoc
 

@@ -1,4 +1,4 @@
--- What a forwarder learns of two events, and what it sees then.
+-- The events that a forwarder learns of, and its lookup afterwards.
 use Rattle.std.proofs.Common.{ℕ, ◌≡◌, ◌⊎◌, ◌<◌, ◌+◌, ◌++◌, ◌∙◌, Bool, true, false, List, [], ◌∷◌, Some, None, Result, Ok, Err, IfOk, length, length-append, ap, sym, subst, refl, arith, inl, inr}
 use Rattle.std.specs.Prelude.{nat_le, ◌||◌}
 use Rattle.std.proofs.lemmas.Bool.Decides.{nat_tests}
@@ -31,14 +31,14 @@ use Rattle.cli_queries.specs.One.{Given, HasLearned, Prints, PrintsSeen, both_ev
 pub same_beginning : {A : Type 0} (xs ys zs : List A) → IsPrefix xs zs → IsPrefix ys zs → length xs ≡ length ys → xs ≡ ys
 same_beginning xs ys zs p q same = prefix_whole xs ys (prefix_shorter xs ys zs p q (omega (arith, same))) (omega (arith, same))
 
--- what is learned is what was told where that is longer than what was known
+-- the list that is learned is the token's, if it is longer than the one that was known
 longer_is : {A : Type 0} (known told now : List A) → IsPrefix told now → (now ≡ known) ⊎ (now ≡ told) → length told ≡ length known + 1 → now ≡ told
 longer_is known told now p (inr same) more = same
 longer_is known told now p (inl same) more =
     let short = prefix_length told known (subst (IsPrefix told) same p) in
     absurd (omega (arith, short, more))
 
--- of a list and an event that were told, the list was known
+-- of a list and an event in a token, the list was known
 pub known_before : {A : Type 0} (known told now before : List A) (e : A) → IsPrefix known now → IsPrefix told now → told ≡ before ++ e ∷ [] → length told ≡ length known + 1 → before ≡ known
 known_before known told now before e p q is more =
     let within = prefix_trans before told now (e ∷ [], sym is) q in
@@ -79,7 +79,7 @@ module _ (base : Base) (known : List Event) (first : base.serial ≡ 0) (few : l
   refusal_is e r other (inr (inl (memory, none))) = inr (memory, lasting_is e ∙ none)
   refusal_is e r other (inr (inr (full, none))) = absurd (other full)
 
--- ---- what an engine tells
+-- ---- the promises of an engine
 
 -- an answer with a token
 told_answer : (name : Name) (e : Event) (a : Answer) (t : TokenValue) → Answers name e a → a.told ≡ Some t

@@ -37,7 +37,7 @@ again : (n : ℕ) → n < 2 ^ 32 → address_of (read_ipv4 (address_text n ++ []
 unfolding address_of
 again n fits = ap address_of (read_ipv4_complete (address_text n) (to_be_bytes w32 n) [] (address_dotted n fits) (lit≤ tt)) ∙ from_be_bytes-to_be_bytes_4 n fits
 
--- no text is that of two addresses
+-- no two addresses have one text
 one_address : (m n : ℕ) → m < 2 ^ 32 → n < 2 ^ 32 → address_text m ≡ address_text n → m ≡ n
 one_address m n first second same = sym (again m first) ∙ ap (λ text. address_of (read_ipv4 (text ++ []))) same ∙ again n second
 

@@ -1,4 +1,4 @@
--- What was said of a fault.
+-- The line that was printed for a fault.
 use Rattle.std.proofs.Common.{ℕ, List, [], Option, Some, None, inl, inr, sym}
 use Rattle.std.proofs.lemmas.List.{append-nil}
 use Rattle.std.specs.Io.KnownBytes.{Appends}

@@ -1,4 +1,4 @@
--- Tables of advice, one behind the other.
+-- Tables of advice, one after the other.
 use Rattle.std.proofs.Common.{ℕ, ◌≡◌, ◌∙◌, ◌==◌, ◌++◌, sym, ap, ap₂, refl, List, Option, Some, None, option_map}
 use Rattle.std.specs.Borrow.{Bor}
 use Rattle.std.specs.Option.{option_or}

@@ -1,8 +1,8 @@
--- What each number of a fault or a refusal means, and what to do about it.
+-- The meaning of each number of a fault or a refusal, and what to do about it.
 use Rattle.std.specs.Prelude.{ℕ, ◌==◌, ◌++◌, List, [], ◌∷◌, Option, codes, option_map}
 use Rattle.std.specs.List.{find}
 
--- a number, and its advice: the name, a sentence that says what holds, and a sentence that says what to do
+-- a number, and its advice: the name, a sentence with its meaning, and a sentence with what to do
 abbrev pub Advice : Type 0
 Advice = ℕ × List ℕ
 

@@ -1,4 +1,4 @@
--- What a command answers, and what the program wrote of it.
+-- The answer of a command, and what the program wrote of it.
 use Rattle.std.specs.Prelude.{ℕ, ◌≡◌, ◌⊎◌, List, [], Option, string_bytes}
 use Rattle.std.specs.Io.KnownBytes.{Appends}
 use Rattle.replay.specs.Writing.{AppendsPart}
@@ -26,13 +26,14 @@ value_of (answer.Printed text) = printed (string_bytes text)
 value_of (answer.Fault status line) = record { status = status; output = []; fault = string_bytes line }
 value_of answer.NoMemory = faulty fault.Memory
 
--- the answer is a text that the command prints, or one of its faults
+-- a text that the command prints, or one of its faults
 abbrev pub IsAnswer : (List ℕ → Type 0) → (CommandFault → Type 0) → AnswerValue → Type 0
 IsAnswer Prints IsFault a = ((text : List ℕ) × Prints text × (a ≡ printed text)) ⊎ ((f : CommandFault) × IsFault f × (a ≡ faulty f))
 
 -- ---- what was written
 
--- a writer's known bytes grew by the line, and the status is the one that is meant; or by a part of it, and the status is 1
+-- a writer's known bytes grew by the line, and the status is the one that is meant; or by a part of
+-- it, and the status is 1
 abbrev pub IsSaid : (line : List ℕ) (meant : ℕ) (status : ℕ) (old new : Option (List ℕ)) → Type 0
 IsSaid line meant status old new = ((status ≡ meant) × Appends old new line) ⊎ ((status ≡ 1) × AppendsPart old new line)
 
@@ -44,7 +45,8 @@ IsSaidOf f status old new = (status ≡ 1) × (Appends old new (fault_line (comm
 abbrev pub IsWritten : AnswerValue → (status : ℕ) (output output_now fault fault_now : Option (List ℕ)) → Type 0
 IsWritten a status o on f fn = Appends o on a.output × IsSaid a.fault a.status status f fn
 
--- That the output is not written whole was said on standard error; but where its pipe was closed, nothing was written there. The status is 1.
+-- A line on standard error says that the output is not written whole. If its pipe was closed,
+-- nothing was written there. The status is 1.
 abbrev pub IsUnwrittenSaid : WriteError → (status : ℕ) (old new : Option (List ℕ)) → Type 0
 IsUnwrittenSaid Failed status old new = IsSaidOf fault.Write status old new
 IsUnwrittenSaid Closed status old new = (status ≡ 1) × (new ≡ old)
@@ -53,11 +55,12 @@ IsUnwrittenSaid Closed status old new = (status ≡ 1) × (new ≡ old)
 abbrev pub IsCutShort : AnswerValue → (status : ℕ) (output output_now fault fault_now : Option (List ℕ)) → Type 0
 IsCutShort a status o on f fn = AppendsPart o on a.output × ((why : WriteError) × IsUnwrittenSaid why status f fn)
 
--- The program told the answer: all that it wrote to both streams, and its status. The status is that of the answer, but where a writer failed 1.
+-- The program wrote the answer: all that it wrote to both streams, and its status. The status is
+-- the answer's, or 1 if a writer failed.
 abbrev pub IsTold : AnswerValue → (status : ℕ) (output output_now fault fault_now : Option (List ℕ)) → Type 0
 IsTold a status o on f fn = IsWritten a status o on f fn ⊎ IsCutShort a status o on f fn
 
--- one of such answers was told
+-- one of such answers was written
 pub record Tells (Is : AnswerValue → Type 0) (status : ℕ) (output output_now fault fault_now : Option (List ℕ)) : Type 0 where
   pub answer : AnswerValue
   pub is : Is answer

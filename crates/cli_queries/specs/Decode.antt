@@ -13,7 +13,7 @@ use Rattle.cli_queries.specs.declared.command_fault.CommandFault.TheVariants as 
 use Rattle.cli_queries.specs.Words.{IsHexadecimal, WritesLsa, HasWireFault}
 use Rattle.cli_queries.specs.Answers.{AnswerValue, IsAnswer}
 
--- the fields of a header, each behind its name; Options, sequence number and checksum in hexadecimal
+-- the fields of a header, each after its name; Options, sequence number and checksum in hexadecimal
 abbrev pub front_text : Header → List ℕ
 front_text h = codes "age " ++ decimal h.age ++ codes " options " ++ encode_lower (h.options ∷ []) ++ codes " kind " ++ decimal h.kind
 
@@ -41,7 +41,7 @@ pub record Decodes (long : Bool) (word text : List ℕ) : Type 0 where
   pub given : WritesLsa word lsa
   pub printed : text ≡ printed_lsa long lsa
 
--- why there are no lines
+-- the reason why no lines are printed
 abbrev pub IsDecodeFault : List ℕ → CommandFault → Type 0
 IsDecodeFault word (fault.Word NotAnAddress) = ⊥
 IsDecodeFault word (fault.Word NotHexadecimal) = ¬ IsHexadecimal word
@@ -52,6 +52,6 @@ IsDecodeFault word (fault.Wire f) = HasWireFault word f
 IsDecodeFault word fault.Memory = Unit {0}
 IsDecodeFault word _ = ⊥
 
--- the answer of `abr decode` with this word, and whether each field is to have a line
+-- the answer of `abr decode` with this word, with a line for each field if asked for
 abbrev pub IsDecodeAnswer : Bool → List ℕ → AnswerValue → Type 0
 IsDecodeAnswer long word = IsAnswer (Decodes long word) (IsDecodeFault word)

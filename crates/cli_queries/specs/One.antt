@@ -1,4 +1,5 @@
--- What `abr one` answers: the longest match of an address (RFC 2328, 11.1) in the table that one LSA gives a router with one area and one interface.
+-- The answer of `abr one`: the longest match of an address (RFC 2328, 11.1) in the table that one
+-- LSA gives a router with one area and one interface.
 use Rattle.std.specs.Prelude.{ℕ, ◌≡◌, ◌⊎◌, ◌++◌, List, [], ◌∷◌, None, codes, decimal, length, true, false}
 use mathlib.Core.List.{IsPrefix}
 use Rattle.ospf_types.specs.declared.config.Config.{Config}
@@ -110,7 +111,8 @@ abbrev pub IsRefused : Given → Refusal → Type 0
 IsRefused g r = IsRefusalOf (state_after g []) (interface_event g) r
     ⊎ ((refusal_of (state_after g []) (interface_event g) ≡ None) × IsRefusalOf (state_after g (interface_event g ∷ [])) (install_event g) r)
 
--- what was known begins the list that is known now, and so does what was told; it is one of the two
+-- the list that was known is a prefix of the one that is known now, and so is the token's list; it
+-- is one of the two
 pub record HasLearned (known told now : List Event) : Type 0 where
   pub before : IsPrefix known now
   pub told_too : IsPrefix told now
@@ -138,8 +140,9 @@ IsEngineFault g fault.NoEntry = config_fault_of (config_of g) ≡ None
 IsEngineFault g fault.Memory = Unit {0}
 IsEngineFault g _ = ⊥
 
--- Why there is no line. A word's fault is that of the first at fault, the LSA is judged once all words are read, and the configuration and
--- the events once the LSA is. Want of memory may come anywhere.
+-- The reason why nothing is looked up. A word's fault is the fault of the first word that has one.
+-- The LSA is read once all words are, and the configuration and the events are tested once the LSA
+-- is read. Memory may run out anywhere.
 abbrev pub IsFault : OneTexts → CommandFault → Type 0
 IsFault words (fault.Word f) = IsFirstFault words f
 IsFault words (fault.Wire f) = AreRead words × HasWireFault words.lsa f

@@ -1,4 +1,4 @@
--- What is answered to words that name no command.
+-- The answer to words that name no command.
 use Rattle.std.specs.Prelude.{ℕ, ◌≡◌, ◌≢◌, ◌⊎◌, List, []}
 use Rattle.clap.specs.Words.{kind_of}
 use Rattle.clap.specs.declared.error.Error.{Error}
@@ -17,11 +17,12 @@ IsWrong kind = (kind ≢ DisplayHelp) × (kind ≢ DisplayVersion)
 abbrev pub mistaken : List ℕ → AnswerValue
 mistaken text = record { status = 2; output = []; fault = text }
 
--- Help and the version are printed, and a mistake is told with status 2. Which text they have is not stated.
+-- Help and the version are printed, and a mistake is printed with status 2. Their text is not
+-- stated.
 abbrev pub IsErrorAnswer : Error → AnswerValue → Type 0
 IsErrorAnswer e a = (text : List ℕ) × ((IsWrong (kind_of e) × (a ≡ mistaken text)) ⊎ ((¬ IsWrong (kind_of e)) × (a ≡ printed text)))
 
--- the same, but want of memory may come anywhere
+-- the same, but memory may run out anywhere
 abbrev pub IsUsageAnswer : Usage → AnswerValue → Type 0
 IsUsageAnswer (Told e) a = IsErrorAnswer e a ⊎ (a ≡ faulty fault.Memory)
 IsUsageAnswer Memory a = a ≡ faulty fault.Memory

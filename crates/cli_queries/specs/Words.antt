@@ -1,4 +1,4 @@
--- What the words of a command mean.
+-- The meaning of the words of a command.
 use Rattle.std.specs.Prelude.{ℕ, ◌≡◌, ◌^◌, ◌<◌, ◌⊎◌, List, Some, None, Ok, IsOk, codes}
 use Rattle.hex.specs.Hex.{decode_of}
 use Rattle.ospf_types.specs.Lsa.{Lsa}

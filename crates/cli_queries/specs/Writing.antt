@@ -1,4 +1,4 @@
--- What a word writes.
+-- The number or the network that a word writes.
 use Rattle.std.specs.Prelude.{ℕ, ◌≡◌, ◌≢◌, ◌^◌, ◌<◌, ◌≤◌, List, decimal, length, slice_index}
 use Rattle.ospf_types.specs.declared.prefix.Prefix.{Prefix}
 use Rattle.ospf_types.specs.Masks.{masked}

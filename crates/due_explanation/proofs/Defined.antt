@@ -1,4 +1,5 @@
--- What is due by what is calculated of a state is due by the definitions (RFC 2328, 12.4.3).
+-- A summary that is due by the results calculated of a state is due by the definitions (RFC 2328,
+-- 12.4.3).
 use Rattle.std.proofs.Common.{◌≡◌, ℕ, Option, sym, subst}
 use Rattle.std.specs.Prelude.{◌↔◌, Contains}
 use Rattle.ospf_types.specs.declared.config.AreaConfig.{AreaConfig}

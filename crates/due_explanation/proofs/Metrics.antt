@@ -1,4 +1,4 @@
--- The metric that is told is the one at which the summary is due by the definitions.
+-- The metric of the explanation is the one at which the summary is due by the definitions.
 use Rattle.std.proofs.Common.{◌≡◌, ℕ, List, [], ◌∷◌, true, false, cond, Option, Some, None, refl, sym, ap, subst, ◌∙◌, inl, inr}
 use Rattle.std.specs.Prelude.{◌==◌, Contains}
 use Rattle.std.proofs.lemmas.Bool.Decides.{Decides-eqb}

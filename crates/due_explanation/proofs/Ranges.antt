@@ -1,4 +1,4 @@
--- Whether a range of an area has a network.
+-- The test if a range of an area has a network.
 use Rattle.std.proofs.Common.{ℕ, List, subst, sym, refl}
 use Rattle.std.specs.Prelude.{Contains}
 use Rattle.std.proofs.lemmas.List.Elements.{All-contains}

@@ -11,7 +11,7 @@ use Rattle.due_explanation.specs.ReasonLines.{sources_of}
 use Rattle.due_explanation.specs.Words.{due_words, due_source_words}
 use Rattle.due_explanation.specs.Objects.{due_line_data, due_source_data}
 
--- whether the summary is due, and the reason
+-- if the summary is due, and the reason
 abbrev pub due_line : Format → (area : ℕ) → Dest → DueExplained → List ℕ
 due_line Text area d x = due_words area d x ++ codes "\n"
 due_line Json area d x = json_line (due_line_data area d x)
@@ -21,6 +21,6 @@ abbrev pub due_source_line : Format → DueSource → List ℕ
 due_source_line Text s = due_source_words s ++ codes "\n"
 due_source_line Json s = json_line (due_source_data s)
 
--- whether the summary is due, and then each of its sources, in their order
+-- if the summary is due, and then each of its sources, in their order
 abbrev pub due_explanation_text : Format → (area : ℕ) → Dest → DueExplained → List ℕ
 due_explanation_text format area d x = due_line format area d x ++ flat_map (due_source_line format) (sources_of x.reason)

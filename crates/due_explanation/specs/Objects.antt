@@ -16,7 +16,7 @@ abbrev pub reason_members : Option (List ℕ) → List Member
 reason_members None = []
 reason_members (Some reason) = (codes "reason", string reason) ∷ (codes "step", string step_text) ∷ []
 
--- whether the summary is due, and at which metric, for this reason
+-- if the summary is due, and at which metric, for this reason
 abbrev pub metric_data : (area : ℕ) → Dest → Option ℕ → (reason : Option (List ℕ)) → Data
 metric_data area d (Some metric) reason = object_of (
     (codes "area", address_data area)
@@ -30,7 +30,7 @@ metric_data area d None reason = object_of (
     ∷ (codes "kind", number_data (kind_of d))
     ∷ (reason_members reason ++ (codes "type", string (codes "undue")) ∷ []))
 
--- whether the summary is due, and the reason
+-- if the summary is due, and the reason
 abbrev pub due_line_data : (area : ℕ) → Dest → DueExplained → Data
 due_line_data area d x = metric_data area d x.metric (due_reason_text x.reason)
 

@@ -21,7 +21,7 @@ use Rattle.due_explanation.specs.declared.due.DueSource.{DueSource}
 use Rattle.due_explanation.specs.declared.due.SourceKind.{SourceKind}
 use Rattle.due_explanation.specs.declared.due.SourceKind.TheVariants as kind
 
--- ---- the verdict on a source by itself, whatever the area: it gives a summary if nothing prevents it
+-- ---- the verdict on a source by itself, for any area: it gives a summary if nothing prevents it
 
 -- an inter-area route, or the route of an AS boundary router
 abbrev pub IsRouteFate : ℕ → DueVerdict → Type 0
@@ -112,7 +112,7 @@ GivesInto area s metric = (s.area ≢ area) × (s.verdict ≡ verdict.Given) × 
 abbrev pub GivesAmong : ℕ → List DueSource → ℕ → Type 0
 GivesAmong area sources metric = (s : DueSource) × Contains sources s × GivesInto area s metric
 
--- what becomes of it: whether it is of the area itself, and whether its cost is the metric
+-- its verdict: it depends on its area and on its cost
 abbrev pub fate_in : Bool → Bool → DueVerdict → DueVerdict
 fate_in true reached f = verdict.OwnArea
 fate_in false false verdict.Given = verdict.Lesser

@@ -19,7 +19,7 @@ dest_text (Router router) = address_text router
 abbrev pub place_text : (area : ℕ) → Dest → List ℕ
 place_text area d = address_text area ++ codes " " ++ decimal (kind_of d) ++ codes " " ++ dest_text d
 
--- whether the summary is due, and at which metric
+-- if the summary is due, and at which metric
 abbrev pub metric_text : (area : ℕ) → Dest → Option ℕ → List ℕ
 metric_text area d (Some metric) = codes "due " ++ place_text area d ++ codes " " ++ decimal metric
 metric_text area d None = codes "undue " ++ place_text area d
@@ -29,7 +29,7 @@ abbrev pub at_text : Option (List ℕ) → List ℕ
 at_text (Some reason) = codes " at " ++ step_text ++ codes ": " ++ reason
 at_text None = []
 
--- whether the summary is due, and the reason
+-- if the summary is due, and the reason
 abbrev pub due_words : (area : ℕ) → Dest → DueExplained → List ℕ
 due_words area d x = metric_text area d x.metric ++ at_text (due_reason_text x.reason)
 

@@ -1,4 +1,4 @@
-//! The area that a summary would be originated into, and whether it is active.
+//! The area that a summary would be originated into, and if it is active.
 ghost use Rattle.std.specs.Prelude.{◌≡◌, ◌↔◌, Contains, IsTrue, option_copied};
 ghost use Rattle.due_explanation.specs.Reasons.{AreSeveral, area_with};
 

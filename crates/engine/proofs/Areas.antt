@@ -1,4 +1,4 @@
--- An area that is configured in the one configuration is configured in another that differs in ranges alone.
+-- An area of one configuration is in any other that differs only in ranges.
 use Rattle.std.proofs.Common.{◌≡◌, ℕ, List, subst}
 use Rattle.std.specs.Prelude.{Contains, map}
 use Rattle.ospf_types.specs.declared.config.AreaConfig.{AreaConfig}

@@ -1,4 +1,4 @@
--- What is due in an area, and whether the area is configured.
+-- The summaries due in an area, and the test if the area is configured.
 use Rattle.std.proofs.Common.{◌≡◌, ℕ, List, take, Option, Some, None, sym, ap, subst, ◌∙◌}
 use Rattle.std.specs.Prelude.{◌++◌}
 use Rattle.ospf_types.specs.declared.config.AreaConfig.{AreaConfig}

@@ -1,4 +1,5 @@
--- The changes of an event lead from the published table to the new one, where the published list was the whole one.
+-- The changes of an event lead from the published table to the new one, if the published list was
+-- the whole one.
 use Rattle.std.proofs.Common.{◌≡◌, ◌+◌, List, length, subst}
 use Rattle.std.specs.Prelude.{◌++◌}
 use Rattle.std.specs.FinMap.{FinMap}

@@ -1,8 +1,9 @@
--- What lies under the lock stays kept: by an event, by catching up, by what the author adds, by a publication, and by a roll.
+-- The rule of the state under the lock is kept: by an event, by catching up, by an addition of the
+-- author, by a publication, and by a roll.
 --   core_kept: the core took an event, or caught up
 --   author_kept: the author added to the history
 --   shown_kept: something was published, or it was refused
---   shown_fresh: what was published is that of the whole list
+--   shown_fresh: the published table reflects the whole list
 --   opened_right: what is shown first is right
 --   caught_up: what catching up answered
 --   opened_kept, opened_fresh: the first state
@@ -131,7 +132,7 @@ pub none_named : (name : Name) (seat : ℕ) (n : Name) → get_elem? (None ∷ [
 none_named name zero n e = absurd (cc e)
 none_named name (suc k) n e = absurd (cc e)
 
--- what the core's catching up answered, as the state of an engine tells it
+-- the answer of the core's catching up, as the answer of an engine's state
 pub caught_up : (old new : CoreValue) (s : Status) (rolled : Line) (before after : Held) → before.built ≡ length rolled.list + old.built → after.list ≡ list_of rolled new → after.built ≡ length rolled.list + new.built
     → MatchesStatus old s new → CatchesUp before s after
 caught_up old new Current rolled before after built list now stands = omega (arith, now, stands.0, ap length list, length-append rolled.list new.journal)

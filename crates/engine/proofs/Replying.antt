@@ -1,4 +1,4 @@
--- What a token shows of the answer that it comes with.
+-- The meaning of a token for the answer that it comes with.
 use Rattle.std.proofs.Common.{◌≡◌, ◌≢◌, ◌≤◌, ◌+◌, ℕ, Bool, false, List, [], ◌∷◌, ◌++◌, length, Option, Some, None, IfSome, IfNone, MatchOption, sym, ap, subst, ◌∙◌, arith, append_assoc, length-append}
 use Rattle.std.specs.Prelude.{◌↔◌, take}
 use Rattle.std.proofs.lemmas.List.{length-take-le}
@@ -41,7 +41,7 @@ module _ (first : Base) (rolled : List Event) (old : CoreValue) (is : IsRolled f
         changed = (λ p. across.0 (told.0 p), λ l. told.1 (across.1 l));
       }
 
-  -- the serial of the core is that of the whole list
+  -- the serial of the core is the serial of the whole list
   pub serial_now : (now : CoreValue) (serial : ℕ) → now ≡ old → serial ≡ serial_of (state_of now) → serial ≡ first.serial + length (rolled ++ old.journal)
   serial_now now serial same count = count ∙ ap (λ (v : CoreValue). serial_of (state_of v)) same ∙ serial_whole first rolled old is limits old.journal
 
@@ -87,7 +87,8 @@ answers name before e a told engine_state serial as_said replies same state same
       by_told name before e a told same more state (tells_whole engine_state.name engine_state.list serial told name (before ++ e ∷ []) same_name whole count is),
     )
 
--- where an engine's state has no token for the serial of a list, that list is not empty: a published list is no longer than what was built
+-- if an engine's state has no token for the serial of a list, that list is not empty: a published
+-- list is no longer than the list that was built
 unpublished : (first n : ℕ) (list published : List Event) → n ≡ first + length list → length published ≤ length list → ¬ (n ≡ first + length published) → list ≢ []
 unpublished first n list published count short other is = other (omega (arith, count, ap length is, short))
 
@@ -99,7 +100,8 @@ tells_beside name had n (Some t) published list begins count short none some =
     let long : length t.list ≡ length list = omega (arith, count, some.2) in
     (some.0, prefix_whole t.list list (prefix_shorter t.list list had some.1 begins (omega (arith, long))) (omega (arith, long)))
 
--- a token for the whole list has its list, and it is the published one. Where there is none, less is published
+-- A token for the whole list has its list, and it is the published one. If there is none, less is
+-- published.
 pub told_whole : (n : ℕ) (told : Option TokenValue) (name : Name) (whole published : List Event) → n ≡ name.base.serial + length whole
     → IfNone told (¬ (n ≡ name.base.serial + length published)) → IfSome told (Tells name whole n) → IfSome told (λ t. t.list ≡ published)
     → MatchOption told (¬ (length whole ≡ length published)) (λ t. (t.list ≡ whole) × (t.list ≡ published))

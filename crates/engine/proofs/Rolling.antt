@@ -1,5 +1,5 @@
 -- An engine's state whose core is rolled stays kept: the history as it is then is what was rolled.
---   begun_as, whole_begun: what the author adds behind what was rolled
+--   begun_as, whole_begun: the author's additions after the rolled history
 --   rolled_kept, rolled_fresh: a roll
 --   roll_refusal: why there is none
 --   rolled_base: what the core's base is
@@ -21,7 +21,7 @@ use Rattle.publication.proofs.Prefixes.{prefix_self, prefix_take}
 use Rattle.engine.specs.EngineStates.{Held, IsBegun, IsKept, IsFresh, IsRollRefusal, list_of}
 use Rattle.engine.proofs.Runs.{legal_core, serial_whole, whole_state}
 
--- what is taken of a list behind another
+-- a part of a list after another
 take_past : (xs ys : List Event) (n : ℕ) → take (length xs + n) (xs ++ ys) ≡ xs ++ take n ys
 take_past [] ys n =
     let count : length {A = Event} [] + n ≡ n = omega arith in
@@ -77,12 +77,12 @@ rolled_kept old new history rolled next shown known core rolls as_written publis
       written = rolled_begun old new rolled next history.list rolls same written;
     }
 
--- the whole list is as it was
+-- the whole list is unchanged
 pub rolled_list : (old new : CoreValue) (history rolled next : Line) → Rolls old new → next ≡ history → history.list ≡ list_of rolled old → list_of next new ≡ list_of rolled old
 rolled_list old new history rolled next rolls as_written written =
     ap (λ (j : List Event). next.list ++ j) rolls.journal ∙ append-nil next.list ∙ ap (λ (l : Line). l.list) as_written ∙ written
 
--- and so nothing is behind
+-- and so nothing follows
 pub rolled_fresh : (old new : CoreValue) (history rolled next : Line) (shown : PublishedTable) (pending : List Update) → Rolls old new → next ≡ history → IsFresh false old history rolled shown pending
     → IsFresh false new history next shown pending
 rolled_fresh old new history rolled next shown pending rolls as_written fresh =

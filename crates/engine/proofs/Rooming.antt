@@ -1,4 +1,4 @@
--- The steps of the slot beside the lock keep its rule.
+-- The steps of the slot next to the lock keep its rule.
 use Rattle.std.proofs.Common.{◌≡◌, ℕ, zero, suc, List, [], ◌∷◌, Option, set, length, slice_index, refl, sym, ap, ◌∙◌, subst, arith}
 use mathlib.Core.Option.{some, none}
 use lib.ListN.{get_elem?}

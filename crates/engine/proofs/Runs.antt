@@ -1,6 +1,6 @@
 -- Runs of lists of events, and what a core says of the whole list, across rolls.
 --   legal_more: a legal list with one event more
---   legal_core, legal_built, table_core, table_whole: of a core whose base some list was rolled into
+--   legal_core, legal_built, table_core, table_whole: for a core whose base has rolled events
 --   refused_whole, looks_whole: what the core says of an event
 use Rattle.std.proofs.Common.{◌≡◌, ◌+◌, ℕ, zero, suc, List, [], ◌∷◌, ◌++◌, length, take, None, refl, sym, ap, subst, ◌∙◌}
 use Rattle.std.specs.Prelude.{◌⊎◌, ◌↔◌, Option, Some}
@@ -49,7 +49,8 @@ looks_since b s t h = record { config = h.config; usable = h.usable; interfaces 
 looks_from : (b : Base) (s t : State) → LooksAlike (since b s) (since b t) → LooksAlike s t
 looks_from b s t h = record { config = h.config; usable = h.usable; interfaces = h.interfaces }
 
--- two states that are the same but for base and journal look alike where two others do that are the same as these
+-- two states that differ only in base and journal look alike if two others do that are the same as
+-- these
 pub looks_across : (b : Base) (s t u v : State) → since b s ≡ since b u → since b t ≡ since b v → LooksAlike s t ↔ LooksAlike u v
 looks_across b s t u v one two = (
   λ h. looks_from b u v (subst (λ (z : State × State). LooksAlike z.0 z.1) (λ i. (one i, two i)) (looks_since b s t h)),
@@ -95,11 +96,11 @@ module _ (first : Base) (rolled : List Event) (c : CoreValue) (is : IsRolled fir
   lasting_whole : (e : Event) → lasting_refusal_of (run_of c.base c.limits c.journal) e ≡ lasting_refusal_of (run_of first standard_limits (rolled ++ c.journal)) e
   lasting_whole e = ap (λ (l : Limits). lasting_refusal_of (run_of c.base l c.journal) e) limits ∙ whole_refusal first standard_limits rolled c.base is c.journal e
 
-  -- an event that the core takes may be taken behind the whole list
+  -- an event that the core takes may be taken after the whole list
   pub accepted_whole : (e : Event) → refusal_of (run_of c.base c.limits c.journal) e ≡ None → lasting_refusal_of (run_of first standard_limits (rolled ++ c.journal)) e ≡ None
   accepted_whole e none = sym (lasting_whole e) ∙ taken_lasts (run_of c.base c.limits c.journal) e none
 
-  -- one that it refuses is refused there, but that a full journal is that of the core
+  -- an event that it refuses is refused there; a full journal is a reason of the core alone
   pub refused_whole : (e : Event) (r : Refusal) → IsRefusalOf (run_of c.base c.limits c.journal) e r → IsLastingRefusalOf (run_of first standard_limits (rolled ++ c.journal)) e r
   refused_whole e r refused =
       let here = run_of c.base c.limits c.journal in

@@ -1,4 +1,4 @@
--- Right tables of one list are equal, and what differs between two tables leads from one to the other.
+-- Right tables of one list are equal, and the differences of two tables lead from one to the other.
 use Rattle.std.proofs.Common.{◌≡◌, ◌⊎◌, ℕ, List, Option, Some, None, refl, sym, ap, ◌∙◌, inl, inr}
 use Rattle.std.specs.Prelude.{Contains}
 use Rattle.std.specs.Coded.{Coded, coded_option}

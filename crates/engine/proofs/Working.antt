@@ -1,4 +1,4 @@
--- The answers of jobs are those of the lists that they were made of.
+-- The answers of jobs belong to the lists that the jobs were made of.
 use Rattle.std.proofs.Common.{◌≡◌, List, Vec, Global, Result, Ok, Err, IfOk, subst}
 use Rattle.std.specs.List.{AllZip}
 use Rattle.engine.specs.Answers.{AreAnswered}

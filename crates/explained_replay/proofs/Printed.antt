@@ -1,4 +1,4 @@
--- What is appended to a text piece by piece.
+-- A text to which pieces are appended.
 use Rattle.std.proofs.Common.{◌≡◌, ℕ, List, ◌++◌, codes, ap, ◌∙◌, append_assoc}
 use Rattle.std.specs.Prelude.{decimal}
 use Rattle.std.specs.Int.{w32, to_be_bytes}

@@ -27,7 +27,7 @@ trace_text format t = path_line format t.path ++ flat_map (link_line format) t.s
 abbrev pub candidate_text : Format → Candidate → List ℕ
 candidate_text format c = candidate_line format c ++ (if is_taken c.verdict then flat_map (trace_text format) c.traces.items else [])
 
--- whether it is an offer of the network
+-- true if it is an offer of the network
 abbrev pub is_of : Network → Candidate → Bool
 is_of p c = is_same_prefix c.offer.network p
 

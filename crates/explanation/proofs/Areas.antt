@@ -1,4 +1,5 @@
--- The areas of a state with their databases and trees: each tree is that of its database, and no two have one Area ID.
+-- The areas of a state with their databases and trees: each tree belongs to its database, and no
+-- two have one Area ID.
 use Rattle.std.proofs.Common.{◌≡◌, ◌<◌, ℕ, zero, suc, List, [], ◌∷◌, Some, None, length, get_or, refl, sym, ap, subst, ◌∙◌, arith}
 use Rattle.std.specs.Prelude.{Contains}
 use Rattle.std.proofs.lemmas.List.{get_or_default}

@@ -43,7 +43,7 @@ module _ (w : Layers) (o : Offer) (paths : List Path) where
   forwarded_as scope metric external traces some are = inr (inr (some, are))
 
 module _ (w : Layers) (all : List Offer) where
-  -- beside its rivals
+  -- compared with its rivals
   pub one_candidate : (p : Prefix) (group : List Offer) → AreOfNetwork p all group → (internal : Option Entry) (greatest : Option ℕ) (least : Option ExternalKey) → IsRivalsOf w p group internal greatest least
       → (o : Offer) → Contains group o → (before after : List Candidate) → (adds : AddsJudged w internal greatest least o before after) → IsCandidate w all adds.0
   one_candidate p group of internal greatest least rivals o among before after adds =

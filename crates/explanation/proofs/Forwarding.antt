@@ -17,7 +17,7 @@ use Rattle.explanation.specs.Offers.{IsPlaceOf, is_one_of}
 use Rattle.explanation.specs.Outside.{AddsForward, AreAllOf, AreForwards, AreMatched, AreNetworkTraces, GivesRoute, GivesTaken, HasTraces, match_by, networks_of}
 use Rattle.explanation.proofs.Rivals.{some_same}
 
--- what stands at the network's place
+-- the value at the network's place
 pub found_at : (networks : List Prefix) (forwards : List ForwardingMatch) → networks_of forwards ≡ networks → (place : ℕ) (p : Prefix) → IsPlaceOf networks p place → (f : ForwardingMatch) → f ≡ get_or forwards place f → Contains forwards f × (f.network ≡ p)
 found_at networks forwards listed place p is f here =
     let size : length forwards ≡ length networks = sym (length-map forwards (λ (x : ForwardingMatch). x.network)) ∙ ap (λ (ps : List Prefix). length ps) listed in

@@ -1,4 +1,5 @@
--- What an AS-external-LSA with a forwarding address is compared by, if its AS boundary router is reached.
+-- The key by which an AS-external-LSA with a forwarding address is compared, if its AS boundary
+-- router is reached.
 use Rattle.std.proofs.Common.{◌≡◌, ℕ, Result, Ok, Err, IfOk, IfErr, sym, subst}
 use Rattle.ospf_types.specs.declared.lsa.ExternalFields.{ExternalFields}
 use Rattle.explanation.specs.declared.verdict.Verdict.{Verdict}

@@ -1,4 +1,4 @@
--- What is taken within the AS has no other verdict, however often its rivals are looked for.
+-- An offer that is taken within the AS has no other verdict, however its rivals are ordered.
 use Rattle.std.proofs.Common.{◌≡◌, ◌≤◌, ◌+◌, ℕ, List, Option, Some, None, refl, sym, ap, subst, ◌∙◌, inl, inr, le_antisymm, arith}
 use Rattle.std.specs.Prelude.{Contains}
 use Rattle.ospf_types.specs.declared.entry.Entry.{Entry}
@@ -24,7 +24,7 @@ use Rattle.explanation.specs.Outside.{IsInRoute}
 use Rattle.explanation.proofs.Rivals.{some_same}
 use Rattle.explanation.proofs.Standings.{has_cost, one_cost, one_distance}
 
--- beside one route within the AS
+-- compared with one route within the AS
 alone : (e : Entry) (greatest : Option ℕ) (o : Offer) (area cost : ℕ) (f : Verdict) → IsFateWithin (Some e) greatest o area cost verdict.Taken → IsFateWithin (Some e) greatest o area cost f → f ≡ verdict.Taken
 alone e greatest o area cost verdict.IntraArea taken is = absurd (taken.3 is.1 is.0)
 alone e greatest o area cost verdict.Costlier taken is = let no_more = taken.0 in let more = is.0 in absurd (omega (arith, no_more, more))
@@ -34,7 +34,7 @@ alone e greatest o area cost verdict.Taken taken is = refl
 alone e greatest o area cost _ taken is = absurd is
 
 module _ (w : Layers) (are : AreAreas w.areas.now) where
-  -- the greatest Link State ID is that of these offers, in whatever order they are
+  -- the greatest Link State ID does not depend on the order of these offers
   one_greatest : (e : Entry) (these those : List Offer) → ((o : Offer) → Contains these o → Contains those o) → ((o : Offer) → Contains those o → Contains these o)
       → (g h : Option ℕ) → IsGreatestId w e these g → IsGreatestId w e those h → g ≡ h
   one_greatest e these those to fro None None one other = refl

@@ -1,4 +1,5 @@
--- The least key of the offers, and the Link State ID of a transit network among them, one offer after the other.
+-- The least key of the offers, and the Link State ID of a transit network among them, one offer
+-- after the other.
 use Rattle.std.proofs.Common.{◌≡◌, ◌⊎◌, ◌<◌, ◌≤◌, ◌+◌, ℕ, List, Option, Some, None, take, length, get_or, refl, sym, ap, subst, ◌∙◌, inl, inr, arith}
 use Rattle.std.specs.Prelude.{unwrap_or}
 use Rattle.ospf_types.proofs.Elements.{contains_more, no_element}

@@ -1,4 +1,4 @@
--- A search among networks that stand in their order.
+-- A search among networks in ascending order.
 use Rattle.std.proofs.Common.{◌≡◌, ◌<◌, ◌+◌, ℕ, Bool, true, false, List, length, get_or, Option, Some, None, IfSome, IfNone, Result, Ok, Err, IfErr, refl, sym, ap, subst, ◌∙◌, inl, inr, arith}
 use Rattle.std.specs.Prelude.{Contains, is_some}
 use Rattle.std.specs.Result.{result_ok}
@@ -25,7 +25,7 @@ none_greater : (p : Prefix) → network_cmp p p ≡ Greater → ⊥
 none_greater p greater = let equal = (eq_by_cmp_equiv network_total).refl p in let wrong : is_eq Greater ≡ true = ap is_eq (sym greater) ∙ equal in absurd cc
 
 module _ (xs : List Prefix) (ordered : IsStrictlySortedBy network_cmp xs) where
-  -- each stands at one place
+  -- each has one place
   pub one_place : (i j : ℕ) (d : Prefix) → i < length xs → j < length xs → get_or xs i d ≡ get_or xs j d → i ≡ j
   one_place i j d low high same = elim (cases_lt i j) [
     | inl lt ↦ absurd (none_less (get_or xs j d) (ap (λ (q : Prefix). network_cmp q (get_or xs j d)) (sym same) ∙ Less-from_sorted network_cmp xs i j d ordered lt high))
@@ -40,7 +40,7 @@ module _ (xs : List Prefix) (ordered : IsStrictlySortedBy network_cmp xs) where
       let less = Less-from_sorted network_cmp xs k (k + 1) d ordered (omega arith) high in
       ap is_lt (network_total.antisymm (get_or xs (k + 1) d) (get_or xs k d) ∙ ap ordering_reverse less))
 
-  -- a search that does not find it tells that it is not there
+  -- if a search does not find it, it is not there
   pub absent : (p : Prefix) (r : Result ℕ ℕ) → IsBinarySearchResult (λ q. network_cmp q p) xs r → IfErr r (λ _. Contains xs p → ⊥)
   absent p (Ok i) is = tt
   absent p (Err i) is = λ among.

@@ -1,4 +1,4 @@
--- Which LSA stands for a vertex, and what a transit network costs: each is just one.
+-- The LSA that describes a vertex, and the cost of a transit network: each is unique.
 use Rattle.std.proofs.Common.{◌≡◌, ℕ, List, Option, Some, None, refl, sym, ap, subst, ◌∙◌, inl, inr, le_antisymm, arith}
 use Rattle.std.specs.FinMap.{get}
 use Rattle.ospf_types.specs.declared.entry.Vertex.{Vertex}
@@ -18,7 +18,7 @@ use Rattle.explanation.specs.Layers.{AreAreas, HasArea, IsDistanceOf, IsKeyIn, I
 use Rattle.explanation.specs.Offered.{IsTransitCost, LacksTransitCost}
 use Rattle.explanation.proofs.Rivals.{some_same}
 
--- what is used under that key stands for the vertex
+-- the usable LSA under that key describes the vertex
 key_stands : (d : Database) (v : Vertex) (key : Key) → IsStandingKey d v key → IsStanding d v (body_at d key)
 key_stands d (Router r) key is = ap (body_at d) is
 key_stands d (Network id) key is = inl (is.0, is.1, ap (body_at d) is.2)

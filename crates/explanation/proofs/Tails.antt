@@ -1,4 +1,4 @@
--- An LSA stands for the tail of each link of a graph.
+-- An LSA describes the tail of each link of a graph.
 use Rattle.std.proofs.Common.{◌≡◌, subst, Some, None, Option, ℕ, List}
 use Rattle.std.specs.FinMap.{get}
 use Rattle.ospf_types.specs.declared.entry.Vertex.{Vertex}

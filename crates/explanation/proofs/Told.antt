@@ -1,4 +1,4 @@
--- Where no border router tells of the AS boundary router.
+-- The case that no border router advertises the AS boundary router.
 use Rattle.std.proofs.Common.{◌≡◌, ◌<◌, ℕ, Option, Some, None, sym, subst, ◌∙◌}
 use Rattle.std.specs.Prelude.{IfNone}
 use Rattle.std.specs.FinMap.{get}
@@ -19,7 +19,7 @@ if_none (Some x) P is = tt
 abbrev pub told_key : ℕ → ℕ → Key
 told_key border router = record { kind = 4; id = router; router = border }
 
--- what the area has under it decides whether there is such a step
+-- the area's value under this key decides if there is such a step
 pub no_step : (w : Layers) → AreAreas w.areas.now → (area border router : ℕ) (a : AreaValue) → HasArea w.areas.now area a
     → ((l : Lsa) → get a.lsas (told_key border router) ≡ Some l → l.header.age < MaxAge → (cost : ℕ) → metric_of l.body ≡ Some cost → ⊥) → (step : Step) → IsToldStep w area border router step → ⊥
 no_step w are area border router a has none step is =

@@ -1,4 +1,4 @@
--- What is offered of a network is the same, whatever other networks LSAs are asked for.
+-- The offers of a network do not depend on the other networks that are wanted.
 use Rattle.std.proofs.Common.{◌≡◌, Bool, true, false, cond, List, [], ◌∷◌, ◌++◌, Option, Some, None, refl, sym, ap, ◌∙◌}
 use Rattle.std.specs.Prelude.{option_to_list}
 use Rattle.std.specs.List.{cons_option, filter_map, flat_map}

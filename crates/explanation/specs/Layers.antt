@@ -14,7 +14,7 @@ use Rattle.event_state.specs.States.{State}
 use Rattle.route_layers.specs.Trees.{areas_with}
 use Rattle.calculation.specs.Calculations.{CalculationValue, IsCalculationOf, entry_else}
 
--- the results and the areas are those of the state
+-- the results belong to the state, and so do the areas
 pub record AreLayers (s : State) (c : CalculationValue) (areas : List AreaValue) : Type 0 where
   pub right : IsCalculationOf s c
   pub areas_are : areas ≡ areas_with s s.config.areas c.trees

@@ -49,7 +49,7 @@ LacksStubCost w area o verdict.NoInterface = (o.age < MaxAge) × (o.source.key.r
 LacksStubCost w area o verdict.Unreached = (o.age < MaxAge) × (o.source.key.router ≢ root_of w) × IsDistanceOf w.areas.now area (Router o.source.key.router) None
 LacksStubCost w area o _ = ⊥
 
--- the cost of a transit network, for which the LSA stands: its distance
+-- the cost of a transit network that this LSA describes: its distance
 abbrev pub IsTransitCost : Layers → ℕ → Offer → ℕ → Type 0
 IsTransitCost w area o cost = (o.age < MaxAge)
     × IsKeyStanding w.areas.now area (Network o.source.key.id) (Some o.source.key) × IsDistanceOf w.areas.now area (Network o.source.key.id) (Some cost)

@@ -30,7 +30,7 @@ use Rattle.explanation.specs.Giving.{AreOfEach, GivesOne}
 use Rattle.explanation.specs.Offers.{source_of}
 use Rattle.explanation.specs.Layers.{HasArea, LacksArea}
 
--- it is the instance, in the area's database, of the LSA that stands for the vertex
+-- the instance, in the area's database, of the LSA that describes the vertex
 abbrev pub IsSourceAt : AreaValue → Vertex → LsaInstance → Type 0
 IsSourceAt a v source = (key : Key) × (l : Lsa) × IsStandingKey a.lsas v key × (get a.lsas key ≡ Some l) × (l.header.age < MaxAge) × (source ≡ source_of (Area a.id) l)
 
@@ -60,7 +60,7 @@ AreLinksIn a links = (l : Bor Link) → Contains links l → LinksOf a.tree.area
 abbrev pub AreStepsIn : AreaValue → Vertex → NextHop → List Step → Type 0
 AreStepsIn a v h steps = (links : List Link) × IsPathOver a.tree.area.graph v h links × AreLinkSteps a links steps
 
--- in the area with this Area ID, or none if there is no such area
+-- in the area with this Area ID; empty if there is no such area
 abbrev pub AreSteps : List AreaValue → ℕ → Vertex → NextHop → List Step → Type 0
 AreSteps areas id v h steps = ((a : AreaValue) × HasArea areas id a × AreStepsIn a v h steps) ⊎ (LacksArea areas id × (steps ≡ []))
 

@@ -70,7 +70,7 @@ impl<'c, 'a> Layers<'c, 'a> {
         }
     }
 
-    /// Returns the key of the LSA that stands for a vertex of the area, or `None`.
+    /// Returns the key of the LSA that describes a vertex of the area, or `None`.
     pub(crate) fn standing(self, area: u32, vertex: Vertex) -> Option<Key>
         requires { AreAreas self.areas.now }
         ensures { IsKeyStanding self.entry.areas.now area vertex result }

@@ -141,7 +141,7 @@ fn link_steps(alloc: Global, area: &AreaInputs<'_>, links: &[&Link]) -> Result<V
     Ok(steps)
 }
 
-// Appends the link as a step. Its source is the LSA that stands for the tail of the link.
+// Appends the link as a step. Its source is the LSA that describes the tail of the link.
 fn push_link(area: &AreaInputs<'_>, link: &Link, steps: &mut Vec<Step>) -> Result<(), Memory>
     requires tree { HasTree area.now }
     requires link { LinksOf area.now.tree.area.graph link.now.from link.now.to link.now.cost link.now.label }
@@ -160,7 +160,7 @@ fn push_link(area: &AreaInputs<'_>, link: &Link, steps: &mut Vec<Step>) -> Resul
     Ok(())
 }
 
-// Returns the instance that stands for the vertex in the area, or `None`.
+// Returns the instance that describes the vertex in the area, or `None`.
 fn source_at(area: &AreaInputs<'_>, vertex: Vertex) -> Option<LsaInstance>
     requires { HasTree area.now }
     ensures some { IfSome result (IsSourceAt area.now vertex) }

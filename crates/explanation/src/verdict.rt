@@ -11,7 +11,7 @@ pub enum Verdict {
     Infinity,
     /// The router itself is the Advertising Router: 16.2 (2), 16.4 (2).
     Own,
-    /// Another network-LSA stands for the transit network: 16.1 (2b).
+    /// Another network-LSA describes the transit network: 16.1 (2b).
     Another,
     /// No links that both ends list lead to the router or the transit network: 16.1 (2b).
     Unreached,

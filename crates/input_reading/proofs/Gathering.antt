@@ -13,7 +13,7 @@ front_of_both (suc n) (x ∷ xs) ys =
     let e : suc n - suc (length (take n xs)) ≡ n - length (take n xs) = omega arith in
     ap (λ l. x ∷ l) (front_of_both n xs ys) ∙ ap (λ k. x ∷ take n xs ++ take k ys) (sym e)
 
--- what is behind the front of two lists
+-- the rest of two lists after `limit` elements
 behind_both : (limit : ℕ) (xs ys : List ℕ) → drop limit (xs ++ ys) ≡ drop limit xs ++ drop (limit - length (take limit xs)) ys
 behind_both zero xs ys = refl
 behind_both (suc n) [] ys = let e : suc n - 0 ≡ suc n = omega arith in ap (λ k. drop k ys) (sym e)

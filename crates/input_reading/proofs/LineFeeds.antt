@@ -13,7 +13,7 @@ around : (bytes : List ℕ) (n : ℕ) → n < length bytes → get_or bytes n 0 
 around bytes n within feed =
     sym (take-append-drop n bytes) ∙ ap (λ rest. take n bytes ++ rest) (drop_more bytes n 0 within ∙ ap (λ byte. byte ∷ drop (n + 1) bytes) feed)
 
--- bytes that are no line feeds
+-- bytes without a line feed
 none_among : (bytes : List ℕ) → ((k : ℕ) → k < length bytes → get_or bytes k 0 ≢ 10) → HasNoLineFeed bytes
 none_among bytes others = All-from_get_or (λ byte. byte ≢ 10) bytes 0 others
 

@@ -1,4 +1,4 @@
--- A line that is handed on shorter than the longest length is the input's own.
+-- A line that is returned shorter than the longest length is the input's own.
 use Rattle.std.proofs.Common.{ℕ, ◌≡◌, ◌<◌, ◌≤◌, ◌++◌, List, length, take, drop, ap, ◌∙◌, arith, append-nil, length-append, length-take}
 use Rattle.std.proofs.lemmas.List.{take_all, drop_all}
 use Rattle.input_reading.specs.Shortened.{mark_of, shortened}

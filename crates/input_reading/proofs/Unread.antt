@@ -1,4 +1,4 @@
--- What is pending as a call begins is looked at before the input is read.
+-- The bytes that are pending as a call begins are searched before the input is read.
 use Rattle.std.proofs.Common.{ℕ, zero, suc, ◌≡◌, ◌≢◌, ◌<◌, List, Option, None, Result, Ok, Err, IsErrAnd, subst, refl, arith}
 use Rattle.std.proofs.lemmas.List.Elements.{All-contains}
 use Rattle.std.proofs.lemmas.Result.{err_from_is_err_and}
@@ -11,7 +11,7 @@ use Rattle.input_reading.specs.declared.tail.Tail.{Tail}
 pub impossible : {P : Type 0} (bytes : List ℕ) → HasNoLineFeed bytes → HasLineFeed bytes → P
 impossible bytes none some = absurd (All-contains (λ byte. byte ≢ 10) bytes 10 none some refl)
 
--- a want of memory is no fault of the input
+-- a lack of memory is not a fault of the input
 pub no_fault_of_input : (r : Result Next ReadFault) → IsErrAnd r (λ fault. fault ≡ Memory) → r ≢ Err Read
 no_fault_of_input r err read = let found = err_from_is_err_and r err in no_fault found.0 found.1 found.2 read where
   no_fault : (fault : ReadFault) → r ≡ Err fault → fault ≡ Memory → r ≢ Err Read
@@ -21,7 +21,7 @@ pub no_fault : (r : Result Next ReadFault) (next : Next) → r ≡ Ok next → r
 no_fault r next is read = cc
 
 module _ {R : Type 0} (old now : List ℕ) (before input : R) where
-  -- in the first turn nothing is read yet; in the later ones there was no line feed
+  -- in the first turn nothing is read yet; in the later ones no line feed was found
   pub record IsLooked (turns : ℕ) : Type 0 where
     pub first : turns ≡ 0 → (now ≡ old) × (input ≡ before)
     pub later : 0 < turns → HasNoLineFeed old

@@ -11,7 +11,7 @@ use Rattle.change_log.specs.Changes.{all_of}
 use Rattle.change_log.specs.Runs.{Says, TellsLines, Told}
 use Rattle.page_replay.specs.Ending.{IsEnded, IsToldLast, all_changes, earlier_lines, last_lines}
 
--- what was written, where nothing stood before and nothing is left on the page
+-- the text that was written, if nothing was there before and nothing is left in the buffer
 written_all : (u v x z text : List ℕ) → Adds (Some u) (Some v) x z text → u ≡ [] → x ≡ [] → z ≡ [] → text ≡ v
 written_all u v x z text adds unwritten empty left =
     sym (ap (λ (l : List ℕ). l ++ text) empty) ∙ adds.joined ∙ ap (λ (l : List ℕ). adds.written ++ l) left ∙ append-nil adds.written

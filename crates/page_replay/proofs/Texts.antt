@@ -26,7 +26,7 @@ around front beginning told ending last changes t m n p q e f g bytes whole empt
 some : (c : ℕ) (cs : List ℕ) → true ≡ (length (c ∷ cs) == 0) → ⊥
 some c cs is = grind (arith, nat_tests)
 
--- what changed, between what stands before and behind it
+-- the last changes, between the text before and after them
 pub told_is : (told : List ℕ) (nothing : Bool) → nothing ≡ (length told == 0) → changes_beginning_text nothing ++ (told ++ changes_end_text nothing) ≡ changes_text told
 told_is [] true is = append-nil (changes_beginning_text true)
 told_is [] false is = absurd (not_so is)

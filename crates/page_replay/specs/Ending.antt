@@ -1,4 +1,4 @@
--- How a recording ends, of whose last lines it is told what they changed.
+-- The end of a recording, with the changes of its last lines.
 use Rattle.std.specs.Prelude.{ℕ, ◌+◌, ◌-◌, false, List, None, length, take, drop, map}
 use Rattle.output_lines.specs.declared.format.Format.TheVariants.{Text}
 use Rattle.event_core.specs.Cores.{CoreValue, IsCurrent}
@@ -22,15 +22,15 @@ last_lines lines = drop (length lines - 10) lines
 abbrev pub all_changes : ChangeFilter
 all_changes = record { only = None; format = Text }
 
--- The lines lead from one core to the other, the first of them has this number, and this is what they changed, as `abr changes` tells it. The table
--- follows each of them.
+-- The lines lead from one core to the other, the first of them has this number, and these are their
+-- changes, as `abr changes` prints them. The table reflects each of them.
 pub record IsToldLast (old : CoreValue) (number : ℕ) (lines : List Line) (closed : CoreValue) (told : List ℕ) : Type 0 where
   pub before : IsCurrent old
   pub after : List Change
   pub run : TellsLines all_changes false old number (map Says lines) (all_of old) told after closed
   pub current : IsCurrent closed
 
--- the core, behind the lines of before, led to the other over the last ones
+-- the core, after the lines before, led to the other over the last ones
 pub record IsEnded (v : Version) (opened : CoreValue) (lines : List Line) (closed : CoreValue) (told : List ℕ) : Type 0 where
   pub middle : CoreValue
   pub earlier : IsRunTo opened (earlier_lines lines) middle

@@ -11,7 +11,8 @@ use Rattle.replay.specs.Writing.{AppendsPart}
 use Rattle.page_replay.specs.Ending.{IsEnded}
 use Rattle.page_replay.specs.Sections.{IsPage}
 
--- a core was run over the lines of a recording of the version, and the page shows how it ended, and what the last lines changed
+-- a core was run over the lines of a recording of the version, and the page shows its end and the
+-- changes of the last lines
 pub record IsMadeOf (v : Version) (opened : CoreValue) (lines : List Line) (page : List ℕ) : Type 0 where
   pub closed : CoreValue
   pub told : List ℕ
@@ -34,7 +35,8 @@ pub record WritesPage (before after old new : Option (List ℕ)) : Type 0 where
   pub is : IsPageOf recording page
   pub written : Appends old new page
 
--- all the bytes that a reader had were a recording, and a writer's known bytes grew by a beginning of its page, and not by all of it
+-- all bytes of the reader were a recording, and the writer's known bytes grew by a beginning of its
+-- page, and not by all of it
 pub record WritesPagePart (before after old new : Option (List ℕ)) : Type 0 where
   pub bytes : List ℕ
   pub read : ReadsAll before after bytes

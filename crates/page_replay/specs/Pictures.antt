@@ -10,14 +10,14 @@ use Rattle.area_drawings.specs.Reaching.{IsCount}
 use Rattle.page_sections.specs.Areas.{area_heading_text, left_out_text}
 use Rattle.page_replay.specs.declared.pictures.Picture.{Picture}
 
--- the area's tree is that of its database
+-- the area's tree is the tree of its database
 abbrev pub HasTree : AreaValue → Type 0
 HasTree a = IsTreeIn a.lsas a.tree
 
 abbrev pub HaveTrees : List AreaValue → Type 0
 HaveTrees areas = (a : AreaValue) → Contains areas a → HasTree a
 
--- a picture has at most so many vertices
+-- the greatest number of vertices in a picture
 abbrev pub most_vertices : ℕ
 most_vertices = 200
 

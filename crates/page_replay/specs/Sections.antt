@@ -14,7 +14,8 @@ use Rattle.page_sections.specs.Summaries.{summaries_text}
 use Rattle.page_replay.specs.declared.pictures.Picture.{Picture}
 use Rattle.page_replay.specs.Pictures.{IsPictureOf, areas_text}
 
--- the areas of a state with their pictures, drawn of the graphs and trees that are calculated from it
+-- the areas of a state with their pictures, drawn of the graphs and trees that are calculated from
+-- it
 pub record AreShown (s : State) (text : List ℕ) : Type 0 where
   pub calculation : CalculationValue
   pub right : IsCalculationOf s calculation
@@ -36,7 +37,7 @@ front_text c areas = beginning_text (state_of c).config.router (serial_of (state
 abbrev pub AddsFront : CoreValue → (old new : List ℕ) → Type 0
 AddsFront c old new = (areas : List ℕ) × AreShown (state_of c) areas × (new ≡ old ++ front_text c areas)
 
--- the page shows the core, and behind its tables what changed last
+-- the page shows the core, and the last changes after its tables
 pub record IsPage (c : CoreValue) (told text : List ℕ) : Type 0 where
   pub areas : List ℕ
   pub shown : AreShown (state_of c) areas

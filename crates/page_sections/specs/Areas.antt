@@ -1,11 +1,11 @@
--- What stands around the pictures of the areas.
+-- The headings and legends of the pictures of the areas.
 use Rattle.std.specs.Prelude.{ℕ, ◌++◌, List, [], ◌∷◌, Option, Some, None, codes, decimal}
 use Rattle.std.specs.List.{concat}
 use Rattle.ospf_types.specs.Text.{address_text}
 use Rattle.ospf_types.specs.declared.config.AreaConfig.{AreaConfig}
 use Rattle.ospf_types.specs.declared.config.Stub.{Stub}
 
--- what the marks of a picture mean, each behind its mark
+-- the legend of a picture: each mark and its meaning
 abbrev pub legend_text : List ℕ
 legend_text = concat (
     codes "<p class=\"legend\">\n"
@@ -34,7 +34,7 @@ area_heading_text a =
     ++ (codes "Area " ++ address_text a.id
     ++ (stub_text a.stub ++ codes "</h3>\n"))
 
--- that a graph of so many vertices is not drawn
+-- the text for a graph that has too many vertices to be drawn
 abbrev pub left_out_text : (vertices most : ℕ) → List ℕ
 left_out_text vertices most = concat (
     codes "<p>The graph has "

@@ -5,7 +5,7 @@ use Rattle.ospf_types.specs.Text.{address_text}
 use Rattle.page_sections.specs.Style.{style_text}
 use Rattle.page_sections.specs.Script.{script_text}
 
--- what a browser is told first; the policy has it load nothing from elsewhere
+-- the first lines for a browser; the policy has it load nothing from elsewhere
 abbrev pub policy_text : List ℕ
 policy_text = concat (
     codes "<!DOCTYPE html>\n<html lang=\"en\">\n<head>\n<meta charset=\"utf-8\">\n"
@@ -25,7 +25,7 @@ styles_text = codes "<style>\n" ++ (style_text ++ codes "</style>\n</head>\n<bod
 abbrev pub title_text : (router : ℕ) → List ℕ
 title_text router = concat (codes "<h1>Router " ∷ address_text router ∷ codes "</h1>\n" ∷ [])
 
--- what the page shows: the router after so many events
+-- the subject of the page: the router at this serial
 abbrev pub about_text : (serial : ℕ) → List ℕ
 about_text serial = concat (
     codes "<p>What this router (OSPF, RFC 2328) has after event number "
@@ -49,12 +49,12 @@ sections_text = concat (
 abbrev pub beginning_text : (router serial : ℕ) → List ℕ
 beginning_text router serial = head_text router ++ (styles_text ++ (title_text router ++ (about_text serial ++ sections_text)))
 
--- what comes before the lines that tell what changed last, and that nothing did where there are none
+-- the text before the lines with the last changes, which says so if there are none
 abbrev pub changes_beginning_text : (is_empty : Bool) → List ℕ
 changes_beginning_text true = codes "<h2 id=\"changes\">Last changes</h2>\n<p>Nothing changed.</p>\n"
 changes_beginning_text false = codes "<h2 id=\"changes\">Last changes</h2>\n<pre>"
 
--- what comes behind them
+-- the text after them
 abbrev pub changes_end_text : (is_empty : Bool) → List ℕ
 changes_end_text true = []
 changes_end_text false = codes "</pre>\n"

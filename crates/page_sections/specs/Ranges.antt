@@ -34,7 +34,8 @@ abbrev pub at_cost : Network → Option ℕ → Option Counted
 at_cost p None = None
 at_cost p (Some cost) = Some (record { network = p; cost = cost })
 
--- the network with its cost, if it lies in the range, and an intra-area route of the area leads there
+-- the network with its cost, if it lies in the range, and an intra-area route of the area leads
+-- there
 abbrev pub counted_in : (area : ℕ) → (range : Network) → Network × Item → Option Counted
 counted_in area range x = if is_inside range x.0 then at_cost x.0 (intra_cost_of area x.1) else None
 
@@ -61,12 +62,12 @@ count_text count =
 abbrev pub networks_text : List Counted → List ℕ
 networks_text networks = count_text (length networks) ++ list_text networks
 
--- whether a range is advertised to other areas
+-- the text for a range that is advertised to other areas, or is not
 abbrev pub advertised_text : Bool → List ℕ
 advertised_text true = codes ", advertised"
 advertised_text false = codes ", not advertised"
 
--- the prefix, and whether it is advertised
+-- the prefix, and the text for its being advertised or not
 abbrev pub range_heading_text : Range → List ℕ
 range_heading_text range = (codes "<h4>" ++ prefix_text range.prefix) ++ advertised_text range.advertise
 
@@ -95,7 +96,7 @@ areas_text items areas =
     then flat_map (area_text items) areas
     else codes "<p>No area has an address range.</p>\n"
 
--- the heading of the section, and what is told of a range
+-- the heading of the section, and a sentence about its contents
 abbrev pub section_text : List ℕ
 section_text = concat (
     codes "<h2 id=\"ranges\">Address ranges</h2>\n"

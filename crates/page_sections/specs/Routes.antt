@@ -97,7 +97,7 @@ table_head_text = concat (
     ∷ codes "<tbody>\n"
     ∷ [])
 
--- the routing table: how many networks it has of each kind, a search box, and a row for each network
+-- the routing table: the number of networks of each kind, a search box, and a row for each network
 abbrev pub routes_text : List (Network × Item) → List ℕ
 routes_text items =
     codes "<h2 id=\"routes\">Routing table</h2>\n<p class=\"counts\">\n"

@@ -1,4 +1,4 @@
--- What the page does where something is typed into its search box.
+-- The script of the page: its answer to text in the search box.
 use Rattle.std.specs.Prelude.{ℕ, List, [], ◌∷◌, codes}
 use Rattle.std.specs.List.{concat}
 

@@ -1,4 +1,5 @@
--- What the updates of a publication give. Those of a whole table rest on nothing before them.
+-- The results of the updates of a publication. Those of a whole table depend on nothing before
+-- them.
 use Rattle.std.proofs.Common.{◌≡◌, ◌⊎◌, List, [], ◌∷◌, ◌++◌, map, fold, Option, Some, None, refl, sym, ap, ◌∙◌, subst, inl, inr, append_assoc}
 use Rattle.std.specs.Prelude.{Contains}
 use Rattle.std.proofs.lemmas.List.Sums.{fold-append}

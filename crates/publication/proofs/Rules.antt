@@ -13,7 +13,7 @@ use Rattle.publication.specs.Published.{IsShownRight, name_of, Holds, Saw}
 known : (a b : Name) → Some a ≡ Some b → a ≡ b
 known a b e = cc e
 
--- a thread that was told nothing
+-- a thread that knows nothing
 pub begins : (x : PublishedTable) → IsShownRight x → Holds x (None ∷ [])
 begins x right = (right, λ seat n at. ⊎_elim (λ (e : get_elem? [] seat ≡ some (Some n)). absurd (some-ne-none (Some n) (sym e))) (λ (e : None ≡ Some n). absurd (cc e)) (at_snoc [] None (Some n) seat at))
 

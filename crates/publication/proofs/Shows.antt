@@ -1,4 +1,4 @@
--- What is shown after a publication.
+-- The published table after a publication.
 use Rattle.std.proofs.Common.{◌≡◌, List, fold, Option, Some, Result, Ok, Err, MatchResult, MatchBool, sym, ap, ◌∙◌, subst}
 use Rattle.std.specs.Result.{is_ok}
 use mathlib.Core.List.{IsPrefix}
@@ -27,7 +27,7 @@ gives_right x next us line is face book =
       front,
     )
 
--- whether it was published or not, the name stays, and the writer knows it if it was
+-- if it was published or not, the name stays, and the writer knows it if it was
 pub known_after : {U E : Type 0} (r : Result U E) (Q Q' : Type 0) (x y : PublishedTable) (v w : Option Name) (us : List Update) (line : Line)
     → MatchResult r (λ _. (shown_state_of y ≡ fold updated (shown_state_of x) us) × Q) (λ _. (y ≡ x) × Q')
     → MatchResult r (λ _. Saw v x y w) (λ _. w ≡ v)
@@ -38,7 +38,7 @@ known_after (Ok u) Q Q' x y v w us line values rule face book =
     let all = gives_right x y us line values.0 face book in (all.0, rule.0 ∙ ap Some all.0)
 known_after (Err e) Q Q' x y v w us line values rule face book = (ap name_of values.0, rule)
 
--- whether it was published or not, the list that is shown begins with that of before
+-- if it was published or not, the published list begins with the one before
 pub grows_after : {U E : Type 0} (r : Result U E) (P Q Q' : Type 0) (x y : PublishedTable) (v w : Option Name)
     → MatchResult r (λ _. P × Q) (λ _. (y ≡ x) × Q')
     → MatchResult r (λ _. Saw v x y w) (λ _. w ≡ v)

@@ -1,4 +1,4 @@
--- What an author wrote, after one more page and in a longer log.
+-- The events that an author wrote, after one more page and in a longer log.
 use Rattle.std.proofs.Common.{◌≡◌, ◌≢◌, ℕ, ◌==◌, Bool, true, false, if◌then◌else◌, List, [], ◌∷◌, ◌++◌, ◌≤◌, length, refl, ap, sym, ◌∙◌, subst, arith}
 use Rattle.std.proofs.lemmas.List.{append-nil}
 use Rattle.std.proofs.lemmas.Bool.Decides.{nat_tests}
@@ -63,7 +63,7 @@ stays key v log pre all =
       ap (key_after key) (sym pre.1) ∙ key_after-append key v more ∙ rest.1,
     )
 
--- the page of the author's pen, behind what it had not written
+-- the page of the author's pen, after pages that it had not written
 pub goes_on : (key : ℕ) (v log : List Page) (p : Page) → IsPrefix v log → AreOthers (key_after key v) log → p.pen ≡ key_after key v
     → (written key (log ++ p ∷ []) ≡ written key v ++ p.event ∷ []) × (key_after key (log ++ p ∷ []) ≡ p.next)
 goes_on key v log p pre all mine =
@@ -83,12 +83,14 @@ wrote key v now mine next e ask is at step =
       ap (key_after key) step.1 ∙ on.1 ∙ ap (λ (p : Page). p.next) is,
     )
 
--- of two beginnings of one log, what an author wrote in the one begins what it wrote in the other, where it is no longer
+-- of two prefixes of one log, the events that an author wrote in the one are a prefix of those in
+-- the other, if there are no more
 pub shorter_begins : (mine theirs : ℕ) (xs ys log : List Page) → mine ≡ theirs → IsPrefix xs log → IsPrefix ys log → length (written mine xs) ≤ length (written theirs ys) → IsPrefix (written mine xs) (written theirs ys)
 shorter_begins mine theirs xs ys log same one two less =
     prefix_shorter (written mine xs) (written theirs ys) (written mine log) (written_prefix mine xs log one) (subst (λ (k : ℕ). IsPrefix (written theirs ys) (written k log)) (sym same) (written_prefix theirs ys log two)) less
 
--- what another began is begun by what the author has, where its pen wrote nothing of a log that has both
+-- the events of another author are a prefix of the author's own, if its pen wrote nothing of a log
+-- that has both
 pub looked : (mine theirs : ℕ) (v other both log : List Page) → theirs ≡ mine → IsPrefix v both → IsPrefix other both → IsPrefix both log → AreOthers (key_after mine v) log
     → (written mine log ≡ written mine v) × (key_after mine log ≡ key_after mine v) × IsPrefix (written theirs other) (written mine v)
 looked mine theirs v other both log same one two more all =

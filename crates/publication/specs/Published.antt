@@ -13,7 +13,7 @@ use Rattle.publication.specs.declared.published_table.PublishedTable.{PublishedT
 use Rattle.publication.specs.Lines.{Line}
 use Rattle.publication.specs.Names.{Name}
 
--- each of these events could be taken where it stands
+-- each of these events could be taken at its place
 abbrev pub IsLegal : Base → List Event → Type 0
 IsLegal base list = IsLegalList base standard_limits list
 

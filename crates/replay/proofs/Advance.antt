@@ -24,7 +24,7 @@ each_joined : (p : Progress) (xs ys : List ℕ) (a b c : Option (List ℕ)) → 
 each_joined p [] ys a b c same each = subst (λ (o : Option (List ℕ)). ShowsEach p ys o c) same each
 each_joined p (x ∷ xs) ys a b c (mid, first, left) each = (mid, first, each_joined p xs ys mid b c left each)
 
--- and then what is shown behind it
+-- and then the progress that is shown after it
 pub progress_joined : (p : Progress) (a b c : Option (List ℕ)) → IsProgress p a b → IsProgress p b c → IsProgress p a c
 progress_joined p a b c (xs, first) (ys, second) = (xs ++ ys, each_joined p xs ys a b c first second)
 
@@ -80,7 +80,7 @@ from_more p number (suc count) a b c (mid, first, left) shows =
     let here : number + suc count ≡ (number + 1) + count = omega arith in
     (mid, first, from_more p (number + 1) count mid b c left (subst (λ n. Shows p n b c) here shows))
 
--- the lines from the first on were run, and this number is that of the next
+-- the lines from the first on were run, and the next one has this number
 pub record Advanced (p : Progress) (first number : ℕ) (old new : Option (List ℕ)) : Type 0 where
   pub count : ℕ
   pub counted : number ≡ first + count

@@ -1,5 +1,6 @@
--- What was written where a replay ends early is the beginning of an output: the run can be completed, each event and each roll that is left being refused for
--- the reason that it has, or for want of memory.
+-- The written part of a replay that ends early is the beginning of an output. The run can be
+-- completed: each event and each roll that is left is refused for the reason that it has, or
+-- because memory ran out.
 use Rattle.std.proofs.Common.{◌≡◌, ◌∙◌, ℕ, ◌+◌, ◌++◌, List, [], ◌∷◌, length, take, drop, Option, Some, None, refl, sym, ap, subst, inl, inr, append_assoc, take-append-drop}
 use Rattle.std.specs.Prelude.{Err}
 use Rattle.std.proofs.lemmas.Bool.Decides.{eqb_tells}
@@ -41,7 +42,7 @@ refused c e = by (refusal_of (state_of c) e) refl
     by (Some f) is = (f, record { first = inl is; unchanged = refl })
     by None is = (refusal.Memory, record { first = inr (refl, is); unchanged = refl })
 
--- a roll is refused where the core is behind, and elsewhere for want of memory
+-- a roll is refused if the core is behind, and otherwise because memory ran out
 roll_refused : (c : CoreValue) → (f : Refusal) × IsRollRefusal c f
 roll_refused c = elim (eqb_tells c.built (length c.journal)) [
   | inl current ↦ (refusal.Memory, inr (refl, current.1))
@@ -99,7 +100,8 @@ some_shown v show.Journal format printed c = record { whole = recorded_text form
 
 -- ---- the whole output
 
--- the run of the first lines goes on to the end, and there is an output, which begins with what they printed
+-- the run of the first lines continues to the end, and there is an output, which begins with their
+-- lines
 record Completed (r : RecordingValue) (p : PrintOptions) (printed : List ℕ) : Type 0 where
   answers : Answers
   whole : List ℕ

@@ -1,4 +1,4 @@
--- What was written where a replay ends.
+-- The written part of a replay that ends.
 use Rattle.std.proofs.Common.{◌≡◌, ℕ, List, [], ◌++◌, Option, inl, inr, refl, sym, ap, subst, ◌∙◌, append-nil}
 use Rattle.std.specs.Io.KnownBytes.{Appends}
 use Rattle.output_lines.specs.declared.format.Format.{Format}
@@ -74,16 +74,16 @@ whole_written r p a b c buffer last h moved none =
     let same : all.written ≡ h.whole = sym (append-nil all.written) ∙ ap (λ l. all.written ++ l) (sym none) ∙ sym all.joined in
     record { answers = h.answers; memory = h.memory; output = h.whole; is = h.is; written = subst (Appends a c) same all.appended }
 
--- ---- a run whose lines are printed, and behind it what is shown
+-- ---- a run whose lines are printed, and then the state that is shown
 
--- a refused event is told of among these lines
+-- the refusal of an event is among these lines
 told_of_lines : (s : Show) (answers : Answers) → PrintsRun s → LosesNoEvent s answers
 told_of_lines show.Routes answers prints = tt
 told_of_lines show.Due answers prints = tt
 told_of_lines show.Lsdb answers prints = tt
 told_of_lines show.Journal answers prints = absurd prints
 
--- what stands on a buffer that was empty
+-- the contents of a buffer that was empty
 pub ran_page : (format : Format) (old new : CoreValue) (first : ℕ) (lines : List Line) (a b : Option (List ℕ)) (before buffer put : List ℕ) → before ≡ [] → Ran format old first lines new a b before buffer
     → put ≡ buffer ++ serial_line format new → AreWhole put
 ran_page format old new first lines a b before buffer put none ran serial =
@@ -149,7 +149,7 @@ module _ (v : Version) (old new : CoreValue) (lines : List Line) (p : PrintOptio
 
 -- ---- the whole replay
 
--- the parts are those of the recording
+-- the parts belong to the recording
 whole_of : (r : RecordingValue) (v : Version) (base : Base) (lines : List Line) → v ≡ r.version → base ≡ r.base → lines ≡ r.lines → record { version = v; base = base; lines = lines } ≡ r
 whole_of r v base lines same_version same_base same_lines = λ i. record { version = same_version i; base = same_base i; lines = same_lines i }
 

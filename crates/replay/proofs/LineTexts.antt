@@ -1,4 +1,4 @@
--- The pieces of a format, as they are written one behind the other.
+-- The pieces of a format, as they are written one after the other.
 use Rattle.std.proofs.Common.{◌≡◌, ◌∙◌, ◌++◌, List, ℕ, codes, ap, append_assoc}
 use Rattle.std.specs.Prelude.{decimal}
 use Rattle.std.specs.Int.{w16, w32, to_be_bytes}
@@ -17,12 +17,12 @@ pub lookup_printed : (old new : List ℕ) (number address serial : ℕ) (found :
     → new ≡ old ++ lookup_line Text number address serial found
 lookup_printed old new number address serial found written = written ∙ simp append_assoc
 
--- the serial is that of the table
+-- the serial is the serial of the table
 pub lookup_at : (format : Format) (old new : List ℕ) (number address serial other : ℕ) (found : Match) → serial ≡ other → new ≡ old ++ lookup_line format number address serial found
     → new ≡ old ++ lookup_line format number address other found
 lookup_at format old new number address serial other found is written = written ∙ ap (λ (n : ℕ). old ++ lookup_line format number address n found) is
 
--- the parts of a header, each appended to what stands before
+-- the parts of a header, each appended to the text before
 pub header_printed : (old front first space second new seq sum : List ℕ) (h : Header)
     → front ≡ old ++ (decimal h.kind ++ (codes " " ++ (address_text h.id ++ (codes " " ++ (address_text h.router ++ codes " "))))) → first ≡ front ++ encode_lower seq → seq ≡ to_be_bytes w32 h.seq
     → space ≡ first ++ codes " " → second ≡ space ++ encode_lower sum → sum ≡ to_be_bytes w16 h.sum → new ≡ second ++ (codes " " ++ decimal h.age) → new ≡ old ++ header_text h

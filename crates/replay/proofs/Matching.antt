@@ -40,7 +40,7 @@ told p q = by (eq_by_cmp network_cmp p q) refl
         other : true ≢ false
         other wrong = cc
 
--- what stands under a network, with one entry more in front
+-- the item of a network, with one entry more at the start
 at_front : (k q : Network) (v : Item) (es : List (Network × Item)) → eq_by_cmp network_cmp q k ≡ true → find network_cmp q ((k, v) ∷ es) ≡ Some v
 at_front k q v es is = ap (λ t. cond t (Some v) (find network_cmp q es)) is
 
@@ -74,7 +74,7 @@ module _ (k : Network) (v : Item) (es : List (Network × Item)) (address : ℕ) 
     },
   )
 
-  -- it does, and none behind it is longer
+  -- it does, and none after it is longer
   first_best : HasAddress k address → ((q : Network) → IsSome (find network_cmp q es) → HasAddress q address → q.length ≤ k.length) → HasBest ((k, v) ∷ es) address
   first_best inside longest = inr (
     k,

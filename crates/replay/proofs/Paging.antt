@@ -1,4 +1,4 @@
--- What is printed line by line: a part of it is written, and the end of it is on the buffer.
+-- Printing line by line: a part is written, and the end is in the buffer.
 use Rattle.std.proofs.Common.{◌≡◌, ℕ, suc, ◌<◌, ◌+◌, List, length, get_or, drop, add-one, drop-cons, [], ◌∷◌, ◌++◌, Option, refl, sym, ap, subst, ◌∙◌, append_assoc, append-nil}
 use Rattle.std.specs.List.{flat_map}
 use Rattle.output_lines.specs.declared.format.Format.{Format}
@@ -15,7 +15,7 @@ use Rattle.replay.proofs.Wholes.{none_whole, append_whole, end_whole, left_longe
 pub adds_none : (a : Option (List ℕ)) (buffer : List ℕ) → Adds a a buffer buffer []
 adds_none a buffer = record { written = []; appended = appends_none a; joined = append-nil buffer; lines = none_whole; pages = λ _. none_whole }
 
--- a line behind the buffer
+-- a line is appended to the buffer
 pub adds_put : (a b : Option (List ℕ)) (before buffer text next line : List ℕ) → Adds a b before buffer text → next ≡ buffer ++ line → AreWhole line → Adds a b before next (text ++ line)
 adds_put a b before buffer text next line h put whole = record {
   written = h.written;
@@ -81,7 +81,7 @@ pub record Adding (a b : Option (List ℕ)) (before buffer all rest : List ℕ) 
 pub adding_none : (a : Option (List ℕ)) (buffer all rest : List ℕ) → all ≡ rest → Adding a a buffer buffer all rest
 adding_none a buffer all rest is = record { text = []; adds = adds_none a buffer; left = is }
 
--- a line is put behind the buffer, and the buffer may be written in part
+-- a line is appended to the buffer, and the buffer may be written in part
 pub adding_more : (a b c : Option (List ℕ)) (before buffer put moved all rest line more : List ℕ) → Adding a b before buffer all rest → rest ≡ line ++ more → put ≡ buffer ++ line
     → AreWhole line → Adds b c put moved [] → Adding a c before moved all more
 adding_more a b c before buffer put moved all rest line more h next is whole spilled = record {
@@ -95,14 +95,14 @@ pub adding_part : (a b : Option (List ℕ)) (before buffer all rest : List ℕ) 
 adding_part a b before buffer all rest whole h =
     subst (λ l. AddsPart stop.Memory a b (before ++ l)) (sym h.left) (part_longer stop.Memory a b before h.text rest (part_now a b before buffer h.text whole h.adds))
 
--- the buffer could not be written behind a line
+-- the buffer could not be written after a line
 pub adding_stopped : (why : PrintError) (a b c : Option (List ℕ)) (before buffer put all rest line more : List ℕ) → AreWhole before → Adding a b before buffer all rest → rest ≡ line ++ more → put ≡ buffer ++ line
     → AreWhole line → AddsPart why b c put → AddsPart why a c (before ++ all)
 adding_stopped why a b c before buffer put all rest line more whole h next is whole_line stopped =
     let here = part_moved why a b c before put (h.text ++ line) whole (adds_put a b before buffer h.text put line h.adds is whole_line) stopped in
     subst (λ l. AddsPart why a c (before ++ l)) (append_assoc h.text line more ∙ ap (λ l. h.text ++ l) (sym next) ∙ sym h.left) (part_longer why a c before (h.text ++ line) more here)
 
--- lines are printed behind the buffer
+-- lines are appended to the buffer
 pub adding_lines : (a b c : Option (List ℕ)) (before buffer moved all rest lines more : List ℕ) → Adding a b before buffer all rest → rest ≡ lines ++ more → Adds b c buffer moved lines
     → Adding a c before moved all more
 adding_lines a b c before buffer moved all rest lines more h next added = record {

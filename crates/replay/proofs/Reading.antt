@@ -40,7 +40,7 @@ front_length v base =
 pub is_parsed : (bytes : List ℕ) (r : RecordingValue) → IsText bytes r → length bytes < 2 ^ 63 → IsParsed bytes r
 is_parsed bytes r text small = let bound = lines_fit bytes r text in record { text = text; few = omega (arith, bound) }
 
--- what was read stands alone, is all, and is the text of the recording
+-- the bytes that were read are alone in the buffer, are all, and are the text of the recording
 pub is_read : (before after : Option (List ℕ)) (old new bytes : List ℕ) (r : RecordingValue) → old ≡ [] → bytes ≡ new → Consumes before after (drop (length old) new) → IsAtEnd after → IsParsed bytes r → IsRead before after r
 is_read before after old new bytes r none same read end is = record {
   bytes = bytes;

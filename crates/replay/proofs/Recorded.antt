@@ -44,7 +44,7 @@ journal_text Text v c =
 journal_text Json v c =
     flat_map-append recorded_line (front_forms v c.base) (map form_of (map line.Event c.journal)) ∙ ap (λ l. flat_map recorded_line (front_forms v c.base) ++ l) (event_objects c.journal)
 
--- the lines of the base, and those of the events behind them
+-- the lines of the base, and those of the events after them
 module _ (format : Format) (v : Version) (c : CoreValue) (events : List Event) (same : events ≡ c.journal) where
   abbrev front : List ℕ
   front = forms_text format (front_forms v c.base)
@@ -66,7 +66,7 @@ module _ (format : Format) (v : Version) (c : CoreValue) (events : List Event) (
   journal_stopped why x y z before buffer whole first stopped =
       subst (λ l. AddsPart why x z (before ++ l)) both (part_more why x y z before buffer front behind whole first (stopped (page_whole x y before buffer front first whole)))
 
--- the lines of a base behind the buffer, as text
+-- the lines of a base are appended to the buffer, as text
 pub front_put : (format : Format) (a : Option (List ℕ)) (buffer put : List ℕ) (v : Version) (base other : Base) → format ≡ Text → base ≡ other → put ≡ buffer ++ text_of_forms (front_forms v base)
     → Adds a a buffer put (forms_text format (front_forms v other))
 front_put format a buffer put v base other text same is =
@@ -89,7 +89,7 @@ apart wrong = cc
 plain : (form : Form) → IsForm form → (i : ℕ) → i < length (line_text form) → get_or (line_text form) i 0 ≢ 10
 plain form legal i within is = apart (sym (ap (λ b. b == 10) is) ∙ All-get_or (λ b. (b == 10) ≡ false) (line_text form) i 0 within (no_line_feed form legal))
 
--- the first of the lines, and the text of those behind it
+-- the first of the lines, and the text of those after it
 pub record Next (forms : List Form) (text more : List ℕ) : Type 0 where
   pub form : Form
   pub behind : List Form

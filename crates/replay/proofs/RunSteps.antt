@@ -74,7 +74,7 @@ lookup_ran format old table number l address before after is same (found, matche
   lines = lookup_whole format number address old.table.serial found;
 }
 
--- an event that was taken, and one that was refused for another reason than want of memory
+-- an event that was taken, and one that was refused for another reason than a lack of memory
 pub event_done : (old new : CoreValue) (e : Event) (answer : Result Reply Refusal) (reply : Reply) → answer ≡ Ok reply → Applies old e answer new → TakesEvent old e new
 event_done old new e answer reply is applies = (answer, applies, subst (λ (a : Result Reply Refusal). HadMemory (OfEvent a)) (sym is) tt)
 
@@ -100,7 +100,7 @@ lookup_taken old table l address found is same matched format number =
     subst (λ (x : Line). (answers : Answers) × (text : List ℕ) × Prints format old number (x ∷ []) answers text old × All HadMemory answers) (sym is)
     ([], lookup_line format number address old.table.serial found, lookup_prints format old number address found (subst (λ (t : TableValue). IsMatch t.items address found) same matched), All-nil HadMemory)
 
--- ---- one run behind the other
+-- ---- one run after the other
 
 pub prints_more : (format : Format) (old mid new : CoreValue) (number : ℕ) (xs ys : List Line) (ps qs : Answers) (t u : List ℕ) → Prints format old number xs ps t mid → Prints format mid (number + length xs) ys qs u new
     → Prints format old number (xs ++ ys) (ps ++ qs) (t ++ u) new
@@ -193,7 +193,7 @@ pub running_part : (format : Format) (old now : CoreValue) (first number : ℕ) 
 running_part format old now first number lines rest from to before buffer whole h =
     ran_part stop.Memory format old now first lines h.done rest from to before h.ran.text h.ran.answers h.left h.ran.run (part_now from to before buffer h.ran.text whole h.ran.printed)
 
--- the buffer could not be written behind a line
+-- the buffer could not be written after a line
 pub running_stopped : (why : PrintError) (format : Format) (old mid new : CoreValue) (first number : ℕ) (lines rest more : List Line) (l : Line) (from to on : Option (List ℕ)) (before buffer put : List ℕ)
     → AreWhole before → Running format old first lines rest number mid from to before buffer → rest ≡ l ∷ more → RanLine format mid number l new buffer put → AddsPart why to on put
     → RanPart why format old first lines from on before
@@ -234,7 +234,7 @@ taking_fits first number old now lines rest more l h next =
 pub taking_all : (first number : ℕ) (old now : CoreValue) (lines rest : List Line) → Taking first number old lines rest now → rest ≡ [] → IsRunTo old lines now
 taking_all first number old now lines rest h none = subst (λ (done : List Line). IsRunTo old done now) (sym (h.left ∙ ap (λ w. h.done ++ w) none ∙ append-nil h.done)) h.run
 
--- memory ran out behind the last line
+-- memory ran out after the last line
 pub ran_whole : (format : Format) (old now : CoreValue) (first : ℕ) (lines : List Line) (from to : Option (List ℕ)) (before buffer : List ℕ) → AreWhole before → Ran format old first lines now from to before buffer
     → RanPart stop.Memory format old first lines from to before
 ran_whole format old now first lines from to before buffer whole h =

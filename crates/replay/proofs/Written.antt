@@ -1,4 +1,4 @@
--- What a writer's known bytes grew by.
+-- The growth of a writer's known bytes.
 use Rattle.std.proofs.Common.{◌≡◌, ◌≢◌, ℕ, List, [], ◌++◌, length, take, drop, Option, Some, None, refl, sym, ap, subst, ◌∙◌, append_assoc, append-nil, take-append-drop, ◌-◌}
 use Rattle.std.proofs.lemmas.List.{take_rest, nil_from_length}
 use Rattle.std.specs.Prelude.{Result, Ok, Err, OnErr, IfErr}

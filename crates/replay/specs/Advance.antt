@@ -1,4 +1,4 @@
--- The progress of a run, as it is shown.
+-- The progress of a run.
 use Rattle.std.specs.Prelude.{ℕ, ◌≡◌, ◌++◌, ◌%◌, ◌==◌, ◌&&◌, ◌||◌, Bool, false, ◌+◌, zero, suc, List, [], ◌∷◌, Option, Some, None, codes, decimal, if◌then◌else◌}
 use Rattle.std.specs.Io.KnownBytes.{Appends}
 use Rattle.replay.specs.declared.progress.Progress.{Progress}
@@ -13,7 +13,7 @@ abbrev pub is_all : Option ℕ → ℕ → Bool
 is_all (Some all) done = done == all
 is_all None done = false
 
--- it is shown after each thousand lines, and after the last
+-- it is due after each thousand lines, and after the last
 abbrev pub is_due : Progress → ℕ → Bool
 is_due p done = p.is_shown && (done % 1000 == 0 || is_all p.all done)
 

@@ -148,7 +148,7 @@ shown_due_data area due = object_of (
     ∷ (codes "type", string (codes "due"))
     ∷ [])
 
--- the key of an LSA, and what tells an instance from another: sequence number, checksum and age
+-- the key of an LSA, and the fields that identify an instance: sequence number, checksum and age
 abbrev pub lsa_data : Scope → Header → Data
 lsa_data scope h = object_of (
     (codes "age", number_data h.age)

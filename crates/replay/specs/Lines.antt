@@ -49,7 +49,7 @@ abbrev pub behind_line : Format → ℕ → List ℕ
 behind_line Text number = decimal number ++ codes " behind\n"
 behind_line Json number = json_line (behind_data number)
 
--- nothing if the table is that of the present state
+-- nothing if the table reflects the present state
 abbrev pub standing_line : Format → ℕ → Status → List ℕ
 standing_line format number Current = codes ""
 standing_line format number Behind = behind_line format number
@@ -94,7 +94,7 @@ due_line Json area due = json_line (shown_due_data area due)
 abbrev pub area_lines : Format → ℕ × List DueSummary → List ℕ
 area_lines format e = flat_map (due_line format e.0) e.1
 
--- the key, and what tells an instance from another: sequence number, checksum and present age
+-- the key, and the fields that identify an instance: sequence number, checksum and present age
 abbrev pub header_text : Header → List ℕ
 header_text h =
     decimal h.kind ++ codes " " ++ address_text h.id ++ codes " " ++ address_text h.router ++ codes " " ++ encode_lower (to_be_bytes w32 h.seq) ++ codes " " ++ encode_lower (to_be_bytes w16 h.sum) ++ codes " " ++ decimal h.age

@@ -1,4 +1,5 @@
--- After some were handed in there are no more routers than there were vertices, and those that were handed in.
+-- After some LSAs were passed there are no more routers than there were vertices, and those that
+-- were passed.
 use Rattle.std.proofs.Common.{◌≡◌, ℕ, ◌+◌, ◌<◌, ◌≤◌, List, length, map, get_or, ◌++◌, Option, Some, None, Bor, refl, sym, subst, ◌∙◌, ⊎_elim, arith}
 use Rattle.std.specs.Prelude.{IsSome, option_map}
 use Rattle.std.specs.FinMap.{get, keys, len, entries, len-entries}
@@ -22,7 +23,7 @@ some_there None is = absurd cc
 some_there (Some x) is = (x, refl)
 
 module _ (g : GraphValue) (handed : List Handed) where
-  -- the vertices that were there, and those that are handed in
+  -- the vertices that were there, and those that are passed
   named : List Vertex
   named = keys g.ends ++ map (λ (h : Handed). h.0) handed
 
@@ -53,6 +54,6 @@ module _ (g : GraphValue) (handed : List Handed) where
       named_after v (subst (IsThereAfter g handed) at.2 (there at.0 at.1))) in
       omega (arith, fits, most, length-map routers Router, length-append (keys g.ends) (map (λ (h : Handed). h.0) handed), length-map handed (λ (h : Handed). h.0), length-keys_of (entries g.ends), len-entries g.ends)
 
--- as many are handed in as there are LSAs
+-- as many are passed as there are LSAs
 pub handed_length : (lsas : List (Vertex × Option (Bor Checked))) → length (handed_of lsas) ≡ length lsas
 handed_length lsas = length-map lsas (λ (p : Vertex × Option (Bor Checked)). (p.0, option_map (λ (l : Bor Checked). l.now.body) p.1))

@@ -18,7 +18,7 @@ one_line_more (line.Event e) lines = refl
 one_line_more (line.Lookup address) lines = refl
 one_line_more line.Roll lines = refl
 
--- these lines are left, and those behind them are set apart, backwards
+-- these lines are left, and the lines after them are set apart, backwards
 pub record SetApart (all left : List Line) (events : List Event) (asks : List Ask) (rolls : Bool) : Type 0 where
   pub done : List Line
   pub whole : all ≡ left ++ done

@@ -1,4 +1,4 @@
--- The lines of a run are printed one behind the other.
+-- The lines of a run are printed one after the other.
 use Rattle.std.proofs.Common.{◌≡◌, ℕ, ◌≤◌, ◌+◌, List, [], ◌∷◌, ◌++◌, length, map, Option, refl, sym, ap, subst, ◌∙◌, append_assoc, append-nil, arith}
 use Rattle.std.specs.Prelude.{Result}
 use Rattle.event_state.specs.declared.refusal.Refusal.{Refusal}

@@ -72,7 +72,7 @@ as_many_lines lines asks are = ap length are ∙ each lines
     each [] = refl
     each (l ∷ ls) = ap suc (each ls)
 
--- what the one roll was answered, where it is asked for just if a line is a roll
+-- the answer to the one roll, which is made exactly if a line is a roll
 pub roll_answered : (name : Name) (lines : List Line) (asked : Bool) (roll : Option (Result ℕ Refusal)) → asked ≡ has_roll lines → is_some roll ≡ asked
     → IfSome roll (λ answer. MatchResult answer (IsRolledSerial name.base) IsNotRolled) → IsRollAnswer name lines roll
 roll_answered name lines asked None is some answered = sym is ∙ sym some

@@ -1,4 +1,4 @@
--- What is shown was written, or a beginning of it.
+-- The state that is shown was written, or a beginning of it.
 use Rattle.std.proofs.Common.{◌≡◌, ℕ, List, [], ◌++◌, Option, refl, sym, ap, subst, inl, ◌∙◌, append-nil}
 use Rattle.std.specs.Io.KnownBytes.{Appends}
 use Rattle.engine.specs.Cores.{CoreValue}
@@ -19,7 +19,7 @@ module _ (v : Version) (s : Show) (format : Format) (printed : List ℕ) (c : Co
   pub shown_cut : (why : PrintError) → AreWhole front → (AreWhole put → AddsPart why a b (put ++ tail)) → WritesPart why v s format printed c a b
   shown_cut why whole stopped = record { whole = front ++ tail; shown = shown; part = subst (λ w. AddsPart why a b (w ++ tail)) same (stopped (subst AreWhole (sym same) whole)) }
 
-  -- the end of it stood on the buffer, which was written in part
+  -- the end of it was in the buffer, which was written in part
   pub end_cut : (why : PrintError) → AreWhole front → (d : Option (List ℕ)) (moved : List ℕ) → Adds a b put moved tail → AddsPart why b d moved → WritesPart why v s format printed c a d
   end_cut why whole d moved added stopped = record {
     whole = front ++ tail;

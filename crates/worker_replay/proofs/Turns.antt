@@ -12,7 +12,7 @@ use Rattle.engine.specs.declared.answer.Refused.{Refused}
 use Rattle.worker_replay.specs.Runs.{Answers}
 use Rattle.worker_replay.specs.Dealing.{IsDealt, AreAnsweredDealt, AreTaken}
 
--- what is left behind all but one
+-- the rest after all but one
 pub last_one : {A : Type 0} (n : ℕ) (xs : List A) → length xs ≡ n + 1 → (last : A) × (drop n xs ≡ last ∷ [])
 last_one zero [] is = absurd (omega arith)
 last_one zero (x ∷ []) is = (x, refl)
@@ -31,7 +31,7 @@ pub dealt_before : {X : Type 0} (f : X → List Event) (events : List Event) (e 
 dealt_before f events e lists front last new whole is dealt =
     (f last, map f front, ap (λ w. w ∷ map f front) is, subst (IsDealt events) (ap (map f) whole ∙ map-append f front (last ∷ [])) dealt)
 
--- the lists turn by one, and the event is put behind those of the first, which was the last
+-- the lists turn by one, and the event is put before those of the first, which was the last
 pub turned_and_dealt : {X : Type 0} (f : X → List Event) (events : List Event) (e : Event) (lists turned : List X) (was new : X) (n : ℕ) → length lists ≡ n + 1 → turned ≡ drop n lists ++ take n lists
     → was ≡ slice_index_or turned 0 was → f new ≡ e ∷ f was → IsDealt events (map f lists) → IsDealt (e ∷ events) (map f (slice_set turned 0 new))
 turned_and_dealt f events e lists turned was new n count turns here put dealt =
@@ -93,7 +93,8 @@ none_there : (xs : Answers) → (0 < length xs → IsSome {T = Result Answer Ref
 none_there [] h = refl
 none_there (x ∷ xs) h = let wrong = h (omega arith) in absurd (cc wrong)
 
--- the last answer of the first list is taken, each list being kept backwards, and the list is the last then
+-- the last answer of the first list is taken, with each list kept backwards, and the list is then
+-- the last
 module _ {X : Type 0} (items : X → Answers) (name : Name) (events : List Event) where
   abbrev turned : X → Answers
   turned x = reverse (items x)
@@ -168,7 +169,7 @@ taking_all name events answers left count h all = all_of name events h.rest answ
 
 -- ---- lists reversed
 
--- each list that was gone through was put backwards
+-- each list so far was reversed
 pub record Reversing {T : Type 0} {X : Type 0} (items : X → List T) (all rest now : List X) : Type 0 where
   pub done : List X
   pub whole : all ≡ done ++ rest
@@ -191,7 +192,7 @@ module _ {T : Type 0} {X : Type 0} (items : X → List T) where
   pub reversing_all : (all rest now : List X) → Reversing items all rest now → rest ≡ [] → map items now ≡ map back all
   reversing_all all rest now h none = h.reversed ∙ ap (map back) (sym (h.whole ∙ ap (λ w. h.done ++ w) none ∙ append-nil h.done))
 
-  -- what was put backwards is as it was when it is put backwards again
+  -- a list that is reversed twice is unchanged
   pub back_again : (now all : List X) → map items now ≡ map back all → map back now ≡ map items all
   back_again [] [] same = refl
   back_again [] (y ∷ all) same = absurd cc

@@ -67,7 +67,7 @@ abbrev pub IsNotRolled : Refusal → Type 0
 IsNotRolled r = (r ≡ refusal.NotCurrent) ⊎ (r ≡ refusal.Memory)
 
 -- The answer of an engine to the one roll that its `roll` lines together are: its serial, or the
--- reason why it is refused. There is none if no line is a roll.
+-- reason why it is refused. It is `None` without a `roll` line.
 abbrev pub IsRollAnswer : Name → List Line → Option (Result ℕ Refusal) → Type 0
 IsRollAnswer name lines None = has_roll lines ≡ false
 IsRollAnswer name lines (Some answer) = (has_roll lines ≡ true) × MatchResult answer (IsRolledSerial name.base) IsNotRolled

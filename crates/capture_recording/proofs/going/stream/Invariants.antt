@@ -3,7 +3,8 @@ use Rattle.std.specs.Io.KnownBytes.{Appends}
 use Rattle.capture_recording.specs.Going.{IsDue, IsRecordedTo}
 use Rattle.capture_recording.proofs.going.stream.Given as goal
 
--- each packet so far was taken, and some of their lines were written: all of them, where the input is to be read
+-- each packet so far was taken, and some of their lines were written: all of them, if the input is
+-- to be read
 abbrev pub invariant-loop : goal.invariant-loop
 invariant-loop g l = record {
   written : List ℕ;

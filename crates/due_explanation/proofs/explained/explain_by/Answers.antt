@@ -1,4 +1,4 @@
--- What is lent is what the calculation has.
+-- The inputs are lent by the calculation.
 use Rattle.std.proofs.Common.{◌≡◌, ℕ, List, sym, ap, subst, ◌∙◌}
 use Rattle.std.proofs.lemmas.Result.{IfOk-weaker}
 use Rattle.ospf_types.specs.declared.config.Config.{Config}

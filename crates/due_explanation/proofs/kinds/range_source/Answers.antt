@@ -1,4 +1,4 @@
--- What the greatest cost is of the ranges that are kept.
+-- The greatest cost of the ranges that are kept.
 use Rattle.std.proofs.Common.{refl, subst}
 use Rattle.ospf_types.specs.Inter.{LSInfinity}
 use Rattle.active_ranges.specs.Active.{HasCost}

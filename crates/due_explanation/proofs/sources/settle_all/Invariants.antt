@@ -1,4 +1,4 @@
--- What was settled up to here, and what will be of those that are left, is all.
+-- All sources are those settled so far, and those that are left.
 use Rattle.std.proofs.Common.{◌≡◌, ◌++◌, map, take, drop}
 use Rattle.due_explanation.specs.Sources.{settled}
 use Rattle.due_explanation.proofs.sources.settle_all.Given as goal

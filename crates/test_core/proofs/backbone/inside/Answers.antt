@@ -1,4 +1,4 @@
--- The one area's tree is that of its database.
+-- The one area's tree belongs to its database.
 use Rattle.std.proofs.Common.{[], ◌∷◌, sym, subst}
 use Rattle.ospf_types.proofs.InOrder.{only_item}
 use Rattle.vertex_graph.specs.Up.{Up}

@@ -1,4 +1,4 @@
--- What the handle owns may go to another thread: it is that of a box, or nothing.
+-- The resources of the handle may go to another thread: those of a box, or none.
 use Rattle.std.specs.Prelude.{Option, Some, None}
 use Rattle.std.specs.Global.{Global}
 use base.Shift.{Keyless}

@@ -1,4 +1,4 @@
--- A null pointer beside the handle of the heap. They own nothing.
+-- A null pointer, and the handle of the heap. They own nothing.
 use Rattle.std.proofs.Common.{List, [], ◌∷◌, ◌++◌, refl, sym, subst, lit<}
 use Rattle.std.specs.Prelude.{None}
 use seplogic.Ra.Ura.{Ura}

@@ -1,4 +1,5 @@
--- The two words of a core that is taken out of its box become those of the handle, and what they own goes with them.
+-- The two words of a core that is removed from its box become the words of the handle, with all
+-- that they own.
 use Rattle.std.proofs.Common.{List, [], ◌∷◌, ◌++◌, refl, sym, subst}
 use seplogic.Ra.Ura.{Ura}
 use mir.Val.{Val}

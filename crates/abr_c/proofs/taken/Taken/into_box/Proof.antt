@@ -1,4 +1,4 @@
--- What the two words own is handed to `from_raw`, which makes the box of them.
+-- All that the two words own is given to `from_raw`, which makes the box of them.
 use Rattle.std.proofs.Common.{◌≡◌, List, [], ◌∷◌, ◌++◌, refl, sym, ap, subst}
 use lib.Dec.{T}
 use seplogic.Ra.Ura.{Ura}

@@ -1,4 +1,5 @@
--- The box is handed to `into_raw_with_allocator`. What that answers are the two words of the result, and what it owns.
+-- The box is given to `into_raw_with_allocator`. Its results are the two words of the result, and
+-- all that they own.
 use Rattle.std.proofs.Common.{◌≡◌, List, [], ◌∷◌, ◌++◌, refl, sym, ap, ◌∙◌, subst}
 use seplogic.Ra.Ura.{Ura}
 use mir.Syntax.{Fn, Args, Dict, a_type, dcons, dnil}
