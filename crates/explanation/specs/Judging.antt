@@ -7,6 +7,7 @@ use Rattle.ospf_types.specs.declared.entry.Entry.{Entry}
 use Rattle.ospf_types.specs.declared.entry.PathType.TheVariants.{Intra}
 use Rattle.ospf_types.specs.declared.key.Scope.{Scope}
 use Rattle.ospf_types.specs.declared.key.Scope.TheVariants.{Area, As}
+use Rattle.external.specs.Classes.{class_number}
 use Rattle.explanation.specs.declared.verdict.Verdict.{Verdict}
 use Rattle.explanation.specs.declared.verdict.Verdict.TheVariants as verdict
 use Rattle.explanation.specs.declared.judging.Judged.{Judged}
@@ -27,14 +28,14 @@ type_rank true = 1
 type_rank false = 0
 
 abbrev pub rank : ExternalKey → ℕ
-rank k = ((type_rank k.is_type_2 * 2 ^ 32 + k.metric) * 2 ^ 8 + k.class) * 2 ^ 32 + k.cost
+rank k = ((type_rank k.is_type_2 * 2 ^ 32 + k.metric) * 2 ^ 8 + class_number k.class) * 2 ^ 32 + k.cost
 
 -- at which step a key loses to the other, if it does (16.4 (6))
 abbrev pub fate_beside : ExternalKey → ExternalKey → Verdict → Type 0
 fate_beside key other verdict.Type2 = type_rank other.is_type_2 < type_rank key.is_type_2
 fate_beside key other verdict.Metric2 = (type_rank key.is_type_2 ≡ type_rank other.is_type_2) × (other.metric < key.metric)
-fate_beside key other verdict.Class = (type_rank key.is_type_2 ≡ type_rank other.is_type_2) × (key.metric ≡ other.metric) × (other.class < key.class)
-fate_beside key other verdict.Costlier = (type_rank key.is_type_2 ≡ type_rank other.is_type_2) × (key.metric ≡ other.metric) × (key.class ≡ other.class) × (other.cost < key.cost)
+fate_beside key other verdict.Class = (type_rank key.is_type_2 ≡ type_rank other.is_type_2) × (key.metric ≡ other.metric) × (class_number other.class < class_number key.class)
+fate_beside key other verdict.Costlier = (type_rank key.is_type_2 ≡ type_rank other.is_type_2) × (key.metric ≡ other.metric) × (class_number key.class ≡ class_number other.class) × (other.cost < key.cost)
 fate_beside key other verdict.Taken = rank key ≤ rank other
 fate_beside key other _ = ⊥
 

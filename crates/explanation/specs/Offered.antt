@@ -13,7 +13,9 @@ use Rattle.ospf_types.specs.Lsa.{MaxAge}
 use Rattle.route_choice.specs.ReachedRouter.{ReachedValue}
 use Rattle.intra.specs.Intras.{reached_at}
 use Rattle.active_ranges.specs.Active.{IsActiveIn}
+use Rattle.external.specs.declared.class.PathClass.{PathClass}
 use Rattle.external.specs.AsbrRoute.{PreferredValue}
+use Rattle.external.specs.Classes.{class_number}
 use Rattle.external.specs.Forwards.{ForwardValue, WayValue}
 use Rattle.explanation.specs.declared.verdict.Verdict.{Verdict}
 use Rattle.explanation.specs.declared.verdict.Verdict.TheVariants as verdict
@@ -105,7 +107,7 @@ LeadsAt w router address class distance =
     ⊎ ((0 < address) × ((f : ForwardValue) × (way : WayValue) × (get w.calculation.now.external.forwards address ≡ Some f) × (f.way ≡ Some way) × (class ≡ way.class) × (distance ≡ way.cost)))
 
 -- type 1 before type 2, the metric of type 2, the class, and then the cost
-abbrev pub key_by : Bool → ℕ → ℕ → ℕ → ExternalKey
+abbrev pub key_by : Bool → ℕ → PathClass → ℕ → ExternalKey
 key_by is_type_2 metric class distance =
     if is_type_2 then record { is_type_2 = is_type_2; metric = metric; class = class; cost = distance }
     else record { is_type_2 = is_type_2; metric = 0; class = class; cost = distance + metric }
@@ -117,12 +119,12 @@ IsBoundaryReached w router = (p : PreferredValue) × (get w.calculation.now.exte
 -- what an AS-external-LSA is compared by
 abbrev pub IsExternalKey : Layers → Offer → ℕ → ExternalFields → ExternalKey → Type 0
 IsExternalKey w o metric external key = IsFit w o metric × IsBoundaryReached w o.source.key.router
-    × ((class distance : ℕ) × LeadsAt w o.source.key.router external.forwarding class distance × (key ≡ key_by external.is_type_2 metric class distance))
+    × ((class : PathClass) × (distance : ℕ) × LeadsAt w o.source.key.router external.forwarding (class_number class) distance × (key ≡ key_by external.is_type_2 metric class distance))
 
 -- what it is compared by if it has a forwarding address, whichever the AS boundary router
 abbrev pub IsForwardedKey : Layers → ℕ → ExternalFields → ExternalKey → Type 0
 IsForwardedKey w metric external key =
-    (class distance : ℕ) × ((router : ℕ) → LeadsAt w router external.forwarding class distance) × (key ≡ key_by external.is_type_2 metric class distance)
+    (class : PathClass) × (distance : ℕ) × ((router : ℕ) → LeadsAt w router external.forwarding (class_number class) distance) × (key ≡ key_by external.is_type_2 metric class distance)
 
 -- the forwarding address leads nowhere
 abbrev pub LeadsNowhere : Layers → ℕ → Type 0

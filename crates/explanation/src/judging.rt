@@ -159,8 +159,9 @@ impl ExternalKey {
         if self.metric != other.metric {
             return self.metric < other.metric;
         }
-        if self.class != other.class {
-            return self.class < other.class;
+        let (class, least) = (self.class.number(), other.class.number());
+        if class != least {
+            return class < least;
         }
         self.cost < other.cost
     }
@@ -183,10 +184,11 @@ impl ExternalKey {
             return Verdict::Taken;
         }
         // 16.4 (6c): the least class of 16.4.1 is preferred.
-        if self.class > other.class {
+        let (class, least) = (self.class.number(), other.class.number());
+        if class > least {
             return Verdict::Class;
         }
-        if self.class < other.class {
+        if class < least {
             return Verdict::Taken;
         }
         // 16.4 (6d): the least cost is preferred.

@@ -4,6 +4,7 @@ ghost use Rattle.std.specs.Prelude.{ℕ, ◌≡◌, ◌↔◌, ◌<◌, IfErr, I
 ghost use Rattle.ospf_types.specs.Inter.{LSInfinity};
 ghost use Rattle.ospf_types.specs.Intra.{LiesIn};
 ghost use Rattle.intra.specs.Intras.{most_cost};
+ghost use Rattle.external.specs.Classes.{class_number};
 ghost use Rattle.explanation.specs.Layers.{AreAreas};
 ghost use Rattle.explanation.specs.Offered.{HasInterfaceOn, IsExternalKey, IsFit, IsForwardedKey};
 ghost use Rattle.explanation.specs.Offered.{IsOn, IsStubCost, IsSummaryCost, IsTransitCost};
@@ -13,6 +14,7 @@ ghost use Rattle.explanation.specs.Offered.{LacksTransitCost, LeadsAt, LeadsNowh
 use crate::layers::Layers;
 use crate::offer::Offer;
 use crate::verdict::Verdict;
+use external::PathClass;
 use ospf_types::config::Interface;
 use ospf_types::entry::Vertex;
 use ospf_types::lsa::{ExternalFields, LS_INFINITY, MAX_AGE};
@@ -25,7 +27,7 @@ use route_layers::is_up_in;
 pub(crate) struct ExternalKey {
     pub(crate) is_type_2: bool,
     pub(crate) metric: u32,
-    pub(crate) class: u8,
+    pub(crate) class: PathClass,
     pub(crate) cost: u32,
 }
 
@@ -142,9 +144,10 @@ impl Layers<'_, '_> {
 
     // Returns the class and the distance of a forwarding address, or `None` if no route leads
     // there.
-    fn forward(self, address: u32) -> Option<(u8, u32)>
+    fn forward(self, address: u32) -> Option<(PathClass, u32)>
         requires { 0 < address }
-        ensures some { IfSome result (λ found. (router : ℕ) → LeadsAt self.entry router address found.0 found.1) }
+        ensures some { IfSome result (λ found. (router : ℕ)
+            → LeadsAt self.entry router address (class_number found.0) found.1) }
         ensures bounded { IfSome result (λ found. found.1 < most_cost) }
         ensures none { IfNone result (LeadsNowhere self.entry address) }
     {
@@ -187,7 +190,7 @@ impl Layers<'_, '_> {
 }
 
 // Returns the key of an AS-external-LSA. `metric` is the Y of 16.4 (4), and `distance` is its X.
-fn key_by(is_type_2: bool, metric: u32, class: u8, distance: u32) -> ExternalKey
+fn key_by(is_type_2: bool, metric: u32, class: PathClass, distance: u32) -> ExternalKey
     requires metric { metric < LSInfinity }
     requires distance { distance < most_cost }
     ensures { result ≡ key_by is_type_2 metric class distance }

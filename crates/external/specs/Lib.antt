@@ -1,3 +1,4 @@
+pub mod Classes
 pub mod Inputs
 pub mod AsbrRoute
 pub mod Forwards

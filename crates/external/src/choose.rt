@@ -1,10 +1,16 @@
 //! The choice of the entry of an external network: the best of the offers of AS-external-LSAs.
-ghost use Rattle.std.specs.Prelude.{◌≡◌, ◌<◌, None, Some, IfOk, OnOk};
+ghost use Rattle.std.specs.Prelude.{◌≡◌, ◌<◌, None, Some, IfOk, OnOk, refl};
+ghost use Rattle.std.specs.Cmp.{eq_by_cmp_equiv, partial_equiv_from_equiv};
+ghost use Rattle.std.specs.Cmp.{partial_order_from_total};
 ghost use Rattle.std.specs.FinMap as map;
 ghost use Rattle.std.specs.List.Sorted.{IsStrictlySortedBy};
+ghost use Rattle.std.specs.Ordering.{as_partial_cmp, eq_by_cmp};
+ghost use Rattle.ospf_types.proofs.Orders.{external_total};
+ghost use Rattle.ospf_types.specs.External.{external_cmp};
 ghost use Rattle.ospf_types.specs.Hops.{path_cmp};
 ghost use Rattle.ospf_types.specs.Routes.{entry_of, external_type};
 ghost use Rattle.inter.specs.Inters.{most_cost};
+ghost use Rattle.external.specs.Classes.{class_number};
 ghost use Rattle.external.specs.Choosing.{TakesPaths, LeadsOffer, KeyOffers, KeysOffer};
 ghost use Rattle.external.specs.Choosing.{NetworkOffers};
 ghost use Rattle.external.specs.Forwards.{WayOffers, forwards_in};
@@ -12,6 +18,7 @@ ghost use Rattle.external.specs.Offers.{AdvertisedOffers, ForwardLeads, preferen
 ghost use Rattle.external.specs.AsbrRoute.{preferred_in};
 ghost use Rattle.external.specs.Updating.{IsEntryBy};
 
+use crate::class::{ExternalType, PathClass};
 use crate::forward::{ForwardingMatch, ForwardingPath, has_internal};
 use crate::inputs::ExternalInputs;
 use crate::preferred::AsbrRoute;
@@ -23,61 +30,100 @@ use ospf_types::memory::Memory;
 use ospf_types::prefix::Prefix;
 use route_choice::{Best, Choice, Choose, ExactOrd, ResultMap, offer_hops};
 use std::alloc::Global;
+use std::cmp::Ordering;
 use std::marker::Model;
 
 // The key by which external routes to one network are compared (16.4 (6), b to d). Type 1 comes
 // before type 2. Then come the metric of type 2, the class of the path, and the cost, which for
 // type 2 is only the distance.
-#[derive(Clone, Copy, PartialEq, Eq, PartialOrd, Ord)]
+#[derive(Clone, Copy)]
 struct ExternalKey {
-    kind: u8,
+    kind: ExternalType,
     metric: u32,
-    class: u8,
+    class: PathClass,
     cost: u32,
 }
 
 impl Model for ExternalKey {
     ghost use Rattle.ospf_types.specs.External.{ExternalPreference};
+    ghost use Rattle.external.specs.Classes.{class_number, kind_number, numbered_class};
+    ghost use Rattle.external.specs.Classes.{numbered_kind, same_class, same_kind};
 
     ghost Value = { ExternalPreference };
 
-    ghost view = { λ k. record { kind = k.kind; metric = k.metric; class = k.class; cost = k.cost } };
+    ghost view = { λ k. record { kind = kind_number k.kind; metric = k.metric; class = class_number k.class; cost = k.cost } };
 
-    ghost inverse = { λ p. record { kind = p.kind; metric = p.metric; class = p.class; cost = p.cost } };
+    ghost inverse = { λ p. record { kind = numbered_kind p.kind; metric = p.metric; class = numbered_class p.class; cost = p.cost } };
+
+    ghost inverse_ok = { λ k h i. record { kind = same_kind k.kind i; metric = k.metric; class = same_class k.class i; cost = k.cost } };
+}
+
+// proof: the comparisons are written by hand, since clauses see a type and a class as numbers.
+impl PartialEq for ExternalKey {
+    ghost eq = { eq_by_cmp external_cmp };
+
+    ghost laws = { partial_equiv_from_equiv (eq_by_cmp_equiv external_total) };
+
+    fn eq(&self, other: &ExternalKey) -> bool {
+        self.cmp(other).is_eq()
+    }
+}
+
+impl Eq for ExternalKey {
+    ghost laws = { eq_by_cmp_equiv external_total };
+}
+
+impl PartialOrd for ExternalKey {
+    ghost partial_cmp = { as_partial_cmp external_cmp };
+
+    ghost laws = { partial_order_from_total external_total };
+
+    fn partial_cmp(&self, other: &ExternalKey) -> Option<Ordering> {
+        Some(self.cmp(other))
+    }
+}
+
+impl Ord for ExternalKey {
+    ghost cmp = { external_cmp };
+
+    ghost total = { external_total };
+
+    ghost matches_partial_cmp = { λ x y. refl };
+
+    ghost matches_eq = { λ x y. refl };
+
+    fn cmp(&self, other: &ExternalKey) -> Ordering {
+        let kind = self.kind.number().cmp(&other.kind.number());
+        let metric = self.metric.cmp(&other.metric);
+        let class = self.class.number().cmp(&other.class.number());
+        kind.then(metric.then(class.then(self.cost.cmp(&other.cost))))
+    }
 }
 
 impl ExactOrd for ExternalKey {
-    ghost use Rattle.std.specs.Prelude.{ℕ};
-    ghost use Rattle.std.specs.Ordering.{nat_cmp, ordering_then};
-    ghost use Rattle.std.proofs.Common.{ap};
-    ghost use Rattle.std.proofs.lemmas.Map.Lookups.{exact_pairs, exact_unsigned};
-    ghost use Rattle.ospf_types.specs.External.{ExternalPreference};
+    ghost use Rattle.ospf_types.proofs.Orders.{external_exact};
 
-    ghost exact = { λ a b h.
-        ap (λ (t : ℕ × (ℕ × (ℕ × ℕ))). let p : ExternalPreference = record { kind = t.0; metric = t.1.0; class = t.1.1.0; cost = t.1.1.1 } in p)
-        (exact_pairs nat_cmp (λ (x y : ℕ × (ℕ × ℕ)). ordering_then (nat_cmp x.0 y.0) (ordering_then (nat_cmp x.1.0 y.1.0) (nat_cmp x.1.1 y.1.1))) exact_unsigned
-        (exact_pairs nat_cmp (λ (x y : ℕ × ℕ). ordering_then (nat_cmp x.0 y.0) (nat_cmp x.1 y.1)) exact_unsigned (exact_pairs nat_cmp nat_cmp exact_unsigned exact_unsigned))
-        (a.kind, (a.metric, (a.class, a.cost))) (b.kind, (b.metric, (b.class, b.cost))) h) };
+    ghost exact = { external_exact };
 }
 
 impl ExternalKey {
     // Returns the key of a route over a path of this class and distance.
-    fn of(route: AdvertisedRoute, class: u8, distance: u32) -> ExternalKey
+    fn of(route: AdvertisedRoute, class: PathClass, distance: u32) -> ExternalKey
         requires { distance < most_cost }
-        ensures { result ≡ preference_of route class distance }
+        ensures { result ≡ preference_of route (class_number class) distance }
     {
         // 16.4 (5): X is the distance and Y the metric. Type 1 costs X + Y. Type 2 keeps X and Y
         // apart.
         if route.is_type_2() {
             ExternalKey {
-                kind: 2,
+                kind: ExternalType::Type2,
                 metric: route.metric(),
                 class,
                 cost: distance,
             }
         } else {
             ExternalKey {
-                kind: 1,
+                kind: ExternalType::Type1,
                 metric: 0,
                 class,
                 cost: distance + route.metric(),
@@ -88,10 +134,9 @@ impl ExternalKey {
     fn path_type(self) -> PathType
         ensures { result ≡ external_type self.kind }
     {
-        if self.kind == 1 {
-            PathType::External1
-        } else {
-            PathType::External2
+        match self.kind {
+            ExternalType::Type1 => PathType::External1,
+            ExternalType::Type2 => PathType::External2,
         }
     }
 }

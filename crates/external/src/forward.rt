@@ -2,9 +2,11 @@
 ghost use Rattle.std.specs.Prelude.{◌≡◌, ◌↔◌, ◌<◌, Some, IfOk, IfSome, IsSome, IsTrue};
 ghost use Rattle.std.specs.Prelude.{option_copied};
 ghost use Rattle.inter.specs.Inters.{most_cost};
+ghost use Rattle.external.specs.Classes.{class_number};
 ghost use Rattle.external.specs.Forwards.{HaveOneCost, IsForwardOf, IsMatchOf, IsWayBy, Matches};
 ghost use Rattle.external.specs.Forwards.{class_at, hops_toward, internal_entry};
 
+use crate::class::PathClass;
 use crate::inputs::ExternalInputs;
 use crate::preferred::class_of;
 use ospf_types::entry::Entry;
@@ -18,7 +20,7 @@ use std::marker::Model;
 
 /// A path to a forwarding address: its class, its cost, and its next hops, each toward the address.
 pub struct ForwardingPath {
-    class: u8,
+    class: PathClass,
     cost: u32,
     hops: Vec<NextHop>,
 }
@@ -37,20 +39,20 @@ impl Drop for ForwardingPath {
 impl Model for ForwardingPath {
     ghost use Rattle.std.specs.Prelude.{◌<◌};
     ghost use Rattle.inter.specs.Inters.{most_cost};
+    ghost use Rattle.external.specs.Classes.{class_number};
     ghost use Rattle.external.specs.Forwards.{WayValue};
 
     ghost Value = { WayValue };
 
-    ghost view = { λ w. record { class = w.class; cost = w.cost; hops = w.hops.items } };
+    ghost view = { λ w. record { class = class_number w.class; cost = w.cost; hops = w.hops.items } };
 
     ghost invariant = { λ w. w.cost < most_cost };
 }
 
 impl ForwardingPath {
-    /// Returns the class: 0 if the entry is an intra-area path through another area than the
-    /// backbone, or else 1. With RFC1583Compatibility it is always 0 (RFC 2328, 16.4.1).
-    pub fn class(&self) -> u8
-        ensures { result ≡ self.now.class }
+    /// Returns the class of the path.
+    pub fn class(&self) -> PathClass
+        ensures { class_number result ≡ self.now.class }
     {
         self.class
     }
@@ -212,8 +214,8 @@ fn way_by(
 }
 
 // Returns the class of the network's entry. `area` is the area of the entry.
-fn class_at(inputs: &ExternalInputs<'_>, network: Prefix, area: Option<u32>) -> u8
-    ensures { result ≡ class_at inputs.now network area }
+fn class_at(inputs: &ExternalInputs<'_>, network: Prefix, area: Option<u32>) -> PathClass
+    ensures { class_number result ≡ class_at inputs.now network area }
 {
     match inputs.intra.get(network) {
         Some(_) => class_of(inputs.compat, area),

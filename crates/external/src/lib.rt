@@ -24,12 +24,14 @@
 #![tactic(auto)]
 
 mod choose;
+mod class;
 mod external;
 mod forward;
 mod inputs;
 mod preferred;
 mod update;
 
+pub use class::{ExternalType, PathClass};
 pub use external::External;
 pub use forward::{ForwardingMatch, ForwardingPath};
 pub use inputs::ExternalInputs;

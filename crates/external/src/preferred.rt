@@ -1,12 +1,18 @@
 //! The preferred route of an AS boundary router (RFC 2328, 16.4 and 16.4.1).
-ghost use Rattle.std.specs.Prelude.{◌≡◌, ◌↔◌, ◌<◌, Some, IfOk, OnOk, IsTrue};
-ghost use Rattle.ospf_types.specs.Boundary.{class_of};
+ghost use Rattle.std.specs.Prelude.{◌≡◌, ◌↔◌, ◌<◌, Some, IfOk, OnOk, IsTrue, refl};
+ghost use Rattle.std.specs.Cmp.{eq_by_cmp_equiv, partial_equiv_from_equiv};
+ghost use Rattle.std.specs.Cmp.{partial_order_from_total};
+ghost use Rattle.std.specs.Ordering.{as_partial_cmp, eq_by_cmp};
+ghost use Rattle.ospf_types.proofs.Orders.{preference_total};
+ghost use Rattle.ospf_types.specs.Boundary.{class_of, preference_cmp};
 ghost use Rattle.route_choice.specs.Takes.{OnlyOffer, OfferedBySome};
 ghost use Rattle.inter.specs.Inters.{most_cost};
+ghost use Rattle.external.specs.Classes.{class_number};
 ghost use Rattle.external.specs.Choosing.{TakesHops, HopsOffer, AreaOffers, AreasOffer};
 ghost use Rattle.external.specs.AsbrRoute.{RouterOffers, ReachedOffers, EntryOffers};
 ghost use Rattle.external.specs.AsbrRoute.{InterEntryOffers, IsPreferredFor};
 
+use crate::class::PathClass;
 use crate::inputs::ExternalInputs;
 use ospf_types::address::BACKBONE;
 use ospf_types::entry::Entry;
@@ -16,7 +22,7 @@ use ospf_types::memory::Memory;
 use route_choice::{Best, Choice, ExactOrd, ReachedRouter, Same};
 use smallvec::SmallVec;
 use std::alloc::Global;
-use std::cmp::Reverse;
+use std::cmp::Ordering;
 use std::marker::Model;
 
 /// The preferred route of an AS boundary router.
@@ -24,7 +30,7 @@ use std::marker::Model;
 /// An intra-area path through another area than the backbone comes before all others, unless
 /// RFC1583Compatibility is enabled. Then comes the lower cost, and then the greater Area ID.
 pub struct AsbrRoute {
-    class: u8,
+    class: PathClass,
     cost: u32,
     area: u32,
     hops: SmallVec<NextHop, 1>,
@@ -46,61 +52,94 @@ impl Model for AsbrRoute {
     ghost use Rattle.std.specs.Prelude.{◌<◌};
     ghost use Rattle.inter.specs.Inters.{most_cost};
     ghost use Rattle.external.specs.AsbrRoute.{PreferredValue};
+    ghost use Rattle.external.specs.Classes.{class_number};
 
     ghost Value = { PreferredValue };
 
-    ghost view = { λ p. record { preference = record { class = p.class; cost = p.cost; area = p.area }; hops = p.hops.items } };
+    ghost view = { λ p. record { preference = record { class = class_number p.class; cost = p.cost; area = p.area }; hops = p.hops.items } };
 
     ghost invariant = { λ p. p.cost < most_cost };
 }
 
 // The key by which the entries of one router are compared: the lower class (16.4.1), then the lower
 // cost, then the greater Area ID (16.4 (3)).
-#[derive(Clone, Copy, PartialEq, Eq, PartialOrd, Ord)]
+#[derive(Clone, Copy)]
 struct PreferenceKey {
-    class: u8,
+    class: PathClass,
     cost: u32,
-    area: Reverse<u32>,
+    area: u32,
 }
 
 impl Model for PreferenceKey {
     ghost use Rattle.std.specs.Prelude.{◌<◌};
     ghost use Rattle.ospf_types.specs.Boundary.{Preference};
     ghost use Rattle.inter.specs.Inters.{most_cost};
+    ghost use Rattle.external.specs.Classes.{class_number, numbered_class, same_class};
 
     ghost Value = { Preference };
 
-    ghost view = { λ k. record { class = k.class; cost = k.cost; area = k.area.0 } };
+    ghost view = { λ k. record { class = class_number k.class; cost = k.cost; area = k.area } };
 
     ghost invariant = { λ k. k.cost < most_cost };
 
-    ghost inverse = { λ p. record { class = p.class; cost = p.cost; area = record { 0 = p.area } } };
+    ghost inverse = { λ p. record { class = numbered_class p.class; cost = p.cost; area = p.area } };
+
+    ghost inverse_ok = { λ k h i. record { class = same_class k.class i; cost = k.cost; area = k.area } };
+}
+
+// proof: the comparisons are written by hand, since clauses see a class as a number.
+impl PartialEq for PreferenceKey {
+    ghost eq = { eq_by_cmp preference_cmp };
+
+    ghost laws = { partial_equiv_from_equiv (eq_by_cmp_equiv preference_total) };
+
+    fn eq(&self, other: &PreferenceKey) -> bool {
+        self.cmp(other).is_eq()
+    }
+}
+
+impl Eq for PreferenceKey {
+    ghost laws = { eq_by_cmp_equiv preference_total };
+}
+
+impl PartialOrd for PreferenceKey {
+    ghost partial_cmp = { as_partial_cmp preference_cmp };
+
+    ghost laws = { partial_order_from_total preference_total };
+
+    fn partial_cmp(&self, other: &PreferenceKey) -> Option<Ordering> {
+        Some(self.cmp(other))
+    }
+}
+
+impl Ord for PreferenceKey {
+    ghost cmp = { preference_cmp };
+
+    ghost total = { preference_total };
+
+    ghost matches_partial_cmp = { λ x y. refl };
+
+    ghost matches_eq = { λ x y. refl };
+
+    fn cmp(&self, other: &PreferenceKey) -> Ordering {
+        let class = self.class.number().cmp(&other.class.number());
+        let cost = self.cost.cmp(&other.cost);
+        class.then(cost.then(other.area.cmp(&self.area)))
+    }
 }
 
 impl ExactOrd for PreferenceKey {
-    ghost use Rattle.std.specs.Prelude.{ℕ};
-    ghost use Rattle.std.specs.Ordering.{nat_cmp};
-    ghost use Rattle.std.proofs.Common.{ap};
-    ghost use Rattle.std.proofs.lemmas.Map.Lookups.{exact_pairs, exact_unsigned};
-    ghost use Rattle.ospf_types.specs.Boundary.{Preference};
-    ghost use Rattle.ospf_types.specs.Intra.{area_cost_cmp};
-    ghost use Rattle.ospf_types.proofs.Orders.{area_cost_exact};
+    ghost use Rattle.ospf_types.proofs.Orders.{preference_exact};
 
-    ghost exact = { λ a b h.
-        ap (λ (t : ℕ × (ℕ × ℕ)). let p : Preference = record { class = t.0; cost = t.1.0; area = t.1.1 } in p)
-        (exact_pairs nat_cmp area_cost_cmp exact_unsigned area_cost_exact (a.class, (a.cost, a.area)) (b.class, (b.cost, b.area)) h) };
+    ghost exact = { preference_exact };
 }
 
 impl PreferenceKey {
-    fn new(class: u8, cost: u32, area: u32) -> PreferenceKey
+    fn new(class: PathClass, cost: u32, area: u32) -> PreferenceKey
         requires { cost < most_cost }
-        ensures { result ≡ record { class = class; cost = cost; area = area } }
+        ensures { result ≡ record { class = class_number class; cost = cost; area = area } }
     {
-        PreferenceKey {
-            class,
-            cost,
-            area: Reverse(area),
-        }
+        PreferenceKey { class, cost, area }
     }
 }
 
@@ -127,10 +166,9 @@ impl AsbrRoute {
         self.hops.as_slice()
     }
 
-    /// Returns the class: 0 if the entry is an intra-area path through another area than the
-    /// backbone, or else 1. With RFC1583Compatibility it is always 0 (RFC 2328, 16.4.1).
-    pub fn class(&self) -> u8
-        ensures { result ≡ self.now.preference.class }
+    /// Returns the class of the entry.
+    pub fn class(&self) -> PathClass
+        ensures { class_number result ≡ self.now.preference.class }
     {
         self.class
     }
@@ -169,16 +207,20 @@ pub(crate) fn choose_preferred(
 
 /// Returns the class of an entry (RFC 2328, 16.4.1). `within` is the area of an intra-area entry,
 /// or `None` for other entries.
-pub(crate) fn class_of(compat: bool, within: Option<u32>) -> u8
-    ensures { result ≡ class_of compat within }
+pub(crate) fn class_of(compat: bool, within: Option<u32>) -> PathClass
+    ensures { class_number result ≡ class_of compat within }
 {
     // 16.4.1: intra-area paths through other areas than the backbone are preferred to all others.
     if compat {
-        return 0;
+        return PathClass::MostPreferred;
     }
     match within {
-        Some(area) => if area == BACKBONE { 1 } else { 0 },
-        None => 1,
+        Some(area) => if area == BACKBONE {
+            PathClass::Other
+        } else {
+            PathClass::MostPreferred
+        },
+        None => PathClass::Other,
     }
 }
 
@@ -190,7 +232,7 @@ fn from_choice(choice: Choice<PreferenceKey, NextHop>) -> AsbrRoute
     AsbrRoute {
         class: key.class,
         cost: key.cost,
-        area: key.area.0,
+        area: key.area,
         hops,
     }
 }

@@ -7,9 +7,13 @@ use Rattle.ospf_types.specs.declared.entry.Vertex.TheVariants.{Network, Router}
 use Rattle.ospf_types.specs.declared.prefix.Prefix.{Prefix}
 use Rattle.ospf_types.proofs.Elements.{no_element}
 use Rattle.intra.specs.declared.area_index.Source.{Source}
+use Rattle.intra.specs.declared.choose.ReachedNetwork.{ReachedNetwork}
 use Rattle.intra.specs.Choosing.{AmongSources, FindsNearest, IsNoFarther}
 use Rattle.intra.specs.Inputs.{AreaValue, distance_at}
 use Rattle.intra.specs.Offers.{Offering, IsReachedFor, IsNearest}
+
+abbrev reached_at : ℕ → ℕ → ReachedNetwork
+reached_at id distance = record { id = id; distance = distance }
 
 -- it is one network at one distance
 pub nearest_is_one : (offered : Offering) (a : AreaValue) (p : Prefix) (id distance other d : ℕ) → IsNearest offered a p id distance → IsNearest offered a p other d → (id ≡ other) × (distance ≡ d)
@@ -27,7 +31,7 @@ module _ (a : AreaValue) (p : Prefix) where
   nearest_of_none = λ id distance reached. no_element (record { vertex = Network id; metric = 0 }) reached.0
 
   -- a network that is no farther than the one that was found is no farther than any before it
-  below_all : (before : List Source) (result : ℕ × ℕ) (best : Option (ℕ × ℕ)) → FindsNearest (AmongSources before) a p best → IfSome best (λ n. IsNoFarther result n) → (other d : ℕ) → IsReachedFor (AmongSources before) a p other d → IsNoFarther result (other, d)
+  below_all : (before : List Source) (result : ReachedNetwork) (best : Option ReachedNetwork) → FindsNearest (AmongSources before) a p best → IfSome best (λ n. IsNoFarther result n) → (other d : ℕ) → IsReachedFor (AmongSources before) a p other d → IsNoFarther result (reached_at other d)
   below_all before result None found below other d reached = absurd (found other d reached)
   below_all before result (Some b) found below other d reached =
       let first = below.near in
@@ -35,7 +39,7 @@ module _ (a : AreaValue) (p : Prefix) where
       record {
         near = omega (arith, first, then);
         great = λ e.
-            let at : b.1 ≡ d = omega (arith, first, then, e) in
+            let at : b.distance ≡ d = omega (arith, first, then, e) in
             let here = found.greatest other (subst (IsReachedFor (AmongSources before) a p other) (sym at) reached) in
             let most = below.great (e ∙ sym at) in
             omega (arith, here, most);
@@ -46,44 +50,44 @@ module _ (a : AreaValue) (p : Prefix) where
     After = AmongSources (before ++ s ∷ [])
 
     -- the source leads to no transit network that is reached
-    passed : (best : Option (ℕ × ℕ)) → ((id d : ℕ) → s ≡ record { vertex = Network id; metric = 0 } → distance_at a (Network id) ≡ Some d → ⊥) → FindsNearest (AmongSources before) a p best → FindsNearest After a p best
+    passed : (best : Option ReachedNetwork) → ((id d : ℕ) → s ≡ record { vertex = Network id; metric = 0 } → distance_at a (Network id) ≡ Some d → ⊥) → FindsNearest (AmongSources before) a p best → FindsNearest After a p best
     passed best other found =
         let back : (id d : ℕ) → IsReachedFor After a p id d → IsReachedFor (AmongSources before) a p id d = λ id d reached.
         (⊎_elim (λ (c : Contains before (record { vertex = Network id; metric = 0 })). c) (λ (e : s ≡ record { vertex = Network id; metric = 0 }). absurd (other id d e reached.1)) (Contains-push_cases before s (record { vertex = Network id; metric = 0 }) reached.0), reached.1) in
         elim best as (λ b. FindsNearest (AmongSources before) a p b → FindsNearest After a p b) [
           | None ↦ λ none id d reached. none id d (back id d reached)
           | Some b ↦ λ near. record {
-            reached = (Contains-append_left before (s ∷ []) (record { vertex = Network b.0; metric = 0 }) near.reached.0, near.reached.1);
+            reached = (Contains-append_left before (s ∷ []) (record { vertex = Network b.id; metric = 0 }) near.reached.0, near.reached.1);
             nearest = λ id d reached. near.nearest id d (back id d reached);
-            greatest = λ id reached. near.greatest id (back id b.1 reached);
+            greatest = λ id reached. near.greatest id (back id b.distance reached);
           }
         ] found
 
     -- the source is a stub link
-    pub passes_router : (best : Option (ℕ × ℕ)) (router : ℕ) → s.vertex ≡ Router router → FindsNearest (AmongSources before) a p best → FindsNearest After a p best
+    pub passes_router : (best : Option ReachedNetwork) (router : ℕ) → s.vertex ≡ Router router → FindsNearest (AmongSources before) a p best → FindsNearest After a p best
     passes_router best router is = passed best (λ id d e far. let both : Router router ≡ Network id = sym is ∙ ap (λ (t : Source). t.vertex) e in absurd cc)
 
-    pub passes_unreached : (best : Option (ℕ × ℕ)) → distance_at a s.vertex ≡ None → FindsNearest (AmongSources before) a p best → FindsNearest After a p best
+    pub passes_unreached : (best : Option ReachedNetwork) → distance_at a s.vertex ≡ None → FindsNearest (AmongSources before) a p best → FindsNearest After a p best
     passes_unreached best none = passed best (λ id d e far. let both : Some d ≡ None = sym far ∙ ap (λ (t : Source). distance_at a t.vertex) (sym e) ∙ none in absurd cc)
 
     -- the source is a transit network that is reached
-    pub takes_reached : (best : Option (ℕ × ℕ)) (id d : ℕ) (result : ℕ × ℕ) → s.vertex ≡ Network id → s.metric ≡ 0 → distance_at a s.vertex ≡ Some d → (result ≡ (id, d)) ⊎ (best ≡ Some result) → IsNoFarther result (id, d) → IfSome best (λ n. IsNoFarther result n) → FindsNearest (AmongSources before) a p best → FindsNearest After a p (Some result)
+    pub takes_reached : (best : Option ReachedNetwork) (id d : ℕ) (result : ReachedNetwork) → s.vertex ≡ Network id → s.metric ≡ 0 → distance_at a s.vertex ≡ Some d → (result ≡ reached_at id d) ⊎ (best ≡ Some result) → IsNoFarther result (reached_at id d) → IfSome best (λ n. IsNoFarther result n) → FindsNearest (AmongSources before) a p best → FindsNearest After a p (Some result)
     takes_reached best id d result is zero far one here below found =
         let this : s ≡ record { vertex = Network id; metric = 0 } = λ i. record { vertex = is i; metric = zero i } in
-        let all : (other e : ℕ) → IsReachedFor After a p other e → IsNoFarther result (other, e) = λ other e reached.
+        let all : (other e : ℕ) → IsReachedFor After a p other e → IsNoFarther result (reached_at other e) = λ other e reached.
         ⊎_elim (λ (c : Contains before (record { vertex = Network other; metric = 0 })). below_all before result best found below other e (c, reached.1))
         (λ (same : s ≡ record { vertex = Network other; metric = 0 }).
         let v : Network id ≡ Network other = sym is ∙ ap (λ (t : Source). t.vertex) same in
         let number : id ≡ other = cc in
         let both : Some d ≡ Some e = sym far ∙ ap (λ (t : Source). distance_at a t.vertex) same ∙ reached.1 in
         let distance : d ≡ e = cc in
-        subst (IsNoFarther result) (λ i. (number i, distance i)) here)
+        subst (IsNoFarther result) (λ i. reached_at (number i) (distance i)) here)
         (Contains-push_cases before s (record { vertex = Network other; metric = 0 }) reached.0) in
         record {
           reached = ⊎_elim
-              (λ (e : result ≡ (id, d)). subst (λ (n : ℕ × ℕ). IsReachedFor After a p n.0 n.1) (sym e) (subst (Contains (before ++ s ∷ [])) this (Contains-push before s), ap (distance_at a) (sym is) ∙ far))
-              (λ (e : best ≡ Some result). let near = subst (FindsNearest (AmongSources before) a p) e found in (Contains-append_left before (s ∷ []) (record { vertex = Network result.0; metric = 0 }) near.reached.0, near.reached.1))
+              (λ (e : result ≡ reached_at id d). subst (λ (n : ReachedNetwork). IsReachedFor After a p n.id n.distance) (sym e) (subst (Contains (before ++ s ∷ [])) this (Contains-push before s), ap (distance_at a) (sym is) ∙ far))
+              (λ (e : best ≡ Some result). let near = subst (FindsNearest (AmongSources before) a p) e found in (Contains-append_left before (s ∷ []) (record { vertex = Network result.id; metric = 0 }) near.reached.0, near.reached.1))
               one;
           nearest = λ other e reached. (all other e reached).near;
-          greatest = λ other reached. (all other result.1 reached).great refl;
+          greatest = λ other reached. (all other result.distance reached).great refl;
         }

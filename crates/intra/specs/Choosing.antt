@@ -9,6 +9,7 @@ use Rattle.ospf_types.specs.declared.prefix.Prefix.{Prefix}
 use Rattle.ospf_types.specs.Hops.{path_cmp}
 use Rattle.ospf_types.specs.Intra.{AreaCost, area_cost_cmp, LiesIn, inside_area}
 use Rattle.intra.specs.declared.area_index.Source.{Source}
+use Rattle.intra.specs.declared.choose.ReachedNetwork.{ReachedNetwork}
 use Rattle.route_choice.specs.Choices.{Chosen}
 use Rattle.intra.specs.Indexes.{IndexedOffers}
 use Rattle.intra.specs.Inputs.{AreaValue, InputsValue}
@@ -75,18 +76,18 @@ abbrev pub InterfacesOffer : List (ℕ × Interface) → Prefix → AreaCost →
 InterfacesOffer interfaces p at = OfferedBySome interfaces (InterfaceOffers p at)
 
 -- the transit network that stands for the prefix with its distance, or `None` if none is reached
-abbrev pub FindsNearest : Offering → AreaValue → Prefix → Option (ℕ × ℕ) → Type 0
+abbrev pub FindsNearest : Offering → AreaValue → Prefix → Option ReachedNetwork → Type 0
 FindsNearest offered a p None = (id distance : ℕ) → IsReachedFor offered a p id distance → ⊥
-FindsNearest offered a p (Some found) = IsNearest offered a p found.0 found.1
+FindsNearest offered a p (Some found) = IsNearest offered a p found.id found.distance
 
 -- with one more source the nearest transit network is the one that is found, whichever sources came
 -- before
-abbrev pub FindsNearestWith : AreaValue → Source → Option (ℕ × ℕ) → Option (ℕ × ℕ) → Type 0
+abbrev pub FindsNearestWith : AreaValue → Source → Option ReachedNetwork → Option ReachedNetwork → Type 0
 FindsNearestWith a source nearest found =
     (before : List Source) (p : Prefix) → FindsNearest (AmongSources before) a p nearest → FindsNearest (AmongSources (before ++ source ∷ [])) a p found
 
 -- of two networks, each a number and a distance: the first is the nearer, or at one distance has
 -- the greater number, or is the second
-pub record IsNoFarther (a b : ℕ × ℕ) : Type 0 where
-  pub near : a.1 ≤ b.1
-  pub great : a.1 ≡ b.1 → b.0 ≤ a.0
+pub record IsNoFarther (a b : ReachedNetwork) : Type 0 where
+  pub near : a.distance ≤ b.distance
+  pub great : a.distance ≡ b.distance → b.id ≤ a.id

@@ -45,6 +45,13 @@ struct AreaNetwork<'a> {
     prefix: Prefix,
 }
 
+// A transit network that is reached: its Link State ID and its distance.
+#[derive(Clone, Copy)]
+struct ReachedNetwork {
+    id: u32,
+    distance: u32,
+}
+
 impl<'a> Choose<Prefix, IntraEntry> for IndexedInputs<'a> {
     ghost use Rattle.intra.specs.ChosenAnew.{IsEntryBy};
 
@@ -151,15 +158,15 @@ fn offer_sources(
 fn offer_source(
     best: &mut Best<AreaCost, Path>,
     network: &AreaNetwork<'_>,
-    nearest: Option<(u32, u32)>,
+    nearest: Option<ReachedNetwork>,
     source: &Source,
-) -> Result<Option<(u32, u32)>, Memory>
-    requires { IfSome nearest (λ n. n.1 < most_distance) }
+) -> Result<Option<ReachedNetwork>, Memory>
+    requires { IfSome nearest (λ n. n.distance < most_distance) }
     ensures offered { OnOk result
         (TakesPaths (StubOffers source.now network.now.inputs.now network.now.area.now
         network.now.prefix) best.old best.new) }
     ensures found { IfOk result (FindsNearestWith network.now.area.now source.now nearest) }
-    ensures bounded { IfOk result (λ found. IfSome found (λ n. n.1 < most_distance)) }
+    ensures bounded { IfOk result (λ found. IfSome found (λ n. n.distance < most_distance)) }
 {
     match source.vertex.vertex() {
         Vertex::Router(router) => {
@@ -248,17 +255,22 @@ fn offer_transit(
     best: &mut Best<AreaCost, Path>,
     area: &AreaInputs<'_>,
     sources: &[Source],
-    nearest: Option<(u32, u32)>,
+    nearest: Option<ReachedNetwork>,
 ) -> Result<(), Memory>
-    requires { IfSome nearest (λ n. n.1 < most_distance) }
+    requires { IfSome nearest (λ n. n.distance < most_distance) }
     ensures { (sources : List SourceValue) (p : PrefixValue)
         → FindsNearest (AmongSources sources) area.now p nearest
         → OnOk result (TakesPaths (TransitOffers sources area.now p) best.old best.new) }
 {
     match nearest {
-        Some((id, distance)) => {
-            let key = cost_in(area, distance);
-            offer_hops(best, key, None, hops(area, &network_of(sources, id)))
+        Some(network) => {
+            let key = cost_in(area, network.distance);
+            offer_hops(
+                best,
+                key,
+                None,
+                hops(area, &network_of(sources, network.id)),
+            )
         }
         None => Ok(()),
     }
@@ -280,12 +292,12 @@ fn network_of(sources: &[Source], id: u32) -> HintedVertex
 // Returns the nearest transit network, with this source included.
 fn nearest_with(
     area: &AreaInputs<'_>,
-    nearest: Option<(u32, u32)>,
+    nearest: Option<ReachedNetwork>,
     source: &Source,
-) -> Option<(u32, u32)>
-    requires { IfSome nearest (λ n. n.1 < most_distance) }
+) -> Option<ReachedNetwork>
+    requires { IfSome nearest (λ n. n.distance < most_distance) }
     ensures found { FindsNearestWith area.now source.now nearest result }
-    ensures bounded { IfSome result (λ n. n.1 < most_distance) }
+    ensures bounded { IfSome result (λ n. n.distance < most_distance) }
 {
     if source.metric > 0 {
         return nearest;
@@ -294,20 +306,22 @@ fn nearest_with(
         return nearest;
     };
     match distance(area, &source.vertex) {
-        Some(distance) => Some(nearer(nearest, (id, distance))),
+        Some(distance) => Some(nearer(nearest, ReachedNetwork { id, distance })),
         None => nearest,
     }
 }
 
-// Returns the nearer of two networks, given as number and distance. At equal distances it is the
-// network with the greater number.
-fn nearer(nearest: Option<(u32, u32)>, other: (u32, u32)) -> (u32, u32)
+// Returns the nearer of two networks. At equal distances it is the network with the greater Link
+// State ID.
+fn nearer(nearest: Option<ReachedNetwork>, other: ReachedNetwork) -> ReachedNetwork
     ensures one { (result ≡ other) ⊎ (nearest ≡ Some result) }
     ensures other { IsNoFarther result other }
     ensures nearest { IfSome nearest (λ n. IsNoFarther result n) }
 {
     match nearest {
-        Some((id, least)) if least < other.1 || (least == other.1 && other.0 < id) => (id, least),
+        Some(found)
+            if found.distance < other.distance
+                || (found.distance == other.distance && other.id < found.id) => found,
         _ => other,
     }
 }

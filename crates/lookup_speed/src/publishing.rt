@@ -126,6 +126,13 @@ struct Times {
     sum: u64,
 }
 
+/// The nanoseconds of a reader's fastest pass, and the sum of the numbers found in all its passes.
+#[derive(Clone, Copy)]
+struct Pass {
+    time: u64,
+    sum: u64,
+}
+
 // Returns the table with the networks.
 fn with_networks<T: Table + Drop>(table: T, networks: &[Prefix]) -> Result<Shown<T>, Memory> {
     let mut table = table;
@@ -155,7 +162,7 @@ fn read_and_publish<R: AllocGlobal + Clock + Threads + Wait + Sync, T: Table + D
 {
     let readers = readers_of(rt, &writer, load.threads)?;
     let left = AtomicU64::new(u64::from(load.threads));
-    let (times, publication) = join(
+    let (passes, publication) = join(
         rt,
         || map_vec(
             rt,
@@ -164,7 +171,7 @@ fn read_and_publish<R: AllocGlobal + Clock + Threads + Wait + Sync, T: Table + D
         ),
         || publish(rt, writer, load.networks, &left),
     );
-    let (lookup, sum) = added(times?.as_slice(), load.addresses.len());
+    let (lookup, sum) = added(passes?.as_slice(), load.addresses.len());
     Ok(Times {
         lookup,
         publication: publication?,
@@ -173,41 +180,40 @@ fn read_and_publish<R: AllocGlobal + Clock + Threads + Wait + Sync, T: Table + D
 }
 
 // Returns the time of a lookup by one reader, and the sum of the numbers that all readers found.
-fn added(times: &[(u64, u64)], lookups: usize) -> (Each, u64) {
+fn added(passes: &[Pass], lookups: usize) -> (Each, u64) {
     let (mut time, mut sum): (u64, u64) = (0, 0);
-    for one in times {
-        time = time.saturating_add(one.0);
-        sum = sum.wrapping_add(one.1);
+    for pass in passes {
+        time = time.saturating_add(pass.time);
+        sum = sum.wrapping_add(pass.sum);
     }
-    (Each(time, lookups.saturating_mul(times.len())), sum)
+    (Each(time, lookups.saturating_mul(passes.len())), sum)
 }
 
-// Looks the addresses up. Returns the nanoseconds of the fastest pass, and the sum of the numbers
-// found.
+// Looks the addresses up, and returns the fastest pass.
 fn read<R: Clock, T: Table + Drop>(
     rt: &R,
     reader: ReadHandle<Shown<T>>,
     addresses: &[u32],
     left: &AtomicU64,
-) -> (u64, u64) {
+) -> Pass {
     let mut reader = reader;
     let pass = fastest_pass(rt, &mut reader, addresses);
     left.fetch_sub(1, Ordering::SeqCst);
-    pass.unwrap_or((0, 0))
+    pass.unwrap_or(Pass { time: 0, sum: 0 })
 }
 
 fn fastest_pass<R: Clock, T: Table + Drop>(
     rt: &R,
     reader: &mut ReadHandle<Shown<T>>,
     addresses: &[u32],
-) -> io::Result<(u64, u64)> {
+) -> io::Result<Pass> {
     let (mut fastest, mut sum) = (u64::MAX, 0);
     for _ in 0..PASSES {
         let start = Instant::now(rt)?;
         sum = read_once(reader, addresses, sum);
         fastest = fastest.min(nanoseconds_since(rt, start)?);
     }
-    Ok((fastest, sum))
+    Ok(Pass { time: fastest, sum })
 }
 
 // Enters the table for each burst of addresses.

@@ -15,5 +15,5 @@ abbrev pub invariant-loop-source : goal.invariant-loop-source
 invariant-loop-source l = record {
   offered : (new : Option (Chosen AreaCost Path)) → TakesPaths (OfferedBySome (drop l.source-index l.sources) (λ s. KeyedStubs (ThisSource s) l.network.inputs.now l.network.area.now l.network.prefix)) l.best new → TakesPaths (OfferedBySome l.sources (λ s. KeyedStubs (ThisSource s) l.network.inputs.now l.network.area.now l.network.prefix)) l.initial.best new;
   found : (p : Prefix) → FindsNearest (AmongSources (take l.source-index l.sources)) l.network.area.now p l.nearest;
-  bounded : IfSome l.nearest (λ n. n.1 < most_distance);
+  bounded : IfSome l.nearest (λ n. n.distance < most_distance);
 }

@@ -12,8 +12,8 @@ returns-in-Some c = λ sources p found.
     let a = c.args.area.now in
     let near = subst (FindsNearest (AmongSources sources) a p) c.in-Some.is found in
     on_ok_weaker c.offer_hops.result
-    (λ takes. takes_transit a p (AmongSources sources) c.in-Some.id c.in-Some.distance c.args.best.now c.offer_hops.new.best near
-    (subst (λ (hops : List NextHop). TakesPaths (HopsOffer hops (c.in-Some.distance, a.id)) c.args.best.now c.offer_hops.new.best) (c.hops.ensures ∙ ap (hops_at a) c.network_of.ensures)
+    (λ takes. takes_transit a p (AmongSources sources) c.in-Some.network.id c.in-Some.network.distance c.args.best.now c.offer_hops.new.best near
+    (subst (λ (hops : List NextHop). TakesPaths (HopsOffer hops (c.in-Some.network.distance, a.id)) c.args.best.now c.offer_hops.new.best) (c.hops.ensures ∙ ap (hops_at a) c.network_of.ensures)
     (subst (λ (k : AreaCost). TakesPaths (HopsOffer c.hops.result.now k) c.args.best.now c.offer_hops.new.best) c.cost_in-key.ensures takes)))
     c.offer_hops.ensures
 
