@@ -9,7 +9,7 @@ ghost use Rattle.abr_c.specs.Views.{interfaces_in, lsa_at, lsas_in};
 use crate::c_types::{CInterface, CScope};
 use crate::given::{give, write_bytes};
 use crate::lsas::write_lsa;
-use crate::slot::Slot;
+use crate::slot::{Slot, with_core};
 use event_state::Base;
 use lsa_codec::Checked;
 use ospf_types::config::Interface;
@@ -23,12 +23,7 @@ pub extern "C" fn abr_base_serial(alloc: Global, slot: &mut Slot) -> u64
     ensures value { result ≡ base_serial_in (core_in slot.old) }
     ensures kept { core_in slot.new ≡ core_in slot.old }
 {
-    let Some(core) = slot.take(alloc) else {
-        return 0;
-    };
-    let serial = core.base().serial;
-    slot.put(core);
-    serial
+    with_core!(alloc, slot, 0, |core| core.base().serial)
 }
 
 /// Returns the number of interfaces of the base.
@@ -37,12 +32,7 @@ pub extern "C" fn abr_base_interfaces(alloc: Global, slot: &mut Slot) -> usize
     ensures count { result ≡ length (interfaces_in (core_in slot.old)) }
     ensures kept { core_in slot.new ≡ core_in slot.old }
 {
-    let Some(core) = slot.take(alloc) else {
-        return 0;
-    };
-    let count = core.base().interfaces.len();
-    slot.put(core);
-    count
+    with_core!(alloc, slot, 0, |core| core.base().interfaces.len())
 }
 
 /// Writes interface number `n` of the base to `out`. Returns true if there is one.
@@ -56,11 +46,12 @@ pub extern "C" fn abr_base_interface_at(
     ensures given { IsGiven (interface_at (core_in slot.old) n) result out.old out.new }
     ensures kept { core_in slot.new ≡ core_in slot.old }
 {
-    let Some(core) = slot.take(alloc) else {
-        return false;
-    };
-    let interface = interface_among(core.base().interfaces.as_slice(), n);
-    slot.put(core);
+    let interface = with_core!(
+        alloc,
+        slot,
+        false,
+        |core| interface_among(core.base().interfaces.as_slice(), n)
+    );
     give(out, interface)
 }
 
@@ -70,12 +61,7 @@ pub extern "C" fn abr_base_lsas(alloc: Global, slot: &mut Slot) -> usize
     ensures count { result ≡ length (lsas_in (core_in slot.old)) }
     ensures kept { core_in slot.new ≡ core_in slot.old }
 {
-    let Some(core) = slot.take(alloc) else {
-        return 0;
-    };
-    let count = core.base().lsas.len();
-    slot.put(core);
-    count
+    with_core!(alloc, slot, 0, |core| core.base().lsas.len())
 }
 
 /// Writes LSA number `n` of the base, with its scope. Returns its length, or 0 if there is none.
@@ -93,15 +79,15 @@ pub extern "C" fn abr_base_lsa_bytes(
         lsa.new }
     ensures kept { core_in slot.new ≡ core_in slot.old }
 {
-    let Some(core) = slot.take(alloc) else {
-        return 0;
-    };
-    let length = match core.base().lsas.as_slice().get(n) {
-        Some(found) => give_lsa(found, scope, lsa),
-        None => 0,
-    };
-    slot.put(core);
-    length
+    with_core!(
+        alloc,
+        slot,
+        0,
+        |core| match core.base().lsas.as_slice().get(n) {
+            Some(found) => give_lsa(found, scope, lsa),
+            None => 0,
+        }
+    )
 }
 
 /// Writes the base as text, if there is room for all of it. Returns the length of the text, or 0 if
@@ -111,12 +97,7 @@ pub extern "C" fn abr_base_text_bytes(alloc: Global, slot: &mut Slot, text: &mut
     ensures given { GivesText (core_in slot.old) result text.old text.new }
     ensures kept { core_in slot.new ≡ core_in slot.old }
 {
-    let Some(core) = slot.take(alloc) else {
-        return 0;
-    };
-    let length = give_text(alloc, core.base(), text);
-    slot.put(core);
-    length
+    with_core!(alloc, slot, 0, |core| give_text(alloc, core.base(), text))
 }
 
 fn give_lsa(found: &(Scope, Checked), scope: &mut CScope, out: &mut [u8]) -> usize

@@ -7,7 +7,7 @@ ghost use Rattle.abr_c.specs.Views.{due_at, due_in};
 
 use crate::c_types::{CDue, CPrefix};
 use crate::given::give;
-use crate::slot::Slot;
+use crate::slot::{Slot, with_core};
 use event_core::DueSummary;
 use ospf_types::key::Dest;
 use std::alloc::Global;
@@ -18,12 +18,7 @@ pub extern "C" fn abr_dues(alloc: Global, slot: &mut Slot, area: u32) -> usize
     ensures count { result ≡ length (due_in (core_in slot.old) area) }
     ensures kept { core_in slot.new ≡ core_in slot.old }
 {
-    let Some(core) = slot.take(alloc) else {
-        return 0;
-    };
-    let count = core.due(area).unwrap_or(&[]).len();
-    slot.put(core);
-    count
+    with_core!(alloc, slot, 0, |core| core.due(area).unwrap_or(&[]).len())
 }
 
 /// Writes number `n` of the summary-LSAs that are due in the area (in host order) to `out`. Returns
@@ -39,11 +34,12 @@ pub extern "C" fn abr_due_at(
     ensures given { IsGiven (due_at (core_in slot.old) area n) result out.old out.new }
     ensures kept { core_in slot.new ≡ core_in slot.old }
 {
-    let Some(core) = slot.take(alloc) else {
-        return false;
-    };
-    let due = due_among(core.due(area).unwrap_or(&[]), n);
-    slot.put(core);
+    let due = with_core!(
+        alloc,
+        slot,
+        false,
+        |core| due_among(core.due(area).unwrap_or(&[]), n)
+    );
     give(out, due)
 }
 

@@ -8,7 +8,7 @@ ghost use Rattle.abr_c.specs.Views.{due_changes_in};
 use crate::c_types::CDueChange;
 use crate::due::due_of;
 use crate::given::give;
-use crate::slot::Slot;
+use crate::slot::{Slot, with_core};
 use event_core::{DueChanges, DueSummary};
 use ospf_types::key::Dest;
 use std::alloc::Global;
@@ -19,12 +19,7 @@ pub extern "C" fn abr_due_changes(alloc: Global, slot: &mut Slot) -> usize
     ensures count { result ≡ c.counted (length (due_changes_in (core_in slot.old))) }
     ensures kept { core_in slot.new ≡ core_in slot.old }
 {
-    let Some(core) = slot.take(alloc) else {
-        return 0;
-    };
-    let count = count_changes(core.due_changes());
-    slot.put(core);
-    count
+    with_core!(alloc, slot, 0, |core| count_changes(core.due_changes()))
 }
 
 /// Writes change number `n` to `out`, counted area by area. Returns true if there is one.
@@ -39,11 +34,7 @@ pub extern "C" fn abr_due_change_at(
         out.new }
     ensures kept { core_in slot.new ≡ core_in slot.old }
 {
-    let Some(core) = slot.take(alloc) else {
-        return false;
-    };
-    let change = change_at(core.due_changes(), n);
-    slot.put(core);
+    let change = with_core!(alloc, slot, false, |core| change_at(core.due_changes(), n));
     give(out, change)
 }
 

@@ -10,7 +10,7 @@ ghost use Rattle.abr_c.specs.Slots.{core_in};
 
 use crate::c_types::{CKey, CPrefix, CScope};
 use crate::numbers::{NO_CORE, NO_PREFIX, refusal_number, status_number, wire_number};
-use crate::slot::Slot;
+use crate::slot::{Slot, with_core};
 use event_core::{Core, Event};
 use std::alloc::Global;
 
@@ -124,12 +124,12 @@ pub extern "C" fn abr_second(alloc: Global, slot: &mut Slot) -> u32
 pub extern "C" fn abr_catch_up(alloc: Global, slot: &mut Slot) -> u32
     ensures { CatchesUp (core_in slot.old) result (core_in slot.new) }
 {
-    let Some(mut core) = slot.take(alloc) else {
-        return NO_CORE;
-    };
-    let status = core.catch_up();
-    slot.put(core);
-    status_number(status)
+    with_core!(
+        alloc,
+        slot,
+        NO_CORE,
+        |mut core| status_number(core.catch_up())
+    )
 }
 
 /// Makes the present state the base, and empties the journal.
@@ -137,27 +137,17 @@ pub extern "C" fn abr_catch_up(alloc: Global, slot: &mut Slot) -> u32
 pub extern "C" fn abr_roll(alloc: Global, slot: &mut Slot) -> u32
     ensures { RollsTo (core_in slot.old) result (core_in slot.new) }
 {
-    let Some(mut core) = slot.take(alloc) else {
-        return NO_CORE;
-    };
-    let number = match core.roll() {
+    with_core!(alloc, slot, NO_CORE, |mut core| match core.roll() {
         Ok(_) => 0,
         Err(refusal) => refusal_number(refusal),
-    };
-    slot.put(core);
-    number
+    })
 }
 
 // Applies the event to the core. Returns the number of its outcome.
 fn apply(alloc: Global, slot: &mut Slot, event: Event) -> u32
     ensures { IsTold event (core_in slot.old) result (core_in slot.new) }
 {
-    let Some(mut core) = slot.take(alloc) else {
-        return NO_CORE;
-    };
-    let number = answer(&mut core, event);
-    slot.put(core);
-    number
+    with_core!(alloc, slot, NO_CORE, |mut core| answer(&mut core, event))
 }
 
 fn answer(core: &mut Core, event: Event) -> u32

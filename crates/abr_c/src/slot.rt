@@ -6,6 +6,29 @@ use event_core::Core;
 use std::alloc::Global;
 use std::mem::{ManuallyDrop, replace};
 
+/// Evaluates to `$ask` for the core in the slot, and puts the core back. Returns `$none` from the
+/// function if the slot has no core.
+macro_rules! with_core {
+    ($alloc:ident, $slot:ident, $none:expr, |$core:ident| $ask:expr) => {{
+        let Some($core) = $slot.take($alloc) else {
+            return $none;
+        };
+        let answer = $ask;
+        $slot.put($core);
+        answer
+    }};
+    ($alloc:ident, $slot:ident, $none:expr, |mut $core:ident| $ask:expr) => {{
+        let Some(mut $core) = $slot.take($alloc) else {
+            return $none;
+        };
+        let answer = $ask;
+        $slot.put($core);
+        answer
+    }};
+}
+
+pub(crate) use with_core;
+
 /// `abr`: a core, or none. C may move it, but does not change it.
 #[repr(C)]
 pub struct Slot {

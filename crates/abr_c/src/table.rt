@@ -10,7 +10,7 @@ ghost use Rattle.abr_c.specs.Views.{entries_in, hop_at, item_for, items_from, pa
 use crate::c_types::{CHop, CItem, CPrefix};
 use crate::given::give;
 use crate::items::{copy_items, count_items, without_first};
-use crate::slot::Slot;
+use crate::slot::{Slot, with_core};
 use ospf_types::entry::{Entry, PathType};
 use ospf_types::hop::{NextHop, Path};
 use ospf_types::prefix::Prefix;
@@ -23,12 +23,7 @@ pub extern "C" fn abr_serial(alloc: Global, slot: &mut Slot) -> u64
     ensures value { result ≡ serial_in (core_in slot.old) }
     ensures kept { core_in slot.new ≡ core_in slot.old }
 {
-    let Some(core) = slot.take(alloc) else {
-        return 0;
-    };
-    let serial = core.serial();
-    slot.put(core);
-    serial
+    with_core!(alloc, slot, 0, |core| core.serial())
 }
 
 /// Returns the serial of the last event that the table and the due summary-LSAs reflect.
@@ -37,12 +32,7 @@ pub extern "C" fn abr_built(alloc: Global, slot: &mut Slot) -> u64
     ensures value { result ≡ built_in (core_in slot.old) }
     ensures kept { core_in slot.new ≡ core_in slot.old }
 {
-    let Some(core) = slot.take(alloc) else {
-        return 0;
-    };
-    let built = core.built();
-    slot.put(core);
-    built
+    with_core!(alloc, slot, 0, |core| core.built())
 }
 
 /// Writes the longest match of the address (in host order) to `out`. Its kind is 0 if there is
@@ -53,11 +43,7 @@ pub extern "C" fn abr_lookup(alloc: Global, slot: &mut Slot, address: u32, out: 
     ensures kept { core_in slot.new ≡ core_in slot.old }
 {
     *out = NO_ITEM;
-    let Some(core) = slot.take(alloc) else {
-        return;
-    };
-    *out = looked_up(core.table(), address);
-    slot.put(core);
+    *out = with_core!(alloc, slot, (), |core| looked_up(core.table(), address));
 }
 
 /// Writes the item of the network to `out`. Its kind is 0 if there is none.
@@ -70,11 +56,12 @@ pub extern "C" fn abr_get(alloc: Global, slot: &mut Slot, prefix: CPrefix, out: 
     let Some(network) = prefix.network() else {
         return;
     };
-    let Some(core) = slot.take(alloc) else {
-        return;
-    };
-    *out = item_or_none(network, core.table().get(network));
-    slot.put(core);
+    *out = with_core!(
+        alloc,
+        slot,
+        (),
+        |core| item_or_none(network, core.table().get(network))
+    );
 }
 
 /// Writes next hop number `n` of the network to `out`. Returns true if there is one.
@@ -93,11 +80,7 @@ pub extern "C" fn abr_path(
     let Some(network) = prefix.network() else {
         return false;
     };
-    let Some(core) = slot.take(alloc) else {
-        return false;
-    };
-    let hop = hop_at(core.table(), network, n);
-    slot.put(core);
+    let hop = with_core!(alloc, slot, false, |core| hop_at(core.table(), network, n));
     give(out, hop)
 }
 
@@ -107,12 +90,7 @@ pub extern "C" fn abr_changes(alloc: Global, slot: &mut Slot) -> usize
     ensures count { result ≡ length (changes_in (core_in slot.old)) }
     ensures kept { core_in slot.new ≡ core_in slot.old }
 {
-    let Some(core) = slot.take(alloc) else {
-        return 0;
-    };
-    let count = core.changes().len();
-    slot.put(core);
-    count
+    with_core!(alloc, slot, 0, |core| core.changes().len())
 }
 
 /// Writes number `n` of these networks to `out`. Returns true if there is one.
@@ -121,11 +99,7 @@ pub extern "C" fn abr_change_at(alloc: Global, slot: &mut Slot, n: usize, out: &
     ensures given { IsGiven (change_at (core_in slot.old) n) result out.old out.new }
     ensures kept { core_in slot.new ≡ core_in slot.old }
 {
-    let Some(core) = slot.take(alloc) else {
-        return false;
-    };
-    let change = prefix_at(core.changes(), n);
-    slot.put(core);
+    let change = with_core!(alloc, slot, false, |core| prefix_at(core.changes(), n));
     give(out, change)
 }
 
@@ -135,12 +109,7 @@ pub extern "C" fn abr_items(alloc: Global, slot: &mut Slot) -> usize
     ensures count { result ≡ length (entries_in (core_in slot.old)) }
     ensures kept { core_in slot.new ≡ core_in slot.old }
 {
-    let Some(core) = slot.take(alloc) else {
-        return 0;
-    };
-    let count = count_items(core.table().items());
-    slot.put(core);
-    count
+    with_core!(alloc, slot, 0, |core| count_items(core.table().items()))
 }
 
 /// Writes the items from number `first` on to `out`, as many as fit. Returns their number.
@@ -156,12 +125,12 @@ pub extern "C" fn abr_items_from(
     ensures written { out.new ≡ copied (items_from (core_in slot.old) first) out.old }
     ensures kept { core_in slot.new ≡ core_in slot.old }
 {
-    let Some(core) = slot.take(alloc) else {
-        return 0;
-    };
-    let count = copy_items(without_first(core.table().items(), first), out);
-    slot.put(core);
-    count
+    with_core!(
+        alloc,
+        slot,
+        0,
+        |core| copy_items(without_first(core.table().items(), first), out)
+    )
 }
 
 fn looked_up(table: &Table, address: u32) -> CItem

@@ -28,7 +28,7 @@ use event_state::{Base, BaseFault, Limits, fault_in_base};
 use ospf_types::config::Config;
 use ospf_types::memory::Memory;
 use publication::{Forwarder, Told};
-use std::alloc::{AllocError, Global};
+use std::alloc::Global;
 use std::hash::RandomState;
 use std::marker::Model;
 use std::sync::{Mutex, Wait};
@@ -283,80 +283,26 @@ fn open_over<R: Wait>(
     ensures count { IfOk result (λ r. length r.1.items ≡ readers) }
     ensures forwarders { IfOk result (λ r. AreNew r.0 r.1.items) }
 {
-    match EngineState::open(rt, alloc, core, readers) {
-        Ok(engine_state) => begin(rt, alloc, engine_state, readers),
-        Err(_) => Err(OpenFault::Config(ConfigFault::Memory)),
-    }
-}
-
-// Opens an engine with `readers` forwarders over its state.
-fn begin<R: Wait>(
-    rt: &R,
-    alloc: Global,
-    engine_state: EngineState,
-    readers: usize,
-) -> Result<(Engine, Vec<Forwarder>), OpenFault>
-    requires { engine_state.published ≡ [] }
-    ensures fault { IfErr result IsLastFault }
-    ensures config { IfOk result (λ r. r.0 ≡ engine_state.name) }
-    ensures count { IfOk result (λ r. length r.1.items ≡ readers) }
-    ensures forwarders { IfOk result (λ r. AreNew r.0 r.1.items) }
-{
-    let mut engine_state = engine_state;
-    match forwarders(&mut engine_state, alloc, readers) {
-        Ok(all) => enter(rt, alloc, engine_state, all),
+    let Ok(mut engine_state) = EngineState::open(rt, alloc, core, readers) else {
+        return Err(OpenFault::Config(ConfigFault::Memory));
+    };
+    let all = match forwarders(&mut engine_state, alloc, readers) {
+        Ok(all) => all,
         Err(fault) => {
             drop(engine_state.end(rt));
-            Err(fault)
+            return Err(fault);
         }
-    }
+    };
+    let Ok(slot) = EngineSlot::open(alloc, &engine_state.tag()) else {
+        drop(engine_state.end(rt));
+        return Err(OpenFault::Config(ConfigFault::Memory));
+    };
+    slot.put(rt, engine_state);
+    let door = Mutex::new(());
+    Ok((Engine { alloc, door, slot }, all))
 }
 
-// Opens an engine over its state, and returns it with its forwarders.
-fn enter<R: Wait>(
-    rt: &R,
-    alloc: Global,
-    engine_state: EngineState,
-    all: Vec<Forwarder>,
-) -> Result<(Engine, Vec<Forwarder>), OpenFault>
-    ensures fault { IfErr result (λ e. e ≡ open_value.Config fault.Memory) }
-    ensures config { IfOk result (λ r. r.0 ≡ engine_state.name) }
-    ensures forwarders { IfOk result (λ r. r.1.items ≡ all.items) }
-{
-    match slot_of(rt, alloc, engine_state) {
-        Ok(slot) => Ok((
-            Engine {
-                alloc,
-                door: Mutex::new(()),
-                slot,
-            },
-            all,
-        )),
-        Err(fault) => Err(fault),
-    }
-}
-
-// Creates a slot with the engine's state in it.
-fn slot_of<R: Wait>(
-    rt: &R,
-    alloc: Global,
-    engine_state: EngineState,
-) -> Result<EngineSlot, OpenFault>
-    ensures fault { IfErr result (λ e. e ≡ open_value.Config fault.Memory) }
-    ensures name { IfOk result (λ slot. slot ≡ engine_state.name) }
-{
-    match EngineSlot::open(alloc, &engine_state.tag()) {
-        Ok(slot) => {
-            slot.put(rt, engine_state);
-            Ok(slot)
-        }
-        Err(_) => {
-            drop(engine_state.end(rt));
-            Err(OpenFault::Config(ConfigFault::Memory))
-        }
-    }
-}
-
+// Creates `count` forwarders, which know the empty history.
 fn forwarders(
     engine_state: &mut EngineState,
     alloc: Global,
@@ -382,25 +328,9 @@ fn add_forwarder(engine_state: &mut EngineState, all: &mut Vec<Forwarder>) -> Re
     ensures added { OnOk result (IsNewAdded engine_state.old.name all.old.items all.new.items) }
     ensures fault { IfErr result IsLastFault }
 {
-    keep(placed(engine_state.forwarder())?, all)
-}
-
-// Returns the forwarder, or 46 Place if there was no place for it.
-fn placed(found: Result<Forwarder, AllocError>) -> Result<Forwarder, OpenFault>
-    ensures { MatchResult found (λ forwarder. result ≡ Ok forwarder)
-        (λ _. result ≡ Err open_value.Place) }
-{
-    match found {
-        Ok(forwarder) => Ok(forwarder),
-        Err(_) => Err(OpenFault::Place),
-    }
-}
-
-// Appends the forwarder.
-fn keep(forwarder: Forwarder, all: &mut Vec<Forwarder>) -> Result<(), OpenFault>
-    ensures added { OnOk result (all.new.items ≡ all.old.items ++ forwarder ∷ []) }
-    ensures fault { IfErr result (λ e. e ≡ open_value.Config fault.Memory) }
-{
+    let Ok(forwarder) = engine_state.forwarder() else {
+        return Err(OpenFault::Place);
+    };
     match all.push(forwarder) {
         Ok(()) => Ok(()),
         Err(_) => Err(OpenFault::Config(ConfigFault::Memory)),
