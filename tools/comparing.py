@@ -29,15 +29,23 @@ OWN = {"build", "install", "uninstall", "man", "completions"}
 # A line before a block of lines of a file.
 QUOTED = re.compile(r".*\[[^\]]*\]\((\S+)\):")
 INDENT, LEFT_OUT, FENCE = "    ", "..", "```"
-# How many lines each page has at most, and all of them together.
+# How many lines each page has at most, and all of them together. (The others are for few, or a history.)
 MOST_LINES = {
     "README.md": 130,
     "CONTRIBUTING.md": 150,
     "docs/ARCHITECTURE.md": 150,
+    "docs/C.md": 120,
+    "docs/COMMANDS.md": 220,
     "docs/DECISIONS.md": 150,
+    "docs/FORMATS.md": 450,
     "docs/GLOSSARY.md": 140,
+    "docs/LIBRARY.md": 150,
+    "docs/PROFILE.md": 60,
+    "docs/PROVED.md": 130,
+    "docs/THEOREM.md": 200,
 }
 MOST_IN_ALL = 2050
+UNBOUNDED = {"CHANGELOG.md", "bench/README.md", "docs/internal/PROOF_NOTES.md"}
 LINK = re.compile(r"\[[^\]]*\]\(([^()\s]+)\)")
 PICTURE = re.compile(r"!\[[^\]]*\]\(([^()\s]+[.]svg)\)")
 # The table of crates, and a row of it: its crates, and the files of their sources at which to begin.
@@ -120,9 +128,10 @@ def faults_of_wrong_bodies():
 
 
 def faults_of_lengths():
-    """Yields which pages have more lines than they may have, and if all of them together have."""
+    """Yields which pages have more lines than they may have, or no bound, and if all of them together have too many."""
     counts = {page: len(lines_of(page) or []) for page in MOST_LINES}
     yield from (f"{page}: {counts[page]} lines, more than {most}" for page, most in MOST_LINES.items() if counts[page] > most)
+    yield from (f"{page}: this page has no bound in tools/comparing.py" for page in pages() if page not in {*MOST_LINES, *UNBOUNDED})
     if sum(counts.values()) > MOST_IN_ALL:
         yield f"the pages have {sum(counts.values())} lines, more than {MOST_IN_ALL}"
 
