@@ -52,7 +52,7 @@ PATTERNS = [re.compile(it) for it in (
     r"\b[Ll]ook-ups?\b",
 )]
 # Where a sentence of a comment ends, or an item of a list or a cell of a table begins.
-ENDS = re.compile(r"(?<=[.:;?!])\s+|\n\n+|\s\|\s|^\s*[-*] ")
+ENDS = re.compile(r"(?<=[.:;?!])\s+|(?<=[.:;?!]\*\*)\s+|\n\n+|\s\|\s|^\s*[-*] ")
 
 
 def faults():
