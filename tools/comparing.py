@@ -50,6 +50,8 @@ LINK = re.compile(r"\[[^\]]*\]\(([^()\s]+)\)")
 PICTURE = re.compile(r"!\[[^\]]*\]\(([^()\s]+[.]svg)\)")
 # The table of crates, and a row of it: its crates, and the files of their sources at which to begin.
 CRATES, CRATE = "docs/ARCHITECTURE.md", re.compile(r"\| [\w ]*\| (`\w+`(?:, `\w+`)*) \|.*\| ([\w, -]+) \|")
+# A file that a row of the table of questions names: its crate, and its path in src/ or specs/ of that.
+QUESTION, ANSWER = re.compile(r"\| [^|]*\? \| (.*) \|"), re.compile(r"`(\w+)`: `(specs/)?(\w+)`")
 # The table of wrong bodies, the heading above it, and the edits in a row: their crate, and their names.
 WRONG, WRONG_HEADING = "docs/internal/PROOF_NOTES.md", "## Wrong bodies, and what refuses them"
 EDITS = re.compile(r"\|[^|]*\| `(\w+)`: (`\w+`(?:, `\w+`)*) \|")
@@ -70,7 +72,7 @@ VERSIONS = {
 def faults():
     """Returns what is wrong with the pages, and with the versions."""
     found = [f"{page}:{line}: {fault}" for page in pages() for line, fault in faults_of(page)]
-    return [*found, *faults_of_versions(), *faults_of_crates(), *faults_of_wrong_bodies(), *faults_of_lengths()]
+    return [*found, *faults_of_versions(), *faults_of_crates(), *faults_of_questions(), *faults_of_wrong_bodies(), *faults_of_lengths()]
 
 
 @functools.lru_cache(maxsize=None)
@@ -114,6 +116,19 @@ def faults_of_crates():
         for file in files.split(", ") if files != "-" else []:
             if not any(os.path.isfile(f"{TOP}/crates/{crate}/src/{file}.rt") for crate in row):
                 yield f"{CRATES}: {', '.join(row)}: no file {file}.rt"
+
+
+def faults_of_questions():
+    """Yields what is wrong with the table of questions: each file that a row names is there, and they have each other name of the row."""
+    for number, line in enumerate(lines_of(CRATES), 1):
+        answer = QUESTION.fullmatch(line)
+        named = ANSWER.findall(answer[1]) if answer else []
+        files = [f"crates/{crate}/specs/{it}.antt" if specs else f"crates/{crate}/src/{it}.rt" for crate, specs, it in named]
+        yield from (f"{CRATES}:{number}: there is no {it}" for it in files if lines_of(it) is None)
+        text = "\n".join("\n".join(lines_of(it) or []) for it in files)
+        known = {*re.findall(r"\w+", text), *os.listdir(f"{TOP}/crates"), *(it for _, _, it in named)}
+        words = {it for span in re.findall(r"`([\w: ]+)`", answer[1]) for it in re.findall(r"\w+", span)} if files else set()
+        yield from (f"{CRATES}:{number}: no file of the row has `{it}`" for it in sorted(words - known))
 
 
 def faults_of_wrong_bodies():
