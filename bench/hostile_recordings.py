@@ -8,7 +8,7 @@
                                            many next hops
 
 Each is well-formed, and other routers of an area may bring an operator's router into such a state. The calculating router is
-10.0.0.1. docs/FIGURES.md has what they take.
+10.0.0.1. bench/README.md has what they take.
 """
 
 import sys

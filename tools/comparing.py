@@ -31,21 +31,32 @@ OWN = {"build", "install", "uninstall", "man", "completions"}
 # A line before a block of lines of a file.
 QUOTED = re.compile(r".*\[[^\]]*\]\((\S+)\):")
 INDENT, LEFT_OUT, FENCE = "    ", "..", "```"
-# The most lines of a page.
+# How many lines each page has at most, and all of them together. (The others are for few, or a history.)
 MOST_LINES = {
     "README.md": 130,
+    "CONTRIBUTING.md": 150,
+    "docs/ARCHITECTURE.md": 150,
     "docs/C.md": 120,
     "docs/COMMANDS.md": 220,
+    "docs/DECISIONS.md": 150,
     "docs/FORMATS.md": 450,
+    "docs/GLOSSARY.md": 140,
     "docs/LIBRARY.md": 150,
     "docs/PROFILE.md": 60,
     "docs/PROVED.md": 130,
     "docs/THEOREM.md": 200,
 }
+MOST_IN_ALL = 2050
+UNBOUNDED = {"CHANGELOG.md", "bench/README.md", "docs/internal/PROOF_NOTES.md"}
 LINK = re.compile(r"\[[^\]]*\]\(([^()\s]+)\)")
 PICTURE = re.compile(r"!\[[^\]]*\]\(([^()\s]+[.]svg)\)")
-# The table of crates, and a row of it: the crate, and last the files of its sources.
-CRATES, CRATE = "docs/ARCHITECTURE.md", re.compile(r"\| `(\w+)` \|.*\| ([\w, -]+) \|")
+# The table of crates, and a row of it: its crates, and the files of their sources at which to begin.
+CRATES, CRATE = "docs/ARCHITECTURE.md", re.compile(r"\| [\w ]*\| (`\w+`(?:, `\w+`)*) \|.*\| ([\w, -]+) \|")
+# A file that a row of the table of questions names: its crate, and its path in src/ or specs/ of that.
+QUESTION, ANSWER = re.compile(r"\| [^|]*\? \| (.*) \|"), re.compile(r"`(\w+)`: `(specs/)?(\w+)`")
+# The table of wrong bodies, the heading above it, and the edits in a row: their crate, and their names.
+WRONG, WRONG_HEADING = "docs/internal/PROOF_NOTES.md", "## Wrong bodies, and what refuses them"
+EDITS = re.compile(r"\|[^|]*\| `(\w+)`: (`\w+`(?:, `\w+`)*) \|")
 # The table of what is proved, and a row of it: the claim, the functions, and links to the files that have them.
 PROMISES, PROMISE = "docs/PROVED.md", re.compile(r"\| ([^|]+) \| (`\w+`(?:, `\w+`)*) \| ([^|]+) \|")
 # A span of code, in which brackets are no link; and the command in one.
@@ -65,7 +76,16 @@ VERSIONS = {
 def faults():
     """Returns what is wrong with the pages, and with the versions."""
     found = [f"{page}:{line}: {fault}" for page in pages() for line, fault in faults_of(page)]
-    return [*found, *faults_of_versions(), *faults_of_crates(), *faults_of_promises(), *filter(None, [number_table.fault()])]
+    return [
+        *found,
+        *faults_of_versions(),
+        *faults_of_crates(),
+        *faults_of_questions(),
+        *faults_of_wrong_bodies(),
+        *faults_of_lengths(),
+        *faults_of_promises(),
+        *filter(None, [number_table.fault()]),
+    ]
 
 
 @functools.lru_cache(maxsize=None)
@@ -96,17 +116,52 @@ def faults_of_versions():
 
 
 def faults_of_crates():
-    """Yields what is wrong with the table of crates: it has each crate of crates.txt once, in that order, with its files."""
+    """Yields what is wrong with the table of crates: it has each crate of crates.txt once, in that order, and names only files that
+    one of the crates of their row has."""
     table = lines_of(CRATES)[lines_of(CRATES).index("## The crates") :]
-    shown = [CRATE.fullmatch(it).groups() for it in table if CRATE.fullmatch(it)]
+    shown = [(re.findall(r"\w+", it[1]), it[2]) for it in map(CRATE.fullmatch, table) if it]
     crates = [it.partition(":")[0].split()[0] for it in lines_of("crates.txt") if not it.startswith("#")]
-    if [crate for crate, _ in shown] != crates:
-        yield f"{CRATES}: the table has not the crates of crates.txt in their order"
-    for crate, files in shown:
-        names = sorted(it[:-3] for it in os.listdir(f"{TOP}/crates/{crate}/src") if it.endswith(".rt"))
-        wanted = ", ".join(it for it in names if it not in ("lib", "main")) or "-"
-        if files != wanted:
-            yield f"{CRATES}: the files of {crate} are {wanted}"
+    named = [it for row, _ in shown for it in row]
+    if named != crates:
+        wrong = next((a for a, b in zip([*named, "its end"], [*crates, "its end"]) if a != b), "its end")
+        yield f"{CRATES}: the table does not have the crates of crates.txt in their order, at {wrong}"
+    for row, files in shown:
+        for file in files.split(", ") if files != "-" else []:
+            if not any(os.path.isfile(f"{TOP}/crates/{crate}/src/{file}.rt") for crate in row):
+                yield f"{CRATES}: {', '.join(row)}: no file {file}.rt"
+
+
+def faults_of_questions():
+    """Yields what is wrong with the table of questions: each file that a row names is there, and they have each other name of the row."""
+    for number, line in enumerate(lines_of(CRATES), 1):
+        answer = QUESTION.fullmatch(line)
+        named = ANSWER.findall(answer[1]) if answer else []
+        files = [f"crates/{crate}/specs/{it}.antt" if specs else f"crates/{crate}/src/{it}.rt" for crate, specs, it in named]
+        yield from (f"{CRATES}:{number}: there is no {it}" for it in files if lines_of(it) is None)
+        text = "\n".join("\n".join(lines_of(it) or []) for it in files)
+        known = {*re.findall(r"\w+", text), *os.listdir(f"{TOP}/crates"), *(it for _, _, it in named)}
+        words = {it for span in re.findall(r"`([\w: ]+)`", answer[1]) for it in re.findall(r"\w+", span)} if files else set()
+        yield from (f"{CRATES}:{number}: no file of the row has `{it}`" for it in sorted(words - known))
+
+
+def faults_of_wrong_bodies():
+    """Yields what is wrong with the table of wrong bodies: it has a row for each edit, and an edit for each row that names one."""
+    lines = lines_of(WRONG) or []
+    found = map(EDITS.match, lines[lines.index(WRONG_HEADING) :] if WRONG_HEADING in lines else [])
+    shown = collections.Counter((it[1], name) for it in found if it for name in re.findall(r"\w+", it[2]))
+    folders = [it for it in sorted(os.listdir(f"{TOP}/crates")) if os.path.isdir(f"{TOP}/crates/{it}/wrong_bodies")]
+    edits = {(it, file.removesuffix(".edit")) for it in folders for file in os.listdir(f"{TOP}/crates/{it}/wrong_bodies")}
+    yield from (f"{WRONG}: no row has crates/{crate}/wrong_bodies/{name}.edit" for crate, name in sorted(edits - {*shown}))
+    yield from (f"{WRONG}: there is no crates/{crate}/wrong_bodies/{name}.edit" for crate, name in sorted({*shown} - edits))
+
+
+def faults_of_lengths():
+    """Yields which pages have more lines than they may have, or no bound, and if all of them together have too many."""
+    counts = {page: len(lines_of(page) or []) for page in MOST_LINES}
+    yield from (f"{page}: {counts[page]} lines, more than {most}" for page, most in MOST_LINES.items() if counts[page] > most)
+    yield from (f"{page}: this page has no bound in tools/comparing.py" for page in pages() if page not in {*MOST_LINES, *UNBOUNDED})
+    if sum(counts.values()) > MOST_IN_ALL:
+        yield f"the pages have {sum(counts.values())} lines, more than {MOST_IN_ALL}"
 
 
 def faults_of_promises():
@@ -136,8 +191,6 @@ def faults_of(page):
     for number, line in enumerate(lines, 1):
         for fault in faults_of_text(page, line) if not line.startswith(INDENT) else []:
             yield number, fault
-    if len(lines) > MOST_LINES.get(page, len(lines)):
-        yield len(lines), f"more than {MOST_LINES[page]} lines"
 
 
 def faults_of_text(page, line):

@@ -1,4 +1,4 @@
-"""The style of comments: which of their lines and sentences a check refuses, and how many lines of pages it would refuse.
+"""The style of comments and pages: which of their lines and sentences a check refuses.
 
 A line matches if a reader of the Rust standard library's documentation would stumble over it. CONTRIBUTING says how to write it instead.
 """
@@ -8,8 +8,14 @@ import re
 TOP = os.path.dirname(os.path.dirname(os.path.realpath(__file__)))
 # The columns of a line of comment, and of a line `ghost use`.
 COMMENT_COLUMNS, IMPORT_COLUMNS = 100, 120
-# The words of a sentence. (A list, a table or a sum is no sentence.)
-MOST_WORDS = 28
+# The columns of a line of a page.
+PAGE_COLUMNS, README_COLUMNS = 100, 113
+# The words of a sentence of a comment, and of a page. (A list, a table or a sum has no sentences.)
+MOST_WORDS, MOST_PAGE_WORDS = 28, 40
+# Pages that are not compared with the style: an entry of the changelog stays as it was published.
+HISTORY = ("CHANGELOG.md",)
+# What a page quotes or lists, and lines that are a picture or one link.
+QUOTED, UNBROKEN = ("    ", "|", "#"), re.compile(r"!\[.*|Lines of \[[^\]]*\]\([^)]*\):")
 COMMENT = re.compile(r"^\s*//")
 IMPORT = re.compile(r"^\s*ghost use ")
 # Patterns of comments alone, and of comments and pages.
@@ -46,7 +52,7 @@ PATTERNS = [re.compile(it) for it in (
     r"\b[Ll]ook-ups?\b",
 )]
 # Where a sentence of a comment ends, or an item of a list or a cell of a table begins.
-ENDS = re.compile(r"(?<=[.:;?!])\s+|\n\n+|\s\|\s|^\s*[-*] ")
+ENDS = re.compile(r"(?<=[.:;?!])\s+|(?<=[.:;?!]\*\*)\s+|\n\n+|\s\|\s|^\s*[-*] ")
 
 
 def faults():
@@ -100,10 +106,50 @@ def comments(lines):
             first, text = 0, []
 
 
-def count_in(pages):
-    """Returns how many lines of these pages match a pattern. (Blocks and tables are quoted, or short for a reason.)"""
-    count = 0
+def faults_of_pages(pages):
+    """Yields what is wrong with the prose of these pages. (Blocks and tables are quoted, or short for a reason.)"""
     for page in pages:
-        with open(f"{TOP}/{page}", encoding="utf-8") as lines:
-            count += sum(bool(pattern_in(it, PATTERNS)) for it in lines if not it.startswith(("    ", "|", "#")))
-    return count
+        if page in HISTORY:
+            continue
+        with open(f"{TOP}/{page}", encoding="utf-8") as it:
+            lines = without_drawings(it.read().splitlines())
+        columns = README_COLUMNS if page == "README.md" else PAGE_COLUMNS
+        yield from (f"{page}:{number}: {fault}" for number, fault in faults_of_prose(lines, columns))
+
+
+def without_drawings(lines):
+    """Returns the lines, with an empty one for each line between two of "```"."""
+    found, is_drawing = [], False
+    for line in lines:
+        is_fence = line.startswith("```")
+        found.append("" if is_fence or is_drawing else line)
+        is_drawing = is_drawing != is_fence
+    return found
+
+
+def faults_of_prose(lines, columns):
+    """Yields line numbers, counted from 1, and what is wrong there."""
+    for number, line in enumerate(lines, 1):
+        matched = "" if line.startswith(QUOTED) else pattern_in(line, PATTERNS)
+        if matched:
+            yield number, f"the style of pages has no `{matched}`"
+        if len(line) > columns and not line.startswith(QUOTED) and not UNBROKEN.fullmatch(line):
+            yield number, f"a line of {len(line)} columns, more than {columns}"
+    for number, text in paragraphs(lines):
+        for sentence in ENDS.split(text):
+            count = len((sentence or "").split())
+            if count > MOST_PAGE_WORDS:
+                yield number, f"a sentence of {count} words, more than {MOST_PAGE_WORDS}: {sentence[:60]}.."
+
+
+def paragraphs(lines):
+    """Yields for each paragraph, and for each item of a list, the number of its first line, and its text."""
+    first, text = 0, []
+    for number, line in enumerate([*lines, ""], 1):
+        is_prose = line.strip() and not line.startswith(QUOTED)
+        if first and (not is_prose or re.match(r"\s*(?:[-*]|\d+\.) ", line)):
+            yield first, " ".join(text)
+            first, text = 0, []
+        if is_prose:
+            first = first or number
+            text.append(line.strip())
