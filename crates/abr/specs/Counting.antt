@@ -1,4 +1,4 @@
--- How many lines come.
+-- The number of lines of an input.
 use Rattle.std.specs.Prelude.{ℕ, ◌≡◌, ◌==◌, List, Option, count_by}
 use Rattle.std.specs.Io.KnownBytes.{Consumes, IsAtEnd}
 

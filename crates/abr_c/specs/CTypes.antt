@@ -1,4 +1,4 @@
--- What C passes, and is passed.
+-- The types that C passes, and gets.
 use Rattle.std.specs.Prelude.{ℕ, true, false, if◌then◌else◌, ◌&&◌, ◌==◌, Option, Some, None, is_some, List, length, map, min, nat_le, nat_lt}
 use Rattle.std.specs.List.{flat_map}
 use Rattle.ospf_types.specs.Masks.{masked}

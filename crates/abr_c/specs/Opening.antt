@@ -1,4 +1,4 @@
--- How a core is opened from text.
+-- The opening of a core from text.
 use Rattle.std.specs.Prelude.{ℕ, ◌≡◌, ◌≤◌, ◌<◌, ◌⊎◌, List, [], length, drop, Option, Some, None}
 use Rattle.std.specs.RandomState.{initial_hasher}
 use Rattle.std.specs.declared.hash.RandomState.{RandomState}

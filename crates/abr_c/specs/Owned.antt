@@ -1,4 +1,4 @@
--- What C's hold on a core owns: what the box of it owns, or nothing.
+-- The resources of C's handle of a core: those of the core's box, or none.
 use Rattle.std.specs.Prelude.{Option, Some, None}
 use Rattle.std.specs.Coded.{Coded, coded_option}
 use Rattle.std.specs.Box.Ownership.{box_owns}

@@ -1,4 +1,4 @@
--- What C reads of a core.
+-- The results that C reads from a core.
 use Rattle.std.specs.Prelude.{ℕ, ◌≡◌, ◌+◌, ◌⊎◌, List, [], length, drop, map as list_map, Option, Some, None, option_map, slice_get}
 use Rattle.std.specs.FinMap as map
 use Rattle.ospf_types.specs.Network.{Network, network_cmp}

@@ -1,4 +1,4 @@
--- How the telling of what events changed ended.
+-- The end of a report of changes.
 use Rattle.std.proofs.Common.{◌≡◌, ◌⊎◌, ℕ, List, Option, ap, refl, subst, inl, inr}
 use Rattle.recording.specs.declared.fault.LineFault.{LineFault}
 use Rattle.replay.specs.declared.fault.ReplayFault.{ReplayFault}

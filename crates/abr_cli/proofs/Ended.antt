@@ -1,4 +1,4 @@
--- How a replay ended.
+-- The end of a replay.
 use Rattle.std.proofs.Common.{◌≡◌, ◌⊎◌, ◌<◌, ℕ, List, Option, Result, Ok, Err, OnOk, ap, sym, subst, inl, inr, refl}
 use Rattle.std.specs.Prelude.{MatchResult}
 use Rattle.std.specs.Borrow.{Bor}

@@ -1,4 +1,4 @@
--- How an explanation ended.
+-- The end of an explanation.
 use Rattle.std.proofs.Common.{◌≡◌, ◌⊎◌, ℕ, List, Option, None, Some, ap, refl, subst, inl, inr}
 use Rattle.std.specs.Borrow.{Bor}
 use Rattle.recording.specs.declared.fault.LineFault.{LineFault}

@@ -1,4 +1,4 @@
--- How the writing of a page ended.
+-- The end of writing a page.
 use Rattle.std.proofs.Common.{◌≡◌, ◌⊎◌, ℕ, List, Option, ap, refl, inl, inr}
 use Rattle.std.specs.Borrow.{Bor}
 use Rattle.recording.specs.declared.fault.LineFault.{LineFault}

@@ -1,4 +1,4 @@
--- How much is done, shown and its line ended.
+-- The progress of a command, with the end of its line.
 use Rattle.std.proofs.Common.{◌≡◌, ◌∙◌, ℕ, Bool, false, List, Option, None, subst}
 use Rattle.replay.specs.Advance.{EndsShowing, IsProgress, Shows, ShowsProgress}
 use Rattle.replay.specs.declared.progress.Progress.{Progress}

@@ -1,4 +1,4 @@
--- What `abr capture` wrote.
+-- The output of `abr capture`.
 use Rattle.std.specs.Prelude.{ℕ, ◌≡◌, ◌⊎◌, List, Option, Some, None, Result, Ok, Err, MatchResult}
 use Rattle.std.specs.Borrow.{Bor}
 use Rattle.replay.specs.declared.writing.WriteError.{WriteError}

@@ -1,4 +1,4 @@
--- What `abr changes` and `abr follow` wrote.
+-- The output of `abr changes` and `abr follow`.
 use Rattle.std.specs.Prelude.{ℕ, ◌≡◌, ◌⊎◌, List, Option, Some, None}
 use Rattle.std.specs.Borrow.{Bor}
 use Rattle.ospf_types.specs.declared.prefix.Prefix.{Prefix}

@@ -1,4 +1,4 @@
--- What `abr explain` wrote.
+-- The output of `abr explain`.
 use Rattle.std.specs.Prelude.{ℕ, ◌≡◌, ◌⊎◌, List, Option, Some, None}
 use Rattle.std.specs.Borrow.{Bor}
 use Rattle.ospf_types.specs.declared.key.Dest.{Dest}

@@ -1,4 +1,4 @@
--- What `abr page` wrote.
+-- The output of `abr page`.
 use Rattle.std.specs.Prelude.{ℕ, ◌≡◌, ◌⊎◌, List, Option, Some, None}
 use Rattle.std.specs.Borrow.{Bor}
 use Rattle.recording.specs.Faults.{IsFaultOf}

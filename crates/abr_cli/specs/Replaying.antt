@@ -1,4 +1,4 @@
--- What `abr replay` wrote.
+-- The output of `abr replay`.
 use Rattle.std.specs.Prelude.{ℕ, ◌≡◌, ◌⊎◌, ◌<◌, List, Option, Result, Ok, Err, MatchResult}
 use Rattle.std.specs.Borrow.{Bor}
 use Rattle.replay.specs.Inputs.{ReadsAll}

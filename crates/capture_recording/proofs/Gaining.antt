@@ -1,4 +1,4 @@
--- Where no event came.
+-- The case of no events.
 use Rattle.std.proofs.Common.{List, [], ℕ, sym, append-nil}
 use Rattle.std.proofs.lemmas.List.Elements.{All-nil}
 use Rattle.capture_recording.specs.Events.{IsRecordable, AreAppended}

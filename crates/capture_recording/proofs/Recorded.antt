@@ -1,4 +1,4 @@
--- How far a capture is recorded, packet by packet.
+-- The part of a capture that is recorded, packet by packet.
 use Rattle.std.proofs.Common.{◌≡◌, ◌∙◌, ◌++◌, List, [], ◌∷◌, ℕ, Option, None, Some, refl, ap, sym, subst, append_assoc, append-nil, lit<}
 use Rattle.std.specs.Prelude.{string_bytes, String}
 use Rattle.std.specs.Io.KnownBytes.{Keeps}

@@ -1,4 +1,4 @@
--- How a capture ended, and what is answered then.
+-- The end of a capture, and its result.
 use Rattle.std.specs.Prelude.{ℕ, Bool, true, false, List, [], Option, Result, Ok, Err}
 use Rattle.captures.specs.Reading.{unread}
 use Rattle.captures.specs.Positions.{Position, IsWhole, Stops}

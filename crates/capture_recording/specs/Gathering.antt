@@ -1,4 +1,4 @@
--- What one packet changes of what is kept.
+-- The changes of the gathered results by one packet.
 use Rattle.std.specs.Prelude.{ℕ, ◌≡◌, ◌++◌, false, List, [], Option, Some, option_map, string_bytes}
 use Rattle.captures.specs.Runs.{Shown}
 use Rattle.captured_config.specs.Facts.{Facts, facts_of}

@@ -1,4 +1,4 @@
--- How far a capture is recorded.
+-- The part of a capture that is recorded so far.
 use Rattle.std.specs.Prelude.{ℕ, ◌≡◌, ◌++◌, List, [], ◌∷◌, Option, None, Some, string_bytes}
 use Rattle.captures.specs.Positions.{Position, GoesOn}
 use Rattle.capture_recording.specs.Rules.{Rules}

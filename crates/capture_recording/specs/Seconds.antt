@@ -1,4 +1,4 @@
--- How many of the seconds between two packets are recorded.
+-- The number of seconds between two packets that are recorded.
 use Rattle.std.specs.Prelude.{ℕ, min}
 use Rattle.ospf_types.specs.Lsa.{MaxAge}
 

@@ -1,4 +1,4 @@
--- How far lines were written where no more are.
+-- The part of the lines that was written, if no more are.
 use Rattle.std.specs.Prelude.{ℕ, List, Option}
 use Rattle.capture_recording.specs.Rules.{Rules}
 use Rattle.replay.specs.Writing.{AppendsPart}

@@ -1,4 +1,4 @@
--- Why there is no beginning of a recording.
+-- The reason why no preamble is written.
 use Rattle.std.specs.Prelude.{ℕ, ◌≡◌, List, Some, String, string_bytes}
 use Rattle.ospf_types.specs.declared.config.Config.{Config}
 use Rattle.ospf_types.specs.Text.{memory_text}

@@ -1,4 +1,4 @@
--- What bytes are read as.
+-- The result of reading bytes.
 use Rattle.std.specs.Prelude.{◌≡◌, ℕ, List, Some, None, Result, MatchResult}
 use Rattle.ospf_types.specs.Lsa.{Lsa}
 use Rattle.lsa_codec.specs.Spelling.{Spells}

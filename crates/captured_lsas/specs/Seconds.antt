@@ -1,4 +1,4 @@
--- How many seconds are given before a packet.
+-- The number of seconds that are recorded before a packet.
 use Rattle.std.specs.Prelude.{ℕ, ◌+◌, ◌-◌, ◌/◌, ◌%◌, ◌^◌, ◌||◌, not, min, Bool, if◌then◌else◌, Option, Some, None}
 use Rattle.captured_lsas.specs.Progress.{Progress}
 

@@ -1,4 +1,4 @@
--- What holds of each front.
+-- The properties of each item at the start of bytes.
 use Rattle.std.specs.Prelude.{ℕ, ◌+◌, ◌<◌, ◌≤◌, List, length, Result, Ok, Err}
 use Rattle.captures.specs.declared.fault.FaultKind.{FaultKind}
 use Rattle.captures.specs.declared.front.Front.{Front}

@@ -1,4 +1,4 @@
--- How far a capture is read, and what is read of it from there on.
+-- The position in a capture, and the reading from there on.
 use Rattle.std.specs.Prelude.{ℕ, ◌≡◌, ◌⊎◌, ◌+◌, ◌-◌, ◌^◌, ◌<◌, min, nat_lt, if◌then◌else◌, List, [], ◌∷◌, ◌++◌, length, drop, Option, Result, MatchResult, MatchOption}
 use Rattle.std.specs.Io.KnownBytes.{Consumes, IsAtEnd}
 use Rattle.captures.specs.declared.capture.Packet.{Packet}

@@ -1,4 +1,4 @@
--- What one step to the next packet does.
+-- One step to the next packet.
 use Rattle.std.specs.Prelude.{ℕ, ◌≡◌, ◌<◌, List, [], ◌∷◌, Option, Result, MatchResult}
 use Rattle.std.specs.Io.KnownBytes.{IsAtEnd}
 use Rattle.input_reading.specs.declared.fault.ReadFault.{ReadFault}

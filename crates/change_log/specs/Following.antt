@@ -106,7 +106,7 @@ pub record StopsIn (why : PrintError) (before : List Change) (old : Run) (held :
 
 -- ---- lines after the preamble, one of which ended it
 
--- How it ends after a preamble, whichever that is.
+-- The end after a preamble, whichever that is.
 abbrev pub EndsBehind : PreambleEnd → End → (old new : Run) → (kept : List ℕ) → (left further : Option (List ℕ)) → (from to : Option (List ℕ)) → Type 0
 EndsBehind front e old new kept left further from to =
     (text held : List ℕ) → (known : Option (List ℕ)) → IsWhole front → Opens front text old.line.items held known kept left → (before : List Change) → Give before old.core

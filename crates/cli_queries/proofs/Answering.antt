@@ -1,4 +1,4 @@
--- What `abr one` answers, from what its words say.
+-- The answer of `abr one` for its words.
 use Rattle.std.proofs.Common.{◌≡◌, ◌⊎◌, ◌∙◌, ◌++◌, List, ℕ, Ok, ap, sym, inl, inr, codes, append_assoc}
 use Rattle.std.specs.Prelude.{decimal}
 use Rattle.hex.specs.Hex.{decode_of}

@@ -1,4 +1,4 @@
--- What `abr decode` prints, piece by piece.
+-- The output of `abr decode`, piece by piece.
 use Rattle.std.proofs.Common.{◌≡◌, ◌∙◌, ◌++◌, List, [], ◌∷◌, ℕ, codes, append_assoc}
 use Rattle.std.specs.Prelude.{decimal}
 use Rattle.std.specs.Int.{w16, w32, to_be_bytes}

@@ -1,4 +1,4 @@
--- What `abr decode` prints: the fields of an LSA (RFC 2328, A.4).
+-- The output of `abr decode`: the fields of an LSA (RFC 2328, A.4).
 use Rattle.std.specs.Prelude.{ℕ, ◌≡◌, ◌++◌, List, [], ◌∷◌, codes, decimal, Bool, if◌then◌else◌}
 use Rattle.std.specs.Int.{w16, w32, to_be_bytes}
 use Rattle.hex.specs.Hex.{encode_lower}

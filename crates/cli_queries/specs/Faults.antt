@@ -1,4 +1,4 @@
--- What went wrong with a command, as it is printed, and the status of the program then.
+-- The faults of a command, as they are printed, and the status of the program.
 use Rattle.std.specs.Prelude.{ℕ, ◌++◌, List, codes, decimal}
 use Rattle.ospf_types.specs.Text.{memory_text}
 use Rattle.captures.specs.declared.fault.FaultKind.{FaultKind}

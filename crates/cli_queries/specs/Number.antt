@@ -1,4 +1,4 @@
--- What `abr fault` prints: the advice for the number of a fault or a refusal.
+-- The output of `abr fault`: the advice for the number of a fault or a refusal.
 use Rattle.std.specs.Prelude.{ℕ, ◌≡◌, List, Some, None}
 use Rattle.cli_queries.specs.Advice.{advice_of}
 use Rattle.cli_queries.specs.Writing.{WritesNumber}

@@ -1,4 +1,5 @@
--- Why a summary is due in an area, or is not, by what is calculated of a state (RFC 2328, 12.4.3).
+-- The reason why a summary is due in an area, or is not, by the results calculated of a state (RFC
+-- 2328, 12.4.3).
 use Rattle.std.specs.Prelude.{ℕ, ◌≡◌, ◌↔◌, List, Contains, Option, Some}
 use Rattle.ospf_types.specs.declared.key.Dest.{Dest}
 use Rattle.ospf_types.specs.Inputs.{Area}

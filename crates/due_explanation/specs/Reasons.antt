@@ -1,4 +1,4 @@
--- Why a summary is due in an area, or is not (RFC 2328, 12.4.3).
+-- The reason why a summary is due in an area, or is not (RFC 2328, 12.4.3).
 use Rattle.std.specs.Prelude.{ℕ, ◌≡◌, ◌≢◌, ◌↔◌, ◌==◌, if◌then◌else◌, false, IsTrue, List, [], ◌∷◌, Contains, Option, Some, None, map}
 use Rattle.ospf_types.specs.declared.config.AreaConfig.{AreaConfig}
 use Rattle.ospf_types.specs.declared.config.Stub.{Stub}

@@ -1,4 +1,4 @@
--- What lies under the lock.
+-- The state under the lock.
 use Rattle.std.specs.Prelude.{◌≡◌, ◌⊎◌, ◌↔◌, ℕ, ◌<◌, ◌≤◌, ◌+◌, Bool, List, [], ◌∷◌, ◌++◌, length, Option, Some, Result, MatchBool, MatchOption, MatchResult}
 use mathlib.Core.List.{IsPrefix}
 use Rattle.event_state.specs.declared.event.Event.{Event}

@@ -1,4 +1,4 @@
--- Why the table has what it has for an address, line by line.
+-- The explanation of the table's items for an address, line by line.
 use Rattle.std.specs.Prelude.{ℕ, ◌≡◌, ◌++◌, ◌||◌, zero, suc, Bool, List, [], ◌∷◌, is_some, if◌then◌else◌}
 use Rattle.std.specs.List.{flat_map, list_any}
 use Rattle.std.specs.FinMap as map

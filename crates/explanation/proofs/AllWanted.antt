@@ -1,4 +1,4 @@
--- What all LSAs offer of a network is the same, whatever other networks they are asked for.
+-- The offers of all LSAs for a network do not depend on the other networks that are wanted.
 use Rattle.std.proofs.Common.{◌≡◌, Bool, true, List, ◌++◌, sym, ◌∙◌}
 use Rattle.std.specs.Prelude.{Contains}
 use Rattle.std.specs.FinMap.{values}

@@ -1,4 +1,4 @@
--- Where a vertex has a next hop there are steps.
+-- A vertex with a next hop has steps.
 use Rattle.std.proofs.Common.{Vec, true, false, ◌≡◌, ◌≢◌, ℕ, List, [], ◌∷◌, length, sym, ap, subst, ◌∙◌, inl, inr}
 use Rattle.std.specs.Prelude.{◌==◌}
 use Rattle.std.specs.Vec.{vec_len}

@@ -1,4 +1,4 @@
--- What LSAs offer of networks (RFC 2328, A.4), as it is explained.
+-- The offers that LSAs make of networks (RFC 2328, A.4), as they are explained.
 use Rattle.std.specs.Prelude.{ℕ, ◌≡◌, ◌<◌, ◌==◌, Bool, List, length, get_or, ◌++◌, Option, Some, None, if◌then◌else◌, option_to_list}
 use Rattle.std.specs.List.{filter_map, flat_map, list_any}
 use Rattle.ospf_types.specs.declared.key.Scope.{Scope}

@@ -1,4 +1,4 @@
--- Where a line feed is.
+-- The place of a line feed.
 use Rattle.std.proofs.Common.{ℕ, ◌≡◌, ◌≢◌, ◌+◌, ◌<◌, List, ◌∷◌, ◌++◌, length, get_or, take, drop, Option, Some, None, subst, sym, ap, ◌∙◌, arith, take-append-drop, get_or-take}
 use Rattle.std.proofs.lemmas.Bool.{eqb-true, eq-eqb}
 use Rattle.std.proofs.lemmas.List.{drop_more, length-take-le, take_all}

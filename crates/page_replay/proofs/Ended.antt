@@ -1,4 +1,4 @@
--- How a recording ends, from what its runs say.
+-- The end of a recording, by its runs.
 use Rattle.std.proofs.Common.{◌≡◌, ◌<◌, ◌+◌, ◌-◌, ◌++◌, ◌∙◌, ◌^◌, ℕ, List, [], Some, false, arith, map, length, ap, sym, subst, append-nil}
 use Rattle.std.proofs.lemmas.List.{take-append-drop, length-append}
 use Rattle.event_core.specs.Cores.{CoreValue, IsCurrent}

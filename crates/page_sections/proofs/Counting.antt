@@ -1,4 +1,4 @@
--- How many elements of a list pass a test, counted from the front.
+-- The number of elements of a list that pass a test, counted from the front.
 use Rattle.std.proofs.Common.{◌≡◌, ℕ, ◌+◌, ◌<◌, ◌≤◌, ◌^◌, Bool, true, false, cond, List, [], ◌∷◌, filter, length, ap, ◌∙◌, arith}
 
 -- no more pass than there are

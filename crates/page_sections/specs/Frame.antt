@@ -1,4 +1,4 @@
--- How the page begins and ends, and what changed last.
+-- The beginning and the end of the page, and the last changes.
 use Rattle.std.specs.Prelude.{ℕ, ◌++◌, Bool, true, false, List, [], ◌∷◌, codes, decimal}
 use Rattle.std.specs.List.{concat}
 use Rattle.ospf_types.specs.Text.{address_text}

@@ -1,4 +1,4 @@
--- How the page looks.
+-- The style of the page.
 use Rattle.std.specs.Prelude.{ℕ, List, [], ◌∷◌, codes}
 use Rattle.std.specs.List.{concat}
 

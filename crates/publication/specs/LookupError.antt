@@ -1,4 +1,4 @@
--- Why a look saw nothing.
+-- The reason why a lookup failed.
 use Rattle.std.specs.Prelude.{◌≡◌, ◌<◌, length}
 use Rattle.publication.specs.Forwarders.{ForwarderValue}
 use Rattle.publication.specs.declared.lookup_error.LookupError.{LookupError}

@@ -1,4 +1,4 @@
--- How much is done, shown place by place.
+-- The progress of a run, number by number.
 use Rattle.std.proofs.Common.{◌≡◌, ◌++◌, ◌+◌, zero, suc, ◌%◌, ◌==◌, ◌&&◌, ◌||◌, ℕ, Bool, true, false, List, [], ◌∷◌, Option, None, refl, sym, subst, ◌∙◌, append-nil, arith}
 use Rattle.std.specs.Prelude.{Result, Ok, Err, OnErr, OnOk, if◌then◌else◌}
 use Rattle.std.specs.Io.KnownBytes.{Appends}

@@ -1,4 +1,4 @@
--- Why nothing more is printed, and what a stop leaves of a text.
+-- The reason why nothing more is printed, and the parts of a text that a stop leaves.
 use Rattle.std.specs.Prelude.{ℕ, ◌≡◌, ◌≢◌, ◌⊎◌, ◌++◌, List, [], ◌∷◌}
 use Rattle.replay.specs.declared.fault.ReplayFault.{ReplayFault}
 use Rattle.replay.specs.declared.fault.ReplayFault.TheVariants as fault
