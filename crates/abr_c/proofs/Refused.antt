@@ -17,7 +17,7 @@ pub fault_told : (found : Option WireFault) (r : Result Lsa WireFault) (e : Wire
 fault_told None r e first accepted is = inr (refl, subst (λ s. IsOkUnless s Memory) is (accepted refl))
 fault_told (Some f) r e first accepted is = let same : Err f ≡ Err e = sym (first f refl) ∙ is in inl (ap Some cc)
 
--- what is read has no fault
+-- bytes that are read have no fault
 pub none_found : (found : Option WireFault) (r : Result Lsa WireFault) (l : Lsa) → ((f : WireFault) → found ≡ Some f → r ≡ Err f) → r ≡ Ok l → found ≡ None
 none_found None r l first is = refl
 none_found (Some f) r l first is = let differ : Err f ≡ Ok l = sym (first f refl) ∙ is in absurd cc

@@ -68,7 +68,7 @@ abbrev pub number_or_zero : Option ℕ → ℕ
 number_or_zero None = 0
 number_or_zero (Some n) = n
 
--- how many there are, as a number of 32 bits
+-- the length of the list, as a number of 32 bits
 abbrev pub count_of : {A : Type 0} → List A → ℕ
 count_of xs = if nat_lt (length xs) 4294967295 then length xs else 4294967295
 
@@ -82,7 +82,7 @@ item_of p item.Discard = discard_of p
 abbrev pub item_of_entry : Network × Item → CItem
 item_of_entry x = item_of x.0 x.1
 
--- what the table has for the network, if anything
+-- the item of the network in the table, if it has one
 abbrev pub item_or_none : Network → Option Item → CItem
 item_or_none p None = no_item
 item_or_none p (Some i) = item_of p i
@@ -121,14 +121,14 @@ destination_of (Router id) = record { address = id; length = 32 }
 abbrev pub due_of : DueSummary → CDue
 due_of d = record { kind = d.kind; destination = destination_of d.dest; metric = d.metric }
 
--- what the area has of the destination now, if anything
+-- the summary of the area for the destination now, if it is due
 abbrev pub due_change_of : ℕ → Dest × Option ℕ → CDueChange
 due_change_of area x = record { area = area; is_due = is_some x.1; due = due_of (due_for x.0 (number_or_zero x.1)) }
 
 abbrev pub changes_of_area : ℕ × Metrics → List CDueChange
 changes_of_area c = map (due_change_of c.0) c.1
 
--- what changed, area by area
+-- the changes, area by area
 abbrev pub due_changes_of : List (ℕ × Metrics) → List CDueChange
 due_changes_of changes = flat_map changes_of_area changes
 

@@ -56,7 +56,7 @@ refusal_number refusal.Spawn = 31
 refusal_number refusal.Workers = 32
 refusal_number refusal.NotCurrent = 37
 
--- that of the answer to an event
+-- the number of the answer to an event
 abbrev pub answer_number : Result Reply Refusal → ℕ
 answer_number (Ok reply) = status_number reply.state
 answer_number (Err refusal) = refusal_number refusal
@@ -88,7 +88,7 @@ unfit_number unfit.Scope = 21
 unfit_number unfit.Full = 27
 unfit_number unfit.AddressTaken = 29
 
--- of an LSA, a configuration or a base that of its own fault
+-- for an LSA, a configuration or a base, the number of its own fault
 abbrev pub fault_number : Fault → ℕ
 fault_number fault.Truncated = 50
 fault_number fault.Version = 51

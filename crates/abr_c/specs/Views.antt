@@ -27,7 +27,7 @@ use Rattle.recording.specs.Recordings.{front_forms, text_of_forms}
 use Rattle.abr_c.specs.Given.{written}
 use Rattle.abr_c.specs.CTypes.{c_scope_of, due_changes_of, due_of, hop_of, interface_of, item_of_entry, item_of_match, item_or_none, no_item, prefix_of}
 
--- of a core what the function says, and else this
+-- the result of the function for a core, or this without a core
 abbrev pub of_core : {X : Type 0} → X → (CoreValue → X) → Option CoreValue → X
 of_core x f None = x
 of_core x f (Some core) = f core
@@ -50,7 +50,7 @@ abbrev pub IsLookedUp : Option CoreValue → (address : ℕ) → CItem → Type 
 IsLookedUp None address out = out ≡ no_item
 IsLookedUp (Some core) address out = IsFound core.table.items address out
 
--- what the table has for the network
+-- the item of the table for the network
 abbrev pub item_at : Option CoreValue → Option Network → Option Item
 item_at None p = None
 item_at (Some core) None = None
@@ -95,7 +95,7 @@ due_in c area = of_core [] (λ core. or_none (list_under core.summaries area)) c
 abbrev pub due_at : Option CoreValue → (area n : ℕ) → Option CDue
 due_at c area n = option_map due_of (slice_get (due_in c area) n)
 
--- what the last event changed of them, area by area
+-- the changes of the due summaries by the last event, area by area
 abbrev pub due_changes_in : Option CoreValue → List CDueChange
 due_changes_in = of_core [] (λ core. due_changes_of core.due_changes)
 

@@ -17,7 +17,7 @@ use Rattle.abr_cli.specs.Changing.{Asks, IsChangesTold, IsTellingEnded, IsWordSa
 use Rattle.abr_cli.specs.declared.changing.Changes.{Changes}
 use Rattle.abr_cli.proofs.Shown.{advance_told}
 
--- what is said of each fault by itself
+-- the line for each fault by itself
 pub early_by_fault : {X : Type 0} (held : X → Option (List ℕ)) (t : ChangeOptions) (e : ReplayFault) (i i' : Option (List ℕ)) (old new : X) → (e ≡ Read → (new ≡ old) ⊎ ((bytes : List ℕ) × TellsThese t i i' bytes (held old) (held new)))
     → ((f : LineFault) → e ≡ Line f → ((new ≡ old) × FailsAtFront i i' f) ⊎ FailsBehind t i i' f (held old) (held new))
     → (e ≡ Write → TellsPart stop.Write t i i' (held old) (held new)) → (e ≡ Closed → TellsPart stop.Closed t i i' (held old) (held new))

@@ -38,7 +38,7 @@ ended_early file workers Place p status i i' o o' f f' h (inr said) = inr (Repla
 ended_early file workers NoEntry p status i i' o o' f f' h (inl said) = inr (NoEntry, h, said)
 ended_early file workers NoEntry p status i i' o o' f f' h (inr said) = inr (Replay Memory, inl h.1, said)
 
--- what is said of each fault by itself
+-- the line for each fault by itself
 pub by_fault : (workers : ℕ) (e : ReplayFault) (p : PrintOptions) (i i' o o' : Option (List ℕ)) → (e ≡ Read → o' ≡ o)
     → ((f : LineFault) → e ≡ Line f → (o' ≡ o) × ((bytes : List ℕ) × ReadsAll i i' bytes × IsFaultOf bytes f))
     → (e ≡ Write → IsReplayedPart workers stop.Write p i i' o o') → (e ≡ Closed → IsReplayedPart workers stop.Closed p i i' o o') → (e ≡ Memory → (o' ≡ o) ⊎ IsReplayedPart workers stop.Memory p i i' o o') → EndsEarly workers (Replay e) p i i' o o'

@@ -14,7 +14,7 @@ use Rattle.cli_queries.specs.Answers.{IsSaid}
 use Rattle.cli_queries.specs.Faults.{command_fault_text, fault_line, status_of}
 use Rattle.abr_cli.specs.Explaining.{ExplainsEarly, IsWordFault, IsWordSaid}
 
--- what is said of each fault by itself
+-- the line for each fault by itself
 pub early_by_fault : {X : Type 0} (held : X → Option (List ℕ)) (e : Explaining) (x : ReplayFault) (i i' : Option (List ℕ)) (old new : X) → (x ≡ Read → new ≡ old)
     → ((f : LineFault) → x ≡ Line f → (new ≡ old) × ((bytes : List ℕ) × ReadsAll i i' bytes × IsFaultOf bytes f))
     → (x ≡ Write → ExplainsPart e i i' (held old) (held new)) → (x ≡ Closed → ExplainsPart e i i' (held old) (held new)) → (x ≡ Memory → new ≡ old)

@@ -13,7 +13,7 @@ use Rattle.cli_queries.specs.Faults.{command_fault_text, fault_line}
 use Rattle.cli_queries.proofs.Said.{said_of}
 use Rattle.abr_cli.specs.Paging.{WritesPageEarly}
 
--- what is said of each fault by itself
+-- the line for each fault by itself
 pub early_by_fault : {X : Type 0} (held : X → Option (List ℕ)) (x : ReplayFault) (i i' : Option (List ℕ)) (old new : X) → (x ≡ Read → new ≡ old)
     → ((f : LineFault) → x ≡ Line f → (new ≡ old) × ((bytes : List ℕ) × ReadsAll i i' bytes × IsFaultOf bytes f))
     → (x ≡ Write → WritesPagePart i i' (held old) (held new)) → (x ≡ Closed → WritesPagePart i i' (held old) (held new)) → (x ≡ Memory → new ≡ old)

@@ -74,7 +74,7 @@ fault_from_capture file capturing.Write = Err cannot_write.Failed
 fault_from_capture file capturing.Closed = Err cannot_write.Closed
 fault_from_capture file capturing.Memory = Ok fault.Memory
 
--- why there is no whole recording was said
+-- a line says why there is no whole recording
 abbrev pub IsCaptureEndSaid : Bor (List ℕ) → CapturingFault → (status : ℕ) (f f' : Option (List ℕ)) → Type 0
 IsCaptureEndSaid file x status f f' =
     MatchResult (fault_from_capture file x) (λ c. IsSaidOrMemory c status f f') (λ why. IsUnwrittenSaid why status f f')

@@ -29,7 +29,7 @@ abbrev pub LacksNetwork : Option (Bor (List ℕ)) → Type 0
 LacksNetwork None = ⊥
 LacksNetwork (Some word) = (p : Prefix) → ¬ WritesNetwork word.now p
 
--- what was made of the input and the output where it ended early for this fault
+-- the input and the output after a report that ended early for this fault
 abbrev pub TellsEarly : ChangeOptions → ReplayFault → (i i' o o' : Option (List ℕ)) → Type 0
 TellsEarly t Read i i' o o' = (o' ≡ o) ⊎ ((bytes : List ℕ) × TellsThese t i i' bytes o o')
 TellsEarly t Write i i' o o' = TellsPart stop.Write t i i' o o'

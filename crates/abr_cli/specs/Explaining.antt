@@ -48,7 +48,7 @@ abbrev pub IsWordSaid : WordFault → (status : ℕ) (i i' o o' f f' : Option (L
 IsWordSaid w status i i' o o' f f' =
     (i' ≡ i) × (o' ≡ o) × (IsSaid (fault_line (command_fault_text (fault.Word w))) 2 status f f' ⊎ IsSaid (fault_line (command_fault_text fault.Memory)) 1 status f f')
 
--- what was made of the input and the output where there is no whole answer for this fault
+-- the input and the output after an explanation that is not whole for this fault
 abbrev pub ExplainsEarly : Explaining → ReplayFault → (i i' o o' : Option (List ℕ)) → Type 0
 ExplainsEarly e Read i i' o o' = o' ≡ o
 ExplainsEarly e Write i i' o o' = ExplainsPart e i i' o o'
@@ -67,7 +67,7 @@ abbrev pub IsExplainingTold : Bor (List ℕ) → Explaining → (status : ℕ) (
 IsExplainingTold file e status i i' o o' f f' = (mid : Option (List ℕ))
     × IsProgressTold (record { is_shown = e.progress; all = None }) (ShowsProgress e.progress) f mid × IsExplainingEnded file e status i i' o o' mid f'
 
--- how the question is to be answered
+-- the form in which the question is answered
 abbrev pub explaining_of : Explain → Question → Explaining
 explaining_of c q = record { question = q; format = c.format; progress = c.progress }
 

@@ -27,11 +27,11 @@ use Rattle.abr_cli.specs.Capturing.{IsCaptureTold}
 use Rattle.abr_cli.specs.Replaying.{IsReplayTold}
 use Rattle.cli_queries.specs.Usage.{IsUsageAnswer}
 
--- how much is shown, where the words ask for it or not
+-- the progress that is shown, if the words ask for it
 abbrev pub shown_progress : Bool → Progress → Progress
 shown_progress asked own = record own { is_shown = asked || own.is_shown }
 
--- what `abr replay` asks for
+-- the job of `abr replay`
 abbrev pub replay_asked : Bor (List ℕ) → (workers : ℕ) → Show → Format → (progress : Bool) → Replay
 replay_asked file workers show format progress = record {
   file = file;
@@ -41,7 +41,7 @@ replay_asked file workers show format progress = record {
   };
 }
 
--- what `abr changes` asks for: what changed, up to the first fault
+-- the job of `abr changes`: the changes up to the first fault
 abbrev pub changes_asked : Bor (List ℕ) → Option (Bor (List ℕ)) → Format → Progress → Changes
 changes_asked file only format progress = record { file = file; only = only; format = format; answers = false; skips_faults = false; progress = progress }
 
@@ -57,15 +57,15 @@ follow_asked file only strict format = record {
   progress = record { is_shown = false; all = None };
 }
 
--- what `abr explain` asks for
+-- the job of `abr explain`
 abbrev pub explain_asked : (file address : Bor (List ℕ)) → Option (Bor (List ℕ)) → Format → Progress → Explain
 explain_asked file address due format progress = record { file = file; address = address; due = due; format = format; progress = progress.is_shown }
 
--- what `abr page` asks for
+-- the job of `abr page`
 abbrev pub page_asked : Bor (List ℕ) → Option (Bor (List ℕ)) → Progress → Page
 page_asked file output progress = record { file = file; output = output; progress = progress.is_shown }
 
--- what `abr capture` asks for, where the file with the beginning has these bytes
+-- the job of `abr capture`, if the file with the beginning has these bytes
 abbrev pub capture_asked : CaptureWords → (beginning : Option (Bor (List ℕ))) → Capture
 capture_asked w beginning = record {
   file = w.file;

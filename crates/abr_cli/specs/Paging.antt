@@ -14,7 +14,7 @@ use Rattle.abr_cli.specs.Replaying.{IsEndSaid}
 use Rattle.abr_cli.specs.Showing.{IsProgressTold}
 use Rattle.abr_cli.specs.declared.paging.Page.{Page}
 
--- what was made of the input and the output where there is no whole page for this fault
+-- the input and the output after a page that is not whole for this fault
 abbrev pub WritesPageEarly : ReplayFault → (i i' o o' : Option (List ℕ)) → Type 0
 WritesPageEarly Read i i' o o' = o' ≡ o
 WritesPageEarly Write i i' o o' = WritesPagePart i i' o o'
@@ -36,7 +36,7 @@ abbrev pub IsEndSaidOf : Option (Bor (List ℕ)) → Bor (List ℕ) → ReplayFa
 IsEndSaidOf (Some output) file x status f f' = IsSaidOf (fault.WriteTo output) status f f' ⊎ IsSaidOf fault.Memory status f f'
 IsEndSaidOf None file x status f f' = IsEndSaid file (Replay x) status f f'
 
--- why there is no whole page was said
+-- a line says why there is no whole page
 abbrev pub IsPageEndSaid : Bor (List ℕ) → Option (Bor (List ℕ)) → ReplayFault → (status : ℕ) (f f' : Option (List ℕ)) → Type 0
 IsPageEndSaid file output x status f f' = IsEndSaidOf (unwritten output x) file x status f f'
 

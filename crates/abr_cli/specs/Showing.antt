@@ -17,7 +17,7 @@ pub record IsProgressTold (p : Progress) (IsShown : (f f' : Option (List ℕ)) �
 abbrev pub IsAdvanceTold : Progress → (f f' : Option (List ℕ)) → Type 0
 IsAdvanceTold p f f' = IsProgressTold p (IsProgress p) f f'
 
--- of a run by one worker, where that is to be shown; of one by several workers nothing is shown
+-- the progress of a run by one worker, if it is to be shown; for several workers nothing is shown
 abbrev pub IsRunTold : ℕ → Bool → (f f' : Option (List ℕ)) → Type 0
 IsRunTold workers progress f f' =
     ((workers ≡ 1) × IsProgressTold (record { is_shown = progress; all = None }) (ShowsProgress progress) f f') ⊎ ((1 < workers) × (f' ≡ f))

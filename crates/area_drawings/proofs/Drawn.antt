@@ -46,7 +46,7 @@ stand_push vs v ss i d lt before is =
     ∙ ap (λ (s : Stand). take i ss ++ s ∷ []) is
     ∙ sym (take_more ss i d lt)
 
--- what is known of the vertices in their places is known of what is drawn of them
+-- the facts of the vertices in their cells hold for their drawings
 pub is_drawing : (root : ℕ) (d : Database) (t : AreaTreeValue) (stands : List Stand) (columns : List Column) (drawing : Drawing) → drawing.root ≡ root → stands_of drawing ≡ stands → All (IsTold d t) drawing.vertices
     → AreReached d t (reached_of stands) → IsStrictlySortedBy column_cmp columns → AreColumnsOf (reached_of stands) columns → drawing.columns ≡ map (λ c. c.distance) columns → All (IsInColumn columns) stands
     → AreInPlaces stands → HasRows drawing.rows stands → AreLinksBetween t.area.graph stands drawing.links → AllPairs (λ k l. k ≢ l) drawing.links → IsDrawingOf root d t drawing

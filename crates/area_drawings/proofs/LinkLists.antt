@@ -19,7 +19,7 @@ one_more link old l = (
   λ w. elim w [ inl was ↦ Contains-append_left old (link ∷ []) l was | inr same ↦ subst (Contains (old ++ link ∷ [])) (sym same) (Contains-push old link) ],
 )
 
--- what is drawn of a link is one more
+-- the drawing of a link is one more
 pub adds : (stands : List Stand) (s : Stand) (link : Link) (to : Stand) (old new : List DrawnLink) → AreApart stands → IsStandOf stands link.to to → HasOneMore (link_between s link.cost to) old new → AddsLink stands s link old new
 adds stands s link to old new apart here more l = (
   λ c. elim ((more l).0 c) [ inl was ↦ inl was | inr same ↦ inr (to, here, same) ],

@@ -24,7 +24,7 @@ at_distance : Vertex → ℕ → ReachedVertex
 at_distance v distance = record { vertex = v; distance = distance }
 
 module _ (t : AreaTreeValue) where
-  -- what is reached has its vertex and its distance
+  -- a reached vertex has its distance
   by_distance : (v : Vertex) (distance : Option ℕ) (r : ReachedVertex) → option_map (λ d. let reached : ReachedVertex = record { vertex = v; distance = d } in reached) distance ≡ Some r → (r.vertex ≡ v) × (distance ≡ Some r.distance)
   by_distance v None r is = absurd cc
   by_distance v (Some d) r is = (ap (λ (o : Option ReachedVertex). vertex_in o) (sym is), ap (λ (o : Option ReachedVertex). option_map (λ s. s.distance) o) is)
@@ -55,7 +55,7 @@ module _ (t : AreaTreeValue) where
         | Some d ↦ AllPairs-cons (λ p q. p.vertex ≢ q.vertex) (record { vertex = v; distance = d }) (filter_map (reached_by t) vs) others rest
       ]
 
-  -- of a database's keys, in any order
+  -- for a database's keys, in any order
   pub are_reached : (d : DatabaseValue) (keys : List Key) (vs : List Vertex) (reached moved : List ReachedVertex) → IsOrder d → keys ≡ d.order → IsStrictlySortedBy vertex_cmp vs → AreVerticesOf keys vs
       → reached ≡ filter_map (reached_by t) vs → IsPermutation reached moved → AreReached d.lsas t moved
   are_reached d keys vs reached moved ordered keys_are sorted vertices is same = record {

@@ -15,7 +15,7 @@ distance_text x distance = text_start (codes "c") x 14 ++ decimal distance ++ co
 abbrev pub column_text : (height : ℕ) → ℕ × ℕ → List ℕ
 column_text height (column, distance) = axis_text height (x_of column) ++ distance_text (x_of column) distance
 
--- what the numbers above the columns are
+-- the caption of the numbers above the columns
 unfoldable pub caption_text : List ℕ
 caption_text = codes "<text class=\"s\" x=\"6\" y=\"14\">cost</text>\n"
 

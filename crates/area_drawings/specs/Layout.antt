@@ -24,7 +24,7 @@ height_of rows = 102 + 52 * (rows - 1)
 abbrev pub is_blocked : GridCell → GridCell → Bool
 is_blocked from to = (from.row == to.row) && nat_lt 1 (abs_diff from.column to.column)
 
--- how far the curve from one place to the other is drawn upwards
+-- the height to which the curve from one cell to the other rises
 abbrev pub lift : GridCell → GridCell → ℕ
 lift from to = if is_blocked from to then 26 else 0
 
@@ -37,7 +37,7 @@ bend_x from to = if from.column == to.column then x_of from.column + 44 else 60 
 abbrev pub point_text : (x y : ℕ) → List ℕ
 point_text x y = decimal x ++ codes " " ++ decimal y
 
--- where a place is in the picture
+-- the coordinates of a cell in the picture
 abbrev pub place_text : GridCell → List ℕ
 place_text p = point_text (x_of p.column) (y_of p.row)
 

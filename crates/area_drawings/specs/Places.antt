@@ -22,7 +22,7 @@ HasRows rows stands = (row : ℕ) → (row < rows) ↔ ((s : Stand) × Contains 
 abbrev pub IsInColumn : List Column → Stand → Type 0
 IsInColumn columns s = slice_get columns s.place.column ≡ Some (column_of s.reached)
 
--- how many rows there are where this is the last vertex
+-- the number of rows if this is the last vertex
 abbrev pub rows_of : Option Stand → ℕ
 rows_of None = 0
 rows_of (Some s) = s.place.row + 1

@@ -55,7 +55,7 @@ of_taken rules router before told_before at left told session written is P holds
   holds = holds;
 }
 
--- of the first packets something else holds too
+-- the first packets have another property too
 pub of_same : (rules : Rules) (before left : Option (List ℕ)) (P Q : Position → List Step → List ℕ → Type 0) → ((at : Position) (steps : List Step) (lines : List ℕ) → P at steps lines → Q at steps lines)
     → FirstPackets rules before left P → FirstPackets rules before left Q
 of_same rules before left P Q so is = record { steps = is.steps; at = is.at; goes = is.goes; are = is.are; lines = is.lines; are_lines = is.are_lines; holds = so is.at is.steps is.lines is.holds }

@@ -75,6 +75,6 @@ said_no_more first old before text is_silent silent said = record {
   begun = up_to_more first old before text said.begun;
 }
 
--- what was appended where nothing was
+-- the text that was appended to nothing
 pub behind_none : (old new text : List ℕ) → old ≡ [] → new ≡ old ++ text → new ≡ text
 behind_none old new text none is = is ∙ ap (λ l. l ++ text) none

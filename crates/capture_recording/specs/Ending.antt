@@ -31,7 +31,7 @@ fault_lacking Whole fault = Config fault
 fault_lacking (Fault kind place) fault = Capture kind place
 fault_lacking Unread fault = Read
 
--- what is answered where something could not be said, and else
+-- the answer if something could not be printed, or else this
 abbrev pub unless_silent : (is_silent : Bool) → Result (Unit {0}) CapturingFault → Result (Unit {0}) CapturingFault
 unless_silent true answer = Err Unsaid
 unless_silent false answer = answer

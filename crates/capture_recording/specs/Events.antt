@@ -31,7 +31,7 @@ abbrev pub install_events : Scope → Lsa → (purges : Bool) → List Event
 install_events scope lsa true = installed scope lsa ++ purged scope (key_of lsa)
 install_events scope lsa false = installed scope lsa
 
--- what is left out makes none
+-- an LSA that is left out makes none
 abbrev pub recorded_events : Recorded → List Event
 recorded_events (recorded.Install scope lsa purges) = install_events scope lsa purges
 recorded_events recorded.Repeated = []
@@ -50,7 +50,7 @@ taken_events (taken.Fault fault) = []
 
 -- ---- what is printed of them
 
--- what a recording asks of an event that has a line in it, in each version
+-- the conditions on an event that has a line in a recording, in each version
 pub record IsRecordable (e : Event) : Type 0 where
   pub form : IsForm (event_form e)
   pub kind : HasKind (line.Event e)

@@ -52,7 +52,7 @@ abbrev pub IsNoFront : Captured → (areas : List ℕ) → PreambleFault → Typ
 IsNoFront known areas (front_fault.Config fault) = config_fault_of (config_of known areas) ≡ Some fault
 IsNoFront known areas front_fault.Memory = Unit {0}
 
--- what it does not tell, if the recording begins with that
+-- the lines about the parts that are not captured, if the preamble comes from the capture
 abbrev pub unknown_if : Option Captured → (areas : List ℕ) → List ℕ
 unknown_if None areas = []
 unknown_if (Some known) areas = unknown_text known areas

@@ -18,7 +18,7 @@ use Rattle.capture_recording.specs.Folds.{none_counted, with_step_counted, with_
 
 -- ---- at first
 
--- what is known of the router, if it is to be known
+-- the facts about the router, if they are wanted
 abbrev pub config_of : Option ℕ → List Step → Option Captured
 config_of router steps = option_map (λ r. captured_of r steps) router
 
@@ -65,7 +65,7 @@ pub record TakesPayload (old new : Session) (time : Option ℕ) (sender : ℕ) (
   pub notes : string_bytes new.notes.text ≡ string_bytes old.notes.text ++ taken_text time (Some sender) taken
   pub silent : new.notes.is_silent ≡ old.notes.is_silent
 
--- what a packet comes to is kept
+-- the results of a packet are kept
 pub record Gathers (old : Gathered) (step : Step) (new : Gathered) : Type 0 where
   pub is : IsStep (past_of old) step (past_of new)
   pub counts : new.counts ≡ with_step_counted old.counts step
@@ -83,7 +83,7 @@ pub record TakesPacket (old new : Session) (packet : Shown) : Type 0 where
 
 -- ---- the first packets
 
--- what they come to is kept
+-- the results of the packets are kept
 pub record AreGathered (rules : Rules) (router : Option ℕ) (steps : List Step) (g : Gathered) : Type 0 where
   pub are : AreStepsTo (begun rules) steps (past_of g)
   pub counts : g.counts ≡ counts_of steps

@@ -22,7 +22,7 @@ abbrev pub taken_back : Taken → ℕ
 taken_back (taken.Packet kind router area back seconds all) = back
 taken_back (taken.Fault f) = 0
 
--- how many seconds pass before the LSAs of a packet
+-- the number of seconds that pass before the LSAs of a packet
 abbrev pub taken_seconds : Taken → ℕ
 taken_seconds (taken.Packet kind router area back seconds all) = seconds
 taken_seconds (taken.Fault f) = 0
@@ -58,7 +58,7 @@ capture_fault_text (fault.Lsa f) = wire_fault_text f
 abbrev pub note_line : (when sender : Option ℕ) → CaptureFault → List ℕ
 note_line when sender f = codes "abr: " ++ when_text when ++ codes " " ++ sender_text sender ++ codes ": " ++ capture_fault_text f ++ codes "\n"
 
--- of a datagram, whose sender is not known
+-- the line for a datagram, whose sender is not known
 abbrev pub datagram_note : (when : Option ℕ) → DatagramFault → List ℕ
 datagram_note when f = note_line when None (fault.Datagram f)
 
@@ -71,7 +71,7 @@ area_line when sender area =
 abbrev pub area_text : (when sender : Option ℕ) → (area : ℕ) → (is_first : Bool) → List ℕ
 area_text when sender area is_first = if is_first then area_line when sender area else []
 
--- what is printed of a place of a Link State Update
+-- the line for a place of a Link State Update
 abbrev pub recorded_text : (when sender : Option ℕ) → Recorded → List ℕ
 recorded_text when sender (recorded.Install scope lsa purges) = []
 recorded_text when sender recorded.Repeated = []
@@ -79,7 +79,7 @@ recorded_text when sender (recorded.OtherArea area is_first) = area_text when se
 recorded_text when sender (recorded.Fault f) = note_line when sender (fault.Lsa f)
 recorded_text when sender (recorded.Cut f) = note_line when sender (fault.Update f)
 
--- of all that is in the payload of a datagram, in its order
+-- the lines for the payload of a datagram, in its order
 abbrev pub payload_text : (when sender : Option ℕ) → Taken → List ℕ
 payload_text when sender (taken.Packet kind router area back seconds all) = flat_map (recorded_text when sender) all.items
 payload_text when sender (taken.Fault f) = note_line when sender (fault.Packet f)
@@ -100,10 +100,10 @@ seconds_line when sender seconds recorded =
 abbrev pub seconds_text : (when sender : Option ℕ) → ℕ → List ℕ
 seconds_text when sender seconds = if recorded_of seconds == seconds then [] else seconds_line when sender seconds (recorded_of seconds)
 
--- of the time of a packet
+-- the lines for the time of a packet
 abbrev pub time_notes : (when sender : Option ℕ) → (back seconds : ℕ) → List ℕ
 time_notes when sender back seconds = back_text when sender back ++ seconds_text when sender seconds
 
--- of the time of a packet, and then of what is in it
+-- the lines for the time of a packet, and then for its content
 abbrev pub taken_text : (when sender : Option ℕ) → Taken → List ℕ
 taken_text when sender t = time_notes when sender (taken_back t) (taken_seconds t) ++ payload_text when sender t

@@ -122,7 +122,7 @@ abbrev pub IsRecordedUpTo : Rules → Preamble → (before old new told_before t
 IsRecordedUpTo rules beginning before old new told_before told = (left : Option (List ℕ)) × FirstPackets rules before left (λ at steps lines.
     (Appends old new [] ⊎ IsWrittenUpTo beginning old new steps lines) × AppendsUpTo told_before told (notes_of steps))
 
--- what is answered, if not that all is recorded and said
+-- the outcome of each answer except the one that all is recorded and printed
 abbrev pub FaultOutcome : Rules → Preamble → (before after old new told_before told : Option (List ℕ)) → CapturingFault → Type 0
 FaultOutcome rules beginning before after old new told_before told (Capture kind place) =
     IsRecordedOrLacks rules beginning before after old new (λ at. Stops (error.Fault kind place) at after) (Appends told_before told)
@@ -137,7 +137,7 @@ FaultOutcome rules beginning before after old new told_before told Write = IsRec
 FaultOutcome rules beginning before after old new told_before told Closed = IsRecordedPart rules beginning before after old new told_before told
 FaultOutcome rules beginning before after old new told_before told Memory = IsRecordedUpTo rules beginning before old new told_before told
 
--- what each answer means, by these rules
+-- the meaning of each answer, by these rules
 abbrev pub RuledOutcome : Rules → Preamble → (before after old new told_before told : Option (List ℕ)) → Result (Unit {0}) CapturingFault → Type 0
 RuledOutcome rules beginning before after old new told_before told result =
     MatchResult result (λ _. IsRecorded rules beginning before after old new (λ at. IsWhole at after) (Appends told_before told))
@@ -154,7 +154,7 @@ IsLine Write = ⊥
 IsLine Closed = ⊥
 IsLine Memory = ⊥
 
--- what each answer means; the rules do not count where the beginning has a fault
+-- the meaning of each answer; the rules do not count if the beginning has a fault
 abbrev pub Outcome : Options → Preamble → (before after old new told_before told : Option (List ℕ)) → Result (Unit {0}) CapturingFault → Type 0
 Outcome options beginning before after old new told_before told result =
     (areas : Option (List ℕ))

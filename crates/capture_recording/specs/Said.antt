@@ -30,7 +30,7 @@ pub record Packs (old new : List ℕ) (lines left : List ℕ) : Type 0 where
   pub joined : lines ≡ front ++ left
   pub packed : new ≡ old ++ front
 
--- why not all of the text was written, and how much of it
+-- the reason why not all of the text was written, and the part that was
 abbrev pub WritesPart : (old new : Option (List ℕ)) → (text : List ℕ) → CapturingFault → Type 0
 WritesPart old new text (Capture kind place) = ⊥
 WritesPart old new text Read = ⊥

@@ -23,7 +23,7 @@ abbrev pub AreLinesUpTo : Rules → (before old new told_before told : Option (L
 AreLinesUpTo rules before old new told_before told =
     (left : Option (List ℕ)) × FirstPackets rules before left (λ at steps lines. AppendsUpTo old new lines × AppendsUpTo told_before told (notes_of steps))
 
--- why the lines were written no further
+-- the reason why no further lines were written
 abbrev pub StreamsPart : Rules → (before after old new told_before told : Option (List ℕ)) → CapturingFault → Type 0
 StreamsPart rules before after old new told_before told (Capture kind place) = ⊥
 StreamsPart rules before after old new told_before told Read = ⊥

@@ -37,11 +37,11 @@ area_lines_with router area has_router_lsa is_cost_unknown =
 abbrev pub area_lines : Captured → (area : ℕ) → List ℕ
 area_lines c area = area_lines_with c.router area (has_router_lsa area c.router c.lsas) (is_cost_unknown area c.router c.lsas)
 
--- of ranges, which only a router with several areas has, and of interfaces
+-- the lines about ranges, which only a router with several areas has, and about interfaces
 abbrev pub router_lines : (ids : List ℕ) → Found → List ℕ
 router_lines ids found = line_if (nat_lt 1 (length ids)) no_ranges_line ++ line_if found.left_out left_out_line
 
--- of each of these areas, and of the router
+-- the lines about each of these areas, and about the router
 abbrev pub unknown_with : Captured → (ids : List ℕ) → List ℕ
 unknown_with c ids = flat_map (area_lines c) ids ++ router_lines ids (interfaces_in c.router c.lsas ids)
 

@@ -91,7 +91,7 @@ not_repeated p x is r =
 
 -- ---- one more instance
 
--- what is found after a value was put under a name
+-- the value that is found after one was put under a name
 found_put : {V : Type 0} (q k : LsaName) (v : V) (es : List (LsaName × V)) → lookup (same_name q) (insert_entry same_name es k v) ≡ cond (same_name q k) (Some v) (lookup (same_name q) es)
 found_put q k v [] = refl
 found_put q k v (e ∷ es) =
@@ -114,7 +114,7 @@ found_put q k v (e ∷ es) =
           | false ↦ λ same. refl
         ] refl
 
--- what is discarded changes nothing
+-- an instance that is discarded changes nothing
 stays : (h : Header) (o : Option Header) → is_discarded h o ≡ true → o ≡ Some (newest_after h o)
 stays h None is = absurd cc
 stays h (Some last) is = ap (λ (b : Bool). Some (cond b h last)) (sym (off (is_installed h last) is))

@@ -42,7 +42,7 @@ pieces_stay p area (x ∷ xs) =
 
 -- ---- one packet
 
--- what waits is given, or waits on
+-- the time that waits is given, or waits on
 given_or_left : (without : Bool) (w : ℕ) → 1000000000 * cond without 0 (w / 1000000000) + cond without w (w % 1000000000) ≡ w
 given_or_left true w = omega arith
 given_or_left false w = omega arith

@@ -36,7 +36,7 @@ is_whole d = (d.offset == 0) && d.is_last
 abbrev pub payload_after : Datagram → List Kept → Option (List ℕ)
 payload_after d kept = if is_whole d then Some d.payload.now else payload_with d kept
 
--- what is kept then: only fragments change it
+-- the fragments that are kept afterwards: only fragments change them
 abbrev pub kept_after : Datagram → List Kept → List Kept
 kept_after d kept = if is_whole d then kept else kept_with d kept
 

@@ -41,7 +41,7 @@ abbrev pub lsas_of_payload : Option (List ℕ) → List ℕ → List Instance
 lsas_of_payload areas payload =
     if is_none (packet_fault_of payload) then lsas_of_pieces areas (area_field payload) (pieces_of_packet payload) else []
 
--- of all packets, in their order
+-- the LSAs of all packets, in their order
 abbrev pub lsas_of : Option (List ℕ) → List Captured → List Instance
 lsas_of areas packets = flat_map (λ packet. lsas_of_payload areas packet.payload) packets
 
@@ -76,7 +76,7 @@ abbrev pub passed_behind : (last : Option ℕ) → List ℕ → ℕ
 passed_behind last [] = 0
 passed_behind last (time ∷ times) = passed last (Some time) + passed_behind (Some time) times
 
--- how many seconds are given before these packets
+-- the number of seconds that are given before the LSAs of this packet
 abbrev pub seconds_at : Progress → Captured → ℕ
 seconds_at p packet = if is_none (packet_fault_of packet.payload) then seconds_due p packet.time else 0
 
@@ -93,7 +93,7 @@ pub record IsHistory (options : Options) (areas : Option (List ℕ)) (packets : 
   pub areas_stay : p.areas ≡ areas
   pub newest : options.keeps_all ≡ false → (name : LsaName) → newest_of name p.newest ≡ newest_in (headers_of name (lsas_of areas packets))
   pub behind : (name : LsaName) → IsNewest (headers_of name (lsas_of areas packets)) (newest_in (headers_of name (lsas_of areas packets)))
-  -- what passed was given as seconds, or waits for that; no more than 64 bits hold
+  -- the time that passed was given as seconds, or waits; no more than 64 bits hold
   pub time : passed_behind None (times_of packets) < 2 ^ 64 → 1000000000 * seconds_given (start options areas) packets + p.waiting ≡ passed_behind None (times_of packets)
   pub begun : (p.has_begun ≡ true) ↔ ((lsa : Instance) × Contains (lsas_of areas packets) lsa)
 

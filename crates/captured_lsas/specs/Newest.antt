@@ -70,7 +70,7 @@ pub record Instance : Type 0 where
   pub name : LsaName
   pub header : Header
 
--- of each LSA the newest one
+-- the newest instance of each LSA
 abbrev pub Newest : Type 0
 Newest = List (LsaName × Header)
 

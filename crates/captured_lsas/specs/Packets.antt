@@ -49,7 +49,7 @@ abbrev pub IsTaken : Progress → Option ℕ → List ℕ → Taken → Type 0
 IsTaken p time bytes (Fault fault) = packet_fault_of bytes ≡ Some fault
 IsTaken p time bytes (Packet kind router area back seconds recorded) = IsPacket p time bytes kind router area back seconds recorded.items
 
--- what is taken of a packet that was read
+-- the result for a packet that was read
 abbrev pub IsOfPacket : Progress → Option ℕ → PacketValue → Taken → Type 0
 IsOfPacket p time packet (Fault fault) = ⊥
 IsOfPacket p time packet (Packet kind router area back seconds recorded) =

@@ -15,7 +15,7 @@ use Rattle.captured_lsas.specs.Newest.{Instance, Newest, is_max_age, is_old, wit
 use Rattle.captured_lsas.specs.Progress.{Progress}
 use Rattle.captured_lsas.specs.Reading.{IsRead}
 
--- that of AS-external-LSAs for LS type 5, and else the area of the packet (RFC 2328, 13)
+-- the AS for LS type 5, or else the area of the packet (RFC 2328, 13)
 abbrev pub scope_of : ℕ → List ℕ → Scope
 scope_of area lsa = if kind_field lsa == 5 then As else Area area
 
@@ -46,7 +46,7 @@ pub record IsRepeated (p : Progress) (one : Instance) : Type 0 where
   pub leaves_out : p.options.keeps_all ≡ false
   pub old : IsOld p.newest one
 
--- where all are kept, none have to be noted
+-- if all are kept, none have to be noted
 abbrev pub noted : Progress → Instance → Newest
 noted p one = if p.options.keeps_all then p.newest else with_instance one p.newest
 
@@ -70,7 +70,7 @@ with_lsa p area lsa = if is_none (fault_of lsa) then with_read_lsa p area lsa el
 
 -- ---- what is recorded of an LSA
 
--- of one that was read, and whose database the recording has
+-- the result for an LSA that was read, and whose database the recording has
 abbrev pub IsGiven : Progress → ℕ → List ℕ → Lsa → Recorded → Type 0
 IsGiven p area bytes read (Install scope lsa purges) =
     (IsRepeated p (instance_in area bytes) → ⊥) × (scope ≡ scope_of area bytes) × (lsa ≡ read) × (purges ≡ is_max_age (header_of bytes))
@@ -79,7 +79,8 @@ IsGiven p area bytes read (OtherArea of is_first) = ⊥
 IsGiven p area bytes read (Fault fault) = ⊥
 IsGiven p area bytes read (Cut fault) = ⊥
 
--- of one whose database it does not have: the area, and that it is the first one of that
+-- the result for an LSA whose database it does not have: the area, and if it is the first one of
+-- the area
 abbrev pub IsStrange : Progress → ℕ → Recorded → Type 0
 IsStrange p area (Install scope lsa purges) = ⊥
 IsStrange p area Repeated = ⊥
@@ -91,7 +92,7 @@ abbrev pub ByScope : (has : Bool) → (given strange : Type 0) → Type 0
 ByScope true given strange = given
 ByScope false given strange = strange
 
--- of one that was read
+-- the result for an LSA that was read
 abbrev pub IsInstalled : Progress → ℕ → List ℕ → Lsa → Recorded → Type 0
 IsInstalled p area bytes read recorded = ByScope (has_lsa p.areas area bytes) (IsGiven p area bytes read recorded) (IsStrange p area recorded)
 

@@ -9,7 +9,7 @@ passed (Some last) (Some time) = time - last
 passed (Some last) None = 0
 passed None time = 0
 
--- what passed since the last second that was given; no more than 64 bits hold
+-- the time that passed since the last second that was given; no more than 64 bits hold
 abbrev pub waiting_at : Progress → Option ℕ → ℕ
 waiting_at p time = min (p.waiting + passed p.last_time time) (2 ^ 64 - 1)
 
@@ -21,7 +21,7 @@ is_without_seconds p = p.options.without_seconds || not p.has_begun
 abbrev pub seconds_due : Progress → Option ℕ → ℕ
 seconds_due p time = if is_without_seconds p then 0 else waiting_at p time / 1000000000
 
--- what is left of it
+-- the rest of it
 abbrev pub left_waiting : Progress → Option ℕ → ℕ
 left_waiting p time = if is_without_seconds p then waiting_at p time else waiting_at p time % 1000000000
 

@@ -44,7 +44,7 @@ abbrev pub IsPieceRecorded : Progress → ℕ → Piece → Recorded → Type 0
 IsPieceRecorded p area (Ok lsa) recorded = IsRecorded p area lsa recorded
 IsPieceRecorded p area (Err fault) recorded = recorded ≡ Cut fault
 
--- of each piece, after those before it
+-- the result for each piece, after those before it
 unfoldable pub AreRecorded : Progress → ℕ → List Piece → List Recorded → Type 0
 AreRecorded p area [] [] = Unit {0}
 AreRecorded p area [] (one ∷ more) = ⊥

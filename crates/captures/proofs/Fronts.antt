@@ -60,7 +60,7 @@ enough false other captured room is whole = ltb-false room captured is
 short_enough : (captured room : ℕ) → is_too_long captured room ≡ false → captured ≤ room
 short_enough captured room e = enough (nat_lt room captured) _ captured room refl e
 
--- of the first bytes, and so of all
+-- for the first bytes, and so for all
 timed_shown : (size : ℕ) (order interface : _) (bytes : List ℕ) → IsShownBy shown_of bytes (timed_in order interface (take size bytes))
 timed_shown size order interface bytes =
     by_test shown_of bytes (is_too_long (number_at order 4 20 (take size bytes)) (length (take size bytes) - 32)) _ _ (record { same = tt }) (λ e.

@@ -13,7 +13,7 @@ use Rattle.captures.specs.Positions.{IsFaulty, Position, IsRun, run_behind, Goes
 use Rattle.captures.proofs.Fronts.{IsShownBy, front_shown}
 use Rattle.captures.proofs.Going.{part_run}
 
--- what is passed over
+-- the size of a part that is skipped
 skip_size : (n : ℕ) (bytes : List ℕ) (front : _) → IsPart front bytes (Part.Skip n) → size_of front ≡ n
 skip_size n bytes front is = grind arith
 
@@ -67,7 +67,7 @@ module _ (s : State) (pending : List ℕ) (place : ℕ) (left : Option (List ℕ
   stays : (front : _) → front_of s pending ≡ Ok front → ((count : ℕ) → IsSettledBy count (Ok front)) → (more : List ℕ) → front_of s (pending ++ more) ≡ Ok front
   stays front is settled more = steady more (subst (IsSettledBy (length (pending ++ more))) (sym is) (settled (length (pending ++ more)))) ∙ is
 
-  -- what is shown of it too
+  -- its packet too
   shows : (front : _) → front_of s pending ≡ Ok front → (more : List ℕ) → shown_of front (pending ++ more) ≡ shown_of front pending
   shows front is more = (subst (IsShownBy shown_of pending) is (front_shown s pending)).same more
 

@@ -133,7 +133,7 @@ module _ (s t : State) (ahead : ℕ) (bytes pending : List ℕ) (place : ℕ) (l
   reach_here : (part : Part) → r ≡ Ok part → IsPartInReach pending part
   reach_here part is = subst (λ b. IsPartInReach b part) same (subst (λ q. IfOk q (IsPartInReach bytes)) is reach)
 
-  -- what is known of the front where a part came
+  -- the facts of an item if a part was returned
   part_of : (part : Part) (f : _) → r ≡ Ok part → Answers f pending s t r → MatchResult f (λ front. IsPart front pending part × (t ≡ state_behind front s)) (λ _. ⊥)
   part_of part (Ok front) is here = subst (λ q. MatchResult q (λ p. IsPart front pending p × (t ≡ state_behind front s)) (λ error. (error ≡ ReadError.Memory) × MayLackMemory front × (t ≡ s))) is here
   part_of part (Err fault) is here = cc

@@ -20,7 +20,7 @@ abbrev pub section_front : Order → List ℕ → Result Front FaultKind
 section_front order block =
     if not (number_at order 2 12 block == 1) then Err Version else Ok (Header (Format.Section order) (length block))
 
--- what a whole block says, by its type
+-- the content of a whole block, by its type
 abbrev pub content_front : BlockKind → Order → List Interface → List ℕ → Result Front FaultKind
 content_front BlockKind.Section order interfaces block = section_front order block
 content_front BlockKind.Interface order interfaces block = interface_front order block
@@ -29,7 +29,7 @@ content_front BlockKind.Simple order interfaces block = simple_front order inter
 content_front BlockKind.Enhanced order interfaces block = timed_front order (number_at order 4 8 block) interfaces block
 content_front BlockKind.Other order interfaces block = Ok (Other (length block))
 
--- of a type that is read: the block has to be whole, with its length repeated at its end
+-- for a type that is read: the block has to be whole, with its length repeated at its end
 abbrev pub read_front : Frame → List Interface → List ℕ → Result Front FaultKind
 read_front frame interfaces bytes =
     if nat_lt (length bytes) frame.length then Ok (Short frame.length)

@@ -39,7 +39,7 @@ abbrev pub timed_of : Order → Option Interface → List ℕ → Result Front F
 timed_of order None block = Err NoInterface
 timed_of order (Some interface) block = timed_in order interface block
 
--- of the interface of a number
+-- for the interface of a number
 abbrev pub timed_front : Order → ℕ → List Interface → List ℕ → Result Front FaultKind
 timed_front order number interfaces block = timed_of order (slice_get interfaces number) block
 
@@ -67,6 +67,6 @@ abbrev pub simple_of : Order → Option Interface → List ℕ → Result Front 
 simple_of order None block = Err NoInterface
 simple_of order (Some interface) block = simple_in order interface block
 
--- of the first interface
+-- for the first interface
 abbrev pub simple_front : Order → List Interface → List ℕ → Result Front FaultKind
 simple_front order interfaces block = simple_of order (slice_get interfaces 0) block

@@ -24,7 +24,7 @@ fraction_of_number number =
 abbrev pub fraction_of : Order → List ℕ → Option Fraction
 fraction_of order bytes = fraction_of_number (number_at order 4 0 bytes)
 
--- what the magic number says in an order, if it is one there, and else this
+-- the meaning of the magic number in an order, if it is one there, or this
 abbrev pub magic_in_order : Order → Option Fraction → Option Magic → Option Magic
 magic_in_order order (Some fraction) other = Some (record { order = order; fraction = fraction })
 magic_in_order order None other = other

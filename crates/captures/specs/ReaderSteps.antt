@@ -15,7 +15,7 @@ pub record IsShort (p : Position) : Type 0 where
   pub front : MatchResult (front_of p.state p.pending) (λ front. IsPart front p.pending (Part.More needed)) (λ _. ⊥)
   pub near : p.ahead ≡ 0
 
--- what a step that does not fail has come to
+-- the result of a step that does not fail
 abbrev pub StepsTo : (old : Position) (before : Option (List ℕ)) (new : Position) (after : Option (List ℕ)) (bytes : List ℕ) → Step → Type 0
 StepsTo old before new after bytes On = GoesOn old before new after []
 StepsTo old before new after bytes (Packet head) = GoesOn old before new after (shown head bytes ∷ [])

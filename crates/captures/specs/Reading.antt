@@ -17,7 +17,7 @@ use Rattle.captures.specs.Fronts.{IsSettledBy}
 use Rattle.captures.specs.Opening.{opening_front}
 use Rattle.captures.specs.Pcap.{packet_front}
 
--- what is known of a capture: its format, and in a section of a pcapng the interfaces
+-- the state of a capture: its format, and in a section of a pcapng the interfaces
 pub record State : Type 0 where
   pub format : Format
   pub interfaces : List Interface
@@ -76,7 +76,7 @@ state_behind (Declared interface size) s = record s { interfaces = s.interfaces 
 state_behind (Other size) s = s
 state_behind (Captured header size) s = s
 
--- what is answered to a front, if memory does not run out
+-- the part that is returned for an item, if memory does not run out
 abbrev pub IsPart : Front → List ℕ → Part → Type 0
 IsPart (Short needed) bytes part = part ≡ Part.More needed
 IsPart (Header format size) bytes part = part ≡ Part.Skip size
@@ -92,7 +92,7 @@ MayLackMemory (Declared interface size) = Unit {0}
 MayLackMemory (Other size) = ⊥
 MayLackMemory (Captured header size) = ⊥
 
--- what comes of a front: the answer, and what is known afterwards
+-- the answer to an item, and the state after it
 abbrev pub Answers : Result Front FaultKind → List ℕ → (old new : State) → Result Part ReadError → Type 0
 Answers (Err fault) bytes old new result = (result ≡ Err (Fault fault)) × (new ≡ old)
 Answers (Ok front) bytes old new result =

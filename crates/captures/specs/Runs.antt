@@ -27,7 +27,7 @@ pub record Run : Type 0 where
   pub packets : List Shown
   pub end : End
 
--- how many bytes are read past
+-- the number of bytes that are skipped
 abbrev pub size_of : Front → ℕ
 size_of (Short needed) = 0
 size_of (Header format size) = size

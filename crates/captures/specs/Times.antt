@@ -6,7 +6,7 @@ use Rattle.captures.specs.declared.time.Offset.{Offset}
 use Rattle.captures.specs.declared.time.Offset.TheVariants.{Later, Earlier}
 use Rattle.captures.specs.declared.time.Timing.{Timing}
 
--- how many units a second has
+-- the number of units in a second
 abbrev pub units_of : Resolution → ℕ
 units_of (Decimal power) = 10 ^ power
 units_of (Binary power) = 2 ^ power

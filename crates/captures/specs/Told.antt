@@ -21,7 +21,7 @@ IsTold (Ok (Declared interface size)) = Unit {0}
 IsTold (Ok (Other size)) = ⊥
 IsTold (Ok (Captured header size)) = Unit {0}
 
--- what is read as a packet of a pcap was written as one
+-- bytes that are read as a packet of a pcap were written as one
 abbrev pub WasFilePacket : State → List ℕ → Type 0
 WasFilePacket s bytes =
     (file : PcapFile) → s.format ≡ Format.Pcap file → IsTold (front_of s bytes)
@@ -62,7 +62,7 @@ WasBlock s bytes =
     → (kind : BlockKind) × (type : ℕ) × (body : List ℕ) × IsBodyOf kind order type body × IsLegalBody body
     × (bytes ≡ block_bytes order type body ++ drop (12 + length body) bytes)
 
--- what is read was written
+-- all that is read was written
 pub record WasWritten (s : State) (bytes : List ℕ) : Type 0 where
   pub file_packet : WasFilePacket s bytes
   pub block : WasBlock s bytes

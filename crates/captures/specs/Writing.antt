@@ -24,7 +24,7 @@ abbrev pub magic_number : Fraction → ℕ
 magic_number Micro = 0xA1B2C3D4
 magic_number Nano = 0xA1B23C4D
 
--- what the header says, of version 2
+-- the content of the header, in version 2
 pub record FileHeader : Type 0 where
   pub magic : Magic
   pub minor : ℕ

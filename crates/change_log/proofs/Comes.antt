@@ -10,7 +10,7 @@ use Rattle.change_log.specs.Streams.{ComesFrom}
 pub held_none : (a : Option (List ℕ)) (held : List ℕ) → held ≡ [] → prepend_known held a ≡ a
 held_none a held none = ap (λ l. prepend_known l a) none ∙ prepend_known-nil a
 
--- what was held back came too
+-- the bytes that were held back came too
 pub comes_held : (a b : Option (List ℕ)) (bytes held : List ℕ) → Consumes a (prepend_known held b) bytes → ComesFrom a b bytes
 comes_held a b bytes held read = record { ahead = held; read = with_held a b read }
   where

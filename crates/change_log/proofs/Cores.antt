@@ -1,5 +1,5 @@
 -- The lists of due summaries of each core: no area is there twice, and each list is in order.
---   sound_lists, distinct_lists: of a core
+--   sound_lists, distinct_lists: the lists of a core
 --   give_taken: the changes that are reported for a line follow those before
 --   current_line: and table and due summaries follow the line
 use Rattle.std.proofs.Common.{◌≡◌, ◌∙◌, ℕ, suc, Bool, true, false, List, [], ◌∷◌, ◌++◌, length, map, take, refl, sym, ap, subst, inl, inr, arith}

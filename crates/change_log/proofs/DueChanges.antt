@@ -1,7 +1,7 @@
 -- The summaries due in an area, by the changes one after the other.
 --   metrics_both: one list after the other
 --   networks_leave: the table is none of it
---   due_follow: what differs of the lists leads to the next ones
+--   due_follow: the differences of the lists lead to the next ones
 use Rattle.std.proofs.Common.{◌≡◌, ◌≢◌, ◌==◌, ℕ, true, false, cond, List, [], ◌∷◌, ◌++◌, map, Option, Some, None, refl, sym, ap, subst, ◌∙◌, inl, inr}
 use Rattle.std.specs.declared.cmp.Ordering.TheVariants.{Less}
 use Rattle.std.specs.FinMap.{get, insert, remove}

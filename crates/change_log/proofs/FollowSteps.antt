@@ -98,7 +98,7 @@ skipped skips_faults is none = apart (sym is ∙ none)
     apart : true ≡ false → ⊥
     apart e = cc
 
--- what the line was read as, by its own name
+-- the reading of the line, by its own name
 pub read_as : (v : Version) (line given : List ℕ) (t : Taken) → given ≡ line → IsReadAs v given t → IsReadAs v line t
 read_as v line given t is reads = subst (λ (l : List ℕ). IsReadAs v l t) is reads
 

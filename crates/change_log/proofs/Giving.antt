@@ -1,6 +1,6 @@
 -- The changes give the table and the due summaries: those of a core from nothing, and then those of
 -- the next one.
---   give_all: what a core begins with
+--   give_all: the changes from nothing to a core
 --   give_more: the differences, after the changes that were reported before
 use Rattle.std.proofs.Common.{◌≡◌, ℕ, Bool, true, false, List, [], ◌∷◌, ◌++◌, map, Option, Some, None, refl, sym, ap, subst, ◌∙◌}
 use Rattle.std.specs.FinMap.{get, empty, entries, get-empty}

@@ -1,6 +1,6 @@
 -- The table by the changes, one after the other.
 --   items_both: one list after the other
---   items_follow: what differs of a table leads to the next one
+--   items_follow: the differences of a table lead to the next one
 --   items_all: the whole table leads to it from nothing
 
 use Rattle.std.proofs.Common.{◌≡◌, ◌≢◌, ℕ, Bool, true, false, cond, T, ◌&&◌, List, [], ◌∷◌, ◌++◌, map, Option, Some, None, refl, sym, ap, subst, ◌∙◌, inl, inr}

@@ -183,7 +183,7 @@ module _ (wanted : ChangeFilter) (answers : Bool) (old : CoreValue) (first : ℕ
 
 -- ---- one line
 
--- what differs between a current core and the next, as it names it
+-- the differences between a current core and the next, as the core names them
 differs : (answers : Bool) (old new : CoreValue) (e : Event) (answer : Result Reply Refusal) (reply : Reply) → answer ≡ Ok reply → reply.state ≡ Current → IsCurrent old → Applies old e answer new → IfOk answer (λ r. NamesChanges old r.state new)
     → IsToldOf answers old answer new (map (network_change new.table.items) new.changes ++ flat_map area_changes new.due_changes)
 differs answers old new e answer reply is current was applies named =
@@ -284,7 +284,7 @@ module _ (wanted : ChangeFilter) (answers : Bool) (old : CoreValue) (number : �
   pub stopped_as : (why : PrintError) (l same : Line) (new : CoreValue) (to : Option (List ℕ)) → l ≡ same → StopsAtLine why wanted answers old number same new from to buffer → StopsAtLine why wanted answers old number l new from to buffer
   stopped_as why l same new to is h = subst (λ (x : Line). StopsAtLine why wanted answers old number x new from to buffer) (sym is) h
 
--- what is asked for stays
+-- the filter stays
 
 pub asked_line : (now wanted : ChangeFilter) (answer answers : Bool) (old : CoreValue) (number : ℕ) (l : Line) (new : CoreValue) (from to : Option (List ℕ)) (buffer put : List ℕ) → now ≡ wanted → answer ≡ answers
     → ToldLine now answer old number l new from to buffer put → ToldLine wanted answers old number l new from to buffer put

@@ -38,7 +38,7 @@ abbrev pub due_change : ℕ → Dest × Option ℕ → Change
 due_change area (dest, Some metric) = Due area dest metric
 due_change area (dest, None) = Undue area dest
 
--- what changed in an area
+-- the changes in an area
 abbrev pub area_changes : ℕ × Metrics → List Change
 area_changes e = map (due_change e.0) e.1
 
@@ -77,7 +77,7 @@ abbrev pub items_from : Items → List Change → Items
 items_from items [] = items
 items_from items (change ∷ changes) = items_from (items_after items change) changes
 
--- of an area
+-- the metrics of an area after a change
 abbrev pub metrics_after : ℕ → DueMetrics → Change → DueMetrics
 metrics_after id metrics (Due area dest metric) = if area == id then fin.insert metrics dest metric else metrics
 metrics_after id metrics (Undue area dest) = if area == id then fin.remove metrics dest else metrics

@@ -19,7 +19,7 @@ use Rattle.change_log.specs.Lines.{Change}
 use Rattle.change_log.specs.Runs.{Fails, Taken, Told, ToldPart, ToldTaken}
 use Rattle.change_log.specs.Streams.{AllSay, AreTaken, ComesFrom, IsReadAs}
 
--- what stays of a run
+-- the parts of a run that stay
 pub record IsSameRun (old new : Run) : Type 0 where
   pub version : new.version ≡ old.version
   pub skips_faults : new.skips_faults ≡ old.skips_faults
@@ -88,7 +88,7 @@ pub record IsAtFault (f : Fault) (before : List Change) (old new : Run) (held : 
   pub comes : ComesFrom (prepend_known held known) left (bytes ++ raw)
   pub is : IsReadAs old.version (shortened raw) (Fails f) ⊎ ((raw ≢ []) × (f ≡ fault.Truncated) × IsAtEnd left)
 
--- how it ends: the input is over, it could not be read further, or a line has a fault
+-- the end: the input is over, it could not be read further, or a line has a fault
 abbrev pub Ends : End → (before : List Change) → (old new : Run) → (held : List ℕ) → (known left : Option (List ℕ)) → (from to : Option (List ℕ)) → Type 0
 Ends end.Over before old new held known left from to =
     (bytes : List ℕ) × IsFollowed before bytes old new from to × Consumes (prepend_known held known) left bytes × IsAtEnd left

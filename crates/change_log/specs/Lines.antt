@@ -60,7 +60,7 @@ object_line number (Found address serial found) = json_line (lookup_data (record
 object_line number (Refused refusal) = json_line (refused_data number refusal)
 object_line number (AtFault fault) = json_line (fault_data (record { line = number; fault = fault }))
 
--- what changed at the line of this number
+-- the changes at the line of this number
 abbrev pub change_line : Format → ℕ → Change → List ℕ
 change_line format.Text number change = words_of number change
 change_line format.Json number change = object_line number change

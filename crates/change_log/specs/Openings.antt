@@ -17,7 +17,7 @@ use Rattle.change_log.specs.declared.opening.PreambleEnd.{PreambleEnd}
 use Rattle.change_log.specs.declared.opening.PreambleEnd.TheVariants as front_end
 use Rattle.change_log.specs.declared.opening.Opening.{Opening}
 
--- what a line comes to for the front, and what one that is none of it does
+-- the end of the preamble after a line, which belongs to it or not
 abbrev pub ends_after : List ℕ → PreambleEnd → PreambleEnd
 ends_after line other = if is_front_word (first_word (cut line)) then (if nat_lt (length line) LONGEST then front_end.Over else front_end.LongLine) else other
 
@@ -39,7 +39,7 @@ pub record IsAdded (end : PreambleEnd) (feed : List ℕ) (old new : Opening) : T
 abbrev pub IsLooked : (front : List ℕ) → (old new : PreambleEnd) → Type 0
 IsLooked front old new = (new ≡ old) ⊎ ((f : LineFault) × (new ≡ front_end.AtFault f) × IsFaultOf front f)
 
--- how many line feeds the bytes have
+-- the number of line feeds in the bytes
 abbrev pub line_feeds : List ℕ → ℕ
 line_feeds bytes = count_by (λ byte. byte == 10) bytes
 

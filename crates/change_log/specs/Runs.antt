@@ -35,7 +35,7 @@ abbrev pub IsToldOf : Bool → CoreValue → Result Reply Refusal → CoreValue 
 IsToldOf answers old (Ok reply) new told = IsCurrent new × AreDifferences old new told
 IsToldOf answers old (Err why) new told = MayPass answers why × (told ≡ answered answers (Refused why))
 
--- what the table has for the address
+-- the match of the address in the table
 abbrev pub IsFoundIn : Bool → CoreValue → ℕ → List Change → Type 0
 IsFoundIn true c address told = (found : Match) × IsMatch c.table.items address found × (told ≡ Found address c.table.serial found ∷ [])
 IsFoundIn false c address told = told ≡ []

@@ -16,7 +16,7 @@ is_capture = record { stops = refl; passes = refl }
 abbrev capture_sub : Shape
 capture_sub = built_leaf (inherited program.top capture_command.top)
 
--- what comes of further words
+-- the walk over further words
 abbrev walked_on : Walk → List Text → Walk
 walked_on before words = fold (walked capture_sub.rules []) before words
 
@@ -93,7 +93,7 @@ begin_step file (Some address) head p =
 
 -- ---- after the flags
 
--- what the words say is kept, and there is no fault
+-- the content of the words is kept, and there is no fault
 record Reads (t : CaptureTexts) : Type 0 where
   walks : walk_fault capture_sub [] (at_begin t) (flags t) ≡ []
   ends : end_fault capture_sub (at_end t) ≡ []

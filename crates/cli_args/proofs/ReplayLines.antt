@@ -154,7 +154,7 @@ number_step : (file number : Text) → IsPlainWord number
     ≡ walk_given replay_sub (codes "workers") (first_walk replay_sub file) number
 number_step file number p = option_step replay_sub.rules (held_waiting replay_sub (codes "workers") (first_walk replay_sub file)) 2 (codes "workers") number p
 
--- what writes a number does not begin with a hyphen
+-- a word that writes a number does not begin with a hyphen
 plain_number : (word : Text) → IsNumeral 10 (without_leading_plus word) → IsPlainWord word
 plain_number [] h = refl
 plain_number (x ∷ xs) h = go (x == 45) refl

@@ -113,7 +113,7 @@ module _ (s : Shape) where
   pub rows_on_are : (word : Text) (rest : List Text) → IsFileWord word → rows_after s.rules [] (word ∷ rest) ≡ rows_on word rest
   rows_on_are word rest p = rows_at (word ∷ rest) (walk_on word rest) (walk_on_is word rest p)
 
-  -- what comes after the words
+  -- the fault after the words
   abbrev pub end_fault : Walk → Kinds
   end_fault w =
       or_else (settle_fault s.rules s.args_override_self w.held)
@@ -208,7 +208,7 @@ module _ (command : Text) (words : List Text) (is : IsCommand command) where
   walks : walk_fault top labels start (command ∷ words) ≡ []
   walks = faultless_cons top labels start (stopped_at command []) command words is.passes is.stops (silent command [] words)
 
-  -- what comes after the words
+  -- the fault after the words
   abbrev top_end : Walk → Kinds
   top_end w =
       or_else (settle_fault top.rules top.args_override_self w.held)
@@ -224,7 +224,7 @@ module _ (command : Text) (words : List Text) (is : IsCommand command) where
   pub stop_is : (name : Text) → stop_after top.rules labels (argument_words program (name ∷ command ∷ words)) ≡ Some (command, words)
   stop_is name = ap (λ (w : Walk). w.stopped) walk_is
 
-  -- what the command makes of the words, the line does
+  -- the line has the result that the command has for the words
   pub line_gives : (name : Text) (rows given : List Row) → entered (built program) (Some (command, words)) ≡ Some (command, given) → given ≡ rows
       → subcommand_of program (name ∷ command ∷ words) ≡ Some (command, rows)
   line_gives name rows given enters is_given = ap (entered (built program)) (stop_is name) ∙ enters ∙ ap (λ (r : List Row). Some (command, r)) is_given

@@ -202,7 +202,7 @@ pub record HaveNames (p : Places) : Type 0 where
   pub of_follow : AreFormatNames p.of_follow
   pub of_explain : AreFormatNames p.of_explain
 
--- what follows the program's name is one of its commands, or asks for its version
+-- the program's name is followed by one of its commands, or by an option for its version
 abbrev pub program_with : Places → App
 program_with p =
     let named = new_app (codes "abr") in
@@ -278,7 +278,7 @@ pub record WritesWorkers (word : Text) (n : ℕ) : Type 0 where
   pub written : digits_value 10 (without_leading_plus word) ≡ n
   pub within : AreWorkers n
 
--- what the words of `abr replay` say
+-- the content of the words of `abr replay`
 pub record ReplayTexts : Type 0 where
   pub file : Text
   pub workers : ℕ
@@ -286,20 +286,20 @@ pub record ReplayTexts : Type 0 where
   pub format : Format
   pub progress : Bool
 
--- what the words of `abr changes` say
+-- the content of the words of `abr changes`
 pub record ChangesTexts : Type 0 where
   pub file : Text
   pub only : Option Text
   pub format : Format
   pub progress : Bool
 
--- what the words of `abr follow` say
+-- the content of the words of `abr follow`
 pub record FollowTexts : Type 0 where
   pub only : Option Text
   pub strict : Bool
   pub format : Format
 
--- what the words of `abr explain` say
+-- the content of the words of `abr explain`
 pub record ExplainTexts : Type 0 where
   pub file : Text
   pub address : Text
@@ -307,13 +307,13 @@ pub record ExplainTexts : Type 0 where
   pub format : Format
   pub progress : Bool
 
--- what the words of `abr page` say
+-- the content of the words of `abr page`
 pub record PageTexts : Type 0 where
   pub file : Text
   pub output : Option Text
   pub progress : Bool
 
--- what the words of `abr capture` say
+-- the content of the words of `abr capture`
 pub record CaptureTexts : Type 0 where
   pub file : Text
   pub router : Option Text
@@ -602,7 +602,7 @@ abbrev pub IsFileIfGiven : Option Text → Type 0
 IsFileIfGiven None = Unit {0}
 IsFileIfGiven (Some word) = IsFileWord word
 
--- what it says can be read from its words
+-- the content can be read from its words
 pub record AreReadable (t : CaptureTexts) : Type 0 where
   pub file : IsFileWord t.file
   pub router : IsPlainIfGiven t.router

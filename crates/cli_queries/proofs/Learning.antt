@@ -38,7 +38,7 @@ longer_is known told now p (inl same) more =
     let short = prefix_length told known (subst (IsPrefix told) same p) in
     absurd (omega (arith, short, more))
 
--- of a list and an event in a token, the list was known
+-- if a list and an event are in a token, the list was known
 pub known_before : {A : Type 0} (known told now before : List A) (e : A) → IsPrefix known now → IsPrefix told now → told ≡ before ++ e ∷ [] → length told ≡ length known + 1 → before ≡ known
 known_before known told now before e p q is more =
     let within = prefix_trans before told now (e ∷ [], sym is) q in

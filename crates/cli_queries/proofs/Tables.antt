@@ -10,7 +10,7 @@ mapped : {X Y : Type 0} (f : X → Y) (a b : Option X) → option_map f (option_
 mapped f None b = refl
 mapped f (Some x) b = refl
 
--- what the first table has, or else the second
+-- the advice of the first table, or else of the second
 pub joined : (first second : List Advice) (number : ℕ) (a b c : Option (Bor (List ℕ)))
     → option_map (λ t. t.now) a ≡ advice_in first number → option_map (λ t. t.now) b ≡ advice_in second number → c ≡ option_or a b
     → option_map (λ t. t.now) c ≡ advice_in (first ++ second) number

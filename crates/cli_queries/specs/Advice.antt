@@ -6,7 +6,7 @@ use Rattle.std.specs.List.{find}
 abbrev pub Advice : Type 0
 Advice = ℕ × List ℕ
 
--- of the bytes of an LSA
+-- for the bytes of an LSA
 abbrev pub lsa_faults : List Advice
 lsa_faults =
     (1, codes "1 Length: There are fewer than 20 bytes, or the length field is not their number (RFC 2328, A.4.1). Hand in the whole LSA, header and body, and nothing behind it: a packet may have several.\n")
@@ -21,7 +21,7 @@ lsa_faults =
     ∷ (10, codes "10 Shape: The body is cut off, has fewer links than it counts or no external record, or has bytes left over. Drop the LSA, and look at how its bytes were cut.\n")
     ∷ []
 
--- of an event
+-- for an event
 abbrev pub refusals : List Advice
 refusals =
     (20, codes "20 NoArea: The area of the scope, of the interface or of the range is not configured. Name an area of the configuration; another one needs a new core.\n")
@@ -36,7 +36,7 @@ refusals =
     ∷ (29, codes "29 AddressTaken: The interface is up, and another one that is up has its address. Take the other one down first.\n")
     ∷ []
 
--- of an event, or a roll
+-- for an event, or a roll
 abbrev pub later_refusals : List Advice
 later_refusals =
     (11, codes "11 Behind: The event was taken, but memory ran out over what follows from it, and the table and due summaries are older. Free some memory, and call catch_up; the next event tries too.\n")
@@ -49,7 +49,7 @@ later_refusals =
     ∷ (37, codes "37 NotCurrent: The table, the due summaries or what is published follow fewer events than were taken, so there is no roll. Call catch_up, then roll.\n")
     ∷ []
 
--- of a configuration, a base, or an engine that is opened
+-- for a configuration, a base, or an engine that is opened
 abbrev pub config_faults : List Advice
 config_faults =
     (40, codes "40 Areas: There is no area, or there are more than 16, or two have one Area ID. Configure 1 to 16 areas.\n")
@@ -62,7 +62,7 @@ config_faults =
     ∷ (47, codes "47 Doubled: An interface ID, or a key in a scope, is twice in a base. Take the base of a core, or leave the older one out.\n")
     ∷ []
 
--- of a line of a recording
+-- for a line of a recording
 abbrev pub line_faults : List Advice
 line_faults =
     (50, codes "50 Truncated: The line has no line feed, or it is one of the first lines and is missing. The file was cut off: write it again, or drop its last line.\n")
@@ -74,14 +74,14 @@ line_faults =
     ∷ (56, codes "56 Base: The interface or the LSA of the base has a fault: 20, 21, 27 or 29 follows. See that number.\n")
     ∷ []
 
--- of a call from C
+-- for a call from C
 abbrev pub call_faults : List Advice
 call_faults =
     (60, codes "60 NoCore: No core is open there. Open one with abr_open or abr_open_base.\n")
     ∷ (61, codes "61 NoPrefix: The length is above 32, or a bit behind it is 1. Give a length of 0 to 32, and an address whose bits behind it are 0.\n")
     ∷ []
 
--- of a capture of a network, a pcap or a pcapng
+-- for a capture of a network, a pcap or a pcapng
 abbrev pub capture_faults : List Advice
 capture_faults =
     (62, codes "62 NoCapture: The first bytes are the magic number of neither a pcap nor a pcapng, or a section of a pcapng has no byte-order magic. See whether the file is a capture, and unpack it if it is compressed.\n")
@@ -94,7 +94,7 @@ capture_faults =
     ∷ (69, codes "69 CutOff: The capture ends within a header, a block or a packet, or before the first header. The file was cut off: copy it again, or wait until it is written to its end.\n")
     ∷ []
 
--- of an OSPF packet, and of the LSAs of a Link State Update
+-- for an OSPF packet, and for the LSAs of a Link State Update
 abbrev pub packet_faults : List Advice
 packet_faults =
     (70, codes "70 Short: There are fewer than 24 bytes, which is a packet's header (RFC 2328, A.3.1). Drop the packet, and look at how its bytes were cut.\n")
@@ -106,7 +106,7 @@ packet_faults =
     ∷ (76, codes "76 LsaLength: Where an LSA of a Link State Update is to stand, the length in its header is below 20, or the body ends before the LSA (RFC 2328, A.3.5). Keep the LSAs before it, and look at the router that sent the packet.\n")
     ∷ []
 
--- of an IPv4 datagram
+-- for an IPv4 datagram
 abbrev pub datagram_faults : List Advice
 datagram_faults =
     (80, codes "80 Header: There are fewer than 20 bytes, the version is not 4, or the header's length is below 20 bytes or goes past the bytes (RFC 791, 3.1). Drop the datagram, and look at how its bytes were cut.\n")

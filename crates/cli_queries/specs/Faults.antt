@@ -13,7 +13,7 @@ use Rattle.cli_queries.specs.declared.command_fault.CommandFault.{CommandFault}
 use Rattle.cli_queries.specs.declared.command_fault.CommandFault.TheVariants as fault
 use Rattle.cli_queries.specs.Words.{fault_text}
 
--- what is said between a capture's name and the place of its fault
+-- the words between a capture's name and the place of its fault
 abbrev pub place_words : FaultKind → List ℕ
 place_words NoCapture = codes "is at fault at byte"
 place_words Version = codes "is at fault at byte"
@@ -24,7 +24,7 @@ place_words Options = codes "is at fault at byte"
 place_words Resolution = codes "is at fault at byte"
 place_words CutOff = codes "is cut off at byte"
 
--- what is printed of a fault
+-- the printed text of a fault
 abbrev pub command_fault_text : CommandFault → List ℕ
 command_fault_text (fault.Word f) = fault_text f
 command_fault_text (fault.Wire f) = wire_fault_text f

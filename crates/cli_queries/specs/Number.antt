@@ -17,7 +17,7 @@ pub record Advises (word text : List ℕ) : Type 0 where
 abbrev pub HasNoAdvice : List ℕ → Type 0
 HasNoAdvice word = (n : ℕ) → WritesNumber word n → advice_of n ≡ None
 
--- why there is no text
+-- the reason why there is no text
 abbrev pub IsNumberFault : List ℕ → CommandFault → Type 0
 IsNumberFault word (fault.Word NotAnAddress) = ⊥
 IsNumberFault word (fault.Word NotHexadecimal) = ⊥

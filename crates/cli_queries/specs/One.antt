@@ -29,7 +29,7 @@ use Rattle.cli_args.specs.Command.{OneTexts}
 use Rattle.cli_queries.specs.Words.{Writes, WritesLsa, HasWireFault, IsFirstFault, AreRead}
 use Rattle.cli_queries.specs.Answers.{AnswerValue, IsAnswer}
 
--- what the words of the command say
+-- the content of the words of the command
 pub record Given : Type 0 where
   pub router : ℕ
   pub area : ℕ
@@ -37,7 +37,7 @@ pub record Given : Type 0 where
   pub lsa : Lsa
   pub lookup : ℕ
 
--- what was read
+-- the input that was read
 abbrev pub given_by : OneInput → Lsa → Given
 given_by input lsa = record { router = input.router; area = input.area; address = input.address; lsa = lsa; lookup = input.lookup }
 
@@ -118,20 +118,21 @@ pub record HasLearned (known told now : List Event) : Type 0 where
   pub told_too : IsPrefix told now
   pub one : (now ≡ known) ⊎ (now ≡ told)
 
--- why an engine does not take an event in this state, or why it is not known to have taken it
+-- the reason why an engine does not take an event in this state, or why it is not known to have
+-- taken it
 abbrev pub IsStepFault : State → Event → CommandFault → Type 0
 IsStepFault s e (fault.Refused r) = IsRefusalOf s e r
 IsStepFault s e fault.NoEntry = Unit {0}
 IsStepFault s e fault.Memory = Unit {0}
 IsStepFault s e _ = ⊥
 
--- why no engine is opened
+-- the reason why no engine is opened
 abbrev pub IsOpenFault : Config → CommandFault → Type 0
 IsOpenFault config (fault.Config f) = IsFaultOf config f
 IsOpenFault config fault.Place = config_fault_of config ≡ None
 IsOpenFault config _ = ⊥
 
--- why an engine gives no line for what was given
+-- the reason why an engine gives no line for the input
 abbrev pub IsEngineFault : Given → CommandFault → Type 0
 IsEngineFault g (fault.Config f) = IsFaultOf (config_of g) f
 IsEngineFault g (fault.Refused r) = (config_fault_of (config_of g) ≡ None) × IsRefused g r

@@ -27,7 +27,7 @@ IsAddress word = (address : ℕ) × (address < 2 ^ 32) × (word ≡ address_text
 abbrev pub IsHexadecimal : List ℕ → Type 0
 IsHexadecimal word = IsOk (decode_of word)
 
--- why a word has no bytes
+-- the reason why a word has no bytes
 abbrev pub IsBytesFault : List ℕ → WordFault → Type 0
 IsBytesFault word NotHexadecimal = ¬ IsHexadecimal word
 IsBytesFault word Memory = Unit {0}

@@ -54,7 +54,7 @@ is_listed None s is = absurd (let wrong : None ≡ Some s = is in cc)
 is_listed (Some t) s is = subst (λ (x : DueSource). Contains (t ∷ []) x) (some_same is) (first_element t [])
 
 module _ (area : ℕ) where
-  -- what one source gives, if there is one
+  -- the summary that one source gives, if there is one
   abbrev pub GivesOf : Option DueSource → ℕ → Type 0
   GivesOf found n = (s : DueSource) × (found ≡ Some s) × GivesInto area s n
 

@@ -16,7 +16,7 @@ abbrev pub is_taken : DueVerdict → Bool
 is_taken Given = true
 is_taken _ = false
 
--- why a source gives no summary, or that it gives it
+-- the reason why a source gives no summary, or that it gives the summary
 abbrev pub reason_text : DueVerdict → List ℕ
 reason_text OwnArea = codes "it is of the area itself"
 reason_text Infinity = codes "its cost is LSInfinity or more"

@@ -30,7 +30,7 @@ MaySend None d = Unit {0}
 MaySend (Some stub) (Net p) = (p ≢ default_route) × IsTrue stub.summaries
 MaySend (Some stub) (Router router) = ⊥
 
--- what a stub area decides
+-- the reason in a stub area
 abbrev pub IsStubReason : Option Stub → Dest → Option ℕ → DueReason → Type 0
 IsStubReason None d metric r = ⊥
 IsStubReason (Some stub) d metric reason.StubRouter = (router : ℕ) × (d ≡ Router router) × (metric ≡ None)

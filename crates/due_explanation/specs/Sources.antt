@@ -85,7 +85,8 @@ abbrev pub AreRangeSources : SummaryInputsValue → Prefix → List AreaConfig �
 AreRangeSources v p [] sources = sources ≡ []
 AreRangeSources v p (a ∷ areas) sources = (found : Option DueSource) × (rest : List DueSource) × IsRangeSource v a p found × AreRangeSources v p areas rest × (sources ≡ listed found ++ rest)
 
--- of a network: its intra-area route, its inter-area route, and the ranges with its prefix
+-- the sources of a network: its intra-area route, its inter-area route, and the ranges with its
+-- prefix
 pub record AreNetworkSources (v : SummaryInputsValue) (p : Prefix) (sources : List DueSource) : Type 0 where
   pub intra : Option DueSource
   pub inter : Option DueSource

@@ -31,9 +31,9 @@ in_state s area list due =
 not_in_state : (s : State) (area : ℕ) → IsDueIn s area None → ¬ HasArea s.config area
 not_in_state s area none has = none (area_in s has.0) (mapped_element (area_in s) s.config.areas has.0 has.1) has.2
 
--- of a core whose base these events were rolled into
+-- for a core whose base these events were rolled into
 module _ (first : Base) (rolled : List Event) (core : CoreValue) (is : IsRolled first standard_limits rolled core.base) (limits : core.limits ≡ standard_limits) where
-  -- what is due in the built state is due after the list that was built
+  -- a summary that is due in the built state is due after the list that was built
   pub due_after : (area : ℕ) (list : List DueSummary) (found : Option (List DueSummary)) → found ≡ Some list → IsDueIn (built_state core) area found
       → IsDueIn (after first (rolled ++ take core.built core.journal)) area (Some list)
   due_after area list found has due =

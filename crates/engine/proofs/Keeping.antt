@@ -4,8 +4,8 @@
 --   author_kept: the author added to the history
 --   shown_kept: something was published, or it was refused
 --   shown_fresh: the published table reflects the whole list
---   opened_right: what is shown first is right
---   caught_up: what catching up answered
+--   opened_right: the first published table is right
+--   caught_up: the answer of catching up
 --   opened_kept, opened_fresh: the first state
 use Rattle.std.proofs.Common.{◌≡◌, ◌≤◌, ◌+◌, ℕ, zero, suc, Bool, true, false, List, [], ◌∷◌, ◌++◌, length, Option, Some, None, MatchBool, refl, sym, ap, subst, ◌∙◌, arith, append_assoc, length-append}
 use Rattle.std.specs.Prelude.{◌<◌, not}
@@ -70,7 +70,7 @@ author_kept core old new rolled shown known book begun kept = record {
   written = begun;
 }
 
--- what was rolled from the base of one name was rolled from that of the same name
+-- events that were rolled from the base of a name were rolled from that of an equal name
 rolled_as : (rolled : List Event) (base : Base) (old new : PublishedTable) → name_of new ≡ name_of old → IsRolled old.base standard_limits rolled base → IsRolled new.base standard_limits rolled base
 rolled_as rolled base old new name is = subst (λ (b : Base). IsRolled b standard_limits rolled base) (sym (ap (λ (n : Name). n.base) name)) is
 
@@ -117,7 +117,7 @@ opened_table core base list table is limits none same_base empty same_table =
     subst (λ (z : Base × List Event × TableValue). IsTableFor z.0 z.1 z.2) (λ i. (sym same_base i, same_list i, sym same_table i))
     (table_whole core.base [] core (rolled_none core.base standard_limits) limits is built)
 
--- what is shown first is the opening core's table
+-- the first published table is the opening core's table
 pub opened_right : (core : CoreValue) (front : Line) (x : PublishedTable) → IsCore core → core.limits ≡ standard_limits → core.journal ≡ [] → front.list ≡ []
     → shown_state_of x ≡ record { table = core.table; front = front; base = core.base } → IsShownRight x
 opened_right core front x is limits none first face =

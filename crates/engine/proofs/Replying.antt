@@ -20,7 +20,7 @@ use Rattle.engine.specs.EngineStates.{Held, Tells}
 use Rattle.engine.specs.declared.answer.Answer.{Answer}
 use Rattle.engine.proofs.Runs.{accepted_whole, legal_core, legal_more, looks_across, serial_whole, whole_state}
 
--- of a core whose base these events were rolled into
+-- for a core whose base these events were rolled into
 module _ (first : Base) (rolled : List Event) (old : CoreValue) (is : IsRolled first standard_limits rolled old.base) (limits : old.limits ≡ standard_limits) where
   -- the reply to an event that the core takes is one to the whole list, which is legal
   pub replied : (new : CoreValue) (e : Event) (r s : Reply) → IsCore old → IsTaken old e r new → s.serial ≡ r.serial → s.changed ≡ r.changed → Replies first (rolled ++ old.journal) e s

@@ -1,8 +1,8 @@
 -- An engine's state whose core is rolled stays kept: the history as it is then is what was rolled.
 --   begun_as, whole_begun: the author's additions after the rolled history
 --   rolled_kept, rolled_fresh: a roll
---   roll_refusal: why there is none
---   rolled_base: what the core's base is
+--   roll_refusal: the reason why there is none
+--   rolled_base: the core's base
 use Rattle.std.proofs.Common.{◌≡◌, ◌+◌, ℕ, suc, false, List, [], ◌∷◌, ◌++◌, length, take, Option, sym, ap, subst, ◌∙◌, arith, length-append, inl, inr}
 use Rattle.std.proofs.lemmas.List.{append-nil}
 use mathlib.Core.List.{IsPrefix}
@@ -57,7 +57,7 @@ rolled_base first rolled old new is limits core rolls =
       serial = rolls.base.serial ∙ serial_whole first rolled old is limits old.journal;
     }
 
--- what is published, or written, is the whole list before and after
+-- the published, or written, list is the whole list before and after
 rolled_begun : (old new : CoreValue) (rolled next : Line) (list : List Event) → Rolls old new → next.list ≡ list_of rolled old → list ≡ list_of rolled old → IsBegun next new list
 rolled_begun old new rolled next list rolls same is =
     whole_begun next new list (rolls.built ∙ sym (ap length rolls.journal))

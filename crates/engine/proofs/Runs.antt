@@ -1,7 +1,7 @@
 -- Runs of lists of events, and what a core says of the whole list, across rolls.
 --   legal_more: a legal list with one event more
 --   legal_core, legal_built, table_core, table_whole: for a core whose base has rolled events
---   refused_whole, looks_whole: what the core says of an event
+--   refused_whole, looks_whole: the core's answer to an event
 use Rattle.std.proofs.Common.{◌≡◌, ◌+◌, ℕ, zero, suc, List, [], ◌∷◌, ◌++◌, length, take, None, refl, sym, ap, subst, ◌∙◌}
 use Rattle.std.specs.Prelude.{◌⊎◌, ◌↔◌, Option, Some}
 use Rattle.std.proofs.Math.Seq.{take-length}

@@ -8,7 +8,7 @@ use Rattle.publication.specs.Names.{Name}
 abbrev pub Fits : Name → Option Held → Type 0
 Fits name slot = IfSome slot (λ d. d.name ≡ name)
 
--- where the word is 0 the slot is at home
+-- the slot is at home if the word is 0
 abbrev pub Locks : Name → State (Option Held) Name → Type 0
 Locks name s = (n : ℕ) × (s.words ≡ n ∷ []) × (n ≡ 0 → (x : Option Held) × (s.homes ≡ some x ∷ []) × Fits name x)
 

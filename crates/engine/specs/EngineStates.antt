@@ -31,7 +31,8 @@ pub record Held : Type 0 where
   pub built : ℕ
   pub published : List Event
 
--- what the core's catching up answers: all is built, or what was built is, and less than that
+-- the answer of the core's catching up: all is built; or what was built is unchanged, and is not
+-- all
 abbrev pub CatchesUp : Held → Status → Held → Type 0
 CatchesUp old Current new = new.built ≡ length new.list
 CatchesUp old Behind new = (new.built ≡ old.built) × (new.built < length new.list)
@@ -104,7 +105,7 @@ IsOpenedOver core d = (d.name.base ≡ core.base) × (d.list ≡ []) × (d.publi
 abbrev pub IsAsBefore : Held → Held → Type 0
 IsAsBefore old new = (new.name ≡ old.name) × (new.list ≡ old.list) × (new.built ≡ old.built) × (new.published ≡ old.published)
 
--- where an event is taken, it is the last of the list; where it is refused, the list stays
+-- if an event is taken, it is the last of the list; if it is refused, the list stays
 abbrev pub IsListAfter : {A R : Type 0} → Held → Event → Result A R → Held → Type 0
 IsListAfter old event answer new = MatchResult answer (λ _. new.list ≡ old.list ++ event ∷ []) (λ _. new.list ≡ old.list)
 

@@ -3,7 +3,7 @@ use Rattle.std.specs.Prelude.{ℕ, ◌+◌, List, [], ◌∷◌, Result, IfOk}
 use Rattle.engine.specs.declared.answer.Answer.{Answer}
 use Rattle.engine.specs.declared.answer.Refused.{Refused}
 
--- what holds of a gate once a method of it was called with a worker and a place
+-- the fact of a gate after a method of it was called with a worker and a place
 abbrev pub Calls : Type 1
 Calls = ℕ → ℕ → Type 0
 

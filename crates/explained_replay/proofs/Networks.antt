@@ -18,7 +18,7 @@ unfolding networks_below
 none_below text address zero none = refl
 none_below text address (suc n) none = absurd (omega arith)
 
--- what is printed of one network, while the others are left
+-- the printed text of one network, while the others are left
 pub network_printed : (text : Network → List ℕ) (address bits : ℕ) (now next whole : List ℕ) → now ++ flat_map text (networks_below address bits) ≡ whole → 0 < bits
     → next ≡ now ++ text (network_around address (bits - 1)) → next ++ flat_map text (networks_below address (bits - 1)) ≡ whole
 network_printed text address bits now next whole so_far some printed =

@@ -35,7 +35,7 @@ is_of p c = is_same_prefix c.offer.network p
 abbrev pub text_if_of : Format → Network → Candidate → List ℕ
 text_if_of format p c = if is_of p c then candidate_text format c else []
 
--- what is offered of the network, in this order
+-- the offers of the network, in this order
 abbrev pub offers_text : Format → Network → List Candidate → List ℕ
 offers_text format p candidates = flat_map (text_if_of format p) candidates
 

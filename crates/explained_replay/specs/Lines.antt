@@ -17,7 +17,7 @@ abbrev pub lookup_line : Format → (address serial : ℕ) → Match → List �
 lookup_line Text address serial found = words.lookup_words address serial found ++ codes "\n"
 lookup_line Json address serial found = json_line (objects.lookup_data address serial found)
 
--- what the table has for this very network
+-- the item of the table for exactly this network
 abbrev pub network_line : Format → Network → Option Item → List ℕ
 network_line Text p o = words.network_words p o ++ codes "\n"
 network_line Json p o = json_line (objects.network_line_data p o)

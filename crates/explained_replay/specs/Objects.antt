@@ -48,7 +48,7 @@ lookup_data address serial found.None = object_of (
     ∷ (codes "type", string (codes "lookup"))
     ∷ [])
 
--- what the table has for this very network
+-- the item of the table for exactly this network
 abbrev pub network_line_data : Prefix → Option Item → Data
 network_line_data p (Some (item.Route e)) = object_of (
     (codes "network", network_data p)
@@ -85,7 +85,7 @@ offer_data Transit = string (codes "transit")
 offer_data (Summary metric) = string (codes "summary")
 offer_data (AsExternal metric e) = string (codes "external")
 
--- what is said of an external metric only
+-- the members that only an external metric has
 abbrev pub external_members : OfferKind → List Member
 external_members (AsExternal metric e) = (codes "external_type", number_data (external_type e)) ∷ (codes "forwarding", address_data e.forwarding) ∷ []
 external_members _ = []

@@ -19,14 +19,14 @@ use Rattle.explained_replay.specs.declared.question.Explaining.{Explaining}
 use Rattle.explained_replay.specs.declared.question.Question.{Question}
 use Rattle.explained_replay.specs.declared.question.Question.TheVariants.{Address, Due}
 
--- why the table has what it has for the address
+-- the explanation of the table's items for the address
 pub record IsAddressAnswer (address : ℕ) (format : Format) (c : CoreValue) (text : List ℕ) : Type 0 where
   pub current : IsCurrent c
   pub candidates : List Candidate
   pub explained : IsExplained (state_of c) address candidates
   pub lines : IsExplanation format address c.table candidates text
 
--- why the summary for the destination is due in the area, or is not
+-- the reason why the summary for the destination is due in the area, or is not
 pub record IsDueAnswer (area : ℕ) (d : Dest) (format : Format) (c : CoreValue) (text : List ℕ) : Type 0 where
   pub due : DueExplained
   pub metric : IsDueMetric (state_of c) area d due.metric

@@ -9,7 +9,7 @@ abbrev pub is_taken : Verdict → Bool
 is_taken Taken = true
 is_taken _ = false
 
--- of what router-LSAs and network-LSAs offer
+-- for the offers of router-LSAs and network-LSAs
 abbrev pub intra_step : Verdict → List ℕ
 intra_step MaxAge = codes "16.1 (2b)"
 intra_step Another = codes "16.1 (2b)"
@@ -18,7 +18,7 @@ intra_step LesserId = codes "16.1 (4)"
 intra_step LesserArea = codes "16.8"
 intra_step _ = codes "16.1"
 
--- of what summary-LSAs offer
+-- for the offers of summary-LSAs
 abbrev pub inter_step : Verdict → List ℕ
 inter_step MaxAge = codes "16.2 (1)"
 inter_step Infinity = codes "16.2 (1)"
@@ -30,7 +30,7 @@ inter_step Costlier = codes "16.2 (7)"
 inter_step LesserArea = codes "16.8"
 inter_step _ = codes "16.2"
 
--- of what AS-external-LSAs offer
+-- for the offers of AS-external-LSAs
 abbrev pub external_step : Verdict → List ℕ
 external_step MaxAge = codes "16.4 (1)"
 external_step Infinity = codes "16.4 (1)"

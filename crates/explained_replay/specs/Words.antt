@@ -27,7 +27,7 @@ use Rattle.explained_replay.specs.Reasons.{is_taken, step_text, reason_text}
 abbrev pub lookup_words : (address serial : ℕ) → Match → List ℕ
 lookup_words address serial found = codes "lookup " ++ address_text address ++ codes " " ++ decimal serial ++ codes " " ++ match_text found
 
--- what the table has for this very network
+-- the item of the table for exactly this network
 abbrev pub network_words : Prefix → Option Item → List ℕ
 network_words p (Some (item.Route entry)) = codes "route " ++ prefix_text p ++ codes " " ++ entry_text entry
 network_words p (Some item.Discard) = codes "discard " ++ prefix_text p

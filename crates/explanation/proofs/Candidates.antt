@@ -35,7 +35,7 @@ module _ (w : Layers) (o : Offer) (paths : List Path) where
   within_as area traces (kind.Summary metric) other are = are
   within_as area traces (kind.AsExternal metric external) other are = absurd (other metric external refl)
 
-  -- of an AS-external-LSA without a forwarding address, and with one
+  -- for an AS-external-LSA without a forwarding address, and with one
   pub outside_as : (scope : Scope) (metric : ℕ) (external : ExternalFields) (traces : List Trace) → external.forwarding ≡ 0 → AreOutside w 0 o paths traces → AreTracesAs w o scope (kind.AsExternal metric external) paths traces
   outside_as scope metric external traces none are = subst (λ (address : ℕ). AreOutside w address o paths traces) (sym none) are
 
@@ -107,7 +107,7 @@ module _ (w : Layers) (all : List Offer) where
   pub whole_listed : (group : List Offer) (i : ℕ) (first after : List Candidate) → length group ≤ i → offers_of after ≡ offers_of first ++ take i group → offers_of after ≡ offers_of first ++ group
   whole_listed group i first after past so_far = so_far ∙ ap (λ (os : List Offer). offers_of first ++ os) (take_all i group past)
 
-  -- of the offers of the networks up to here
+  -- for the offers of the networks so far
   pub record IsDone (networks : List Prefix) (candidates : List Candidate) : Type 0 where
     pub listed : offers_of candidates ≡ by_networks all networks
     pub offers : List Offer

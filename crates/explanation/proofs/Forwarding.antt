@@ -88,7 +88,7 @@ module _ (w : Layers) where
   pub all_forwards : (networks : List Prefix) (groups : List Group) (i : ℕ) (forwards : List ForwardingMatch) → length groups ≤ i → networks_in groups ≡ networks → AreForwards w (networks_in (take i groups)) forwards → AreForwards w networks forwards
   all_forwards networks groups i forwards past listed are = subst (λ (ps : List Prefix). AreForwards w ps forwards) (ap networks_in (take_all i groups past) ∙ listed) are
 
-  -- what is found under the network are the traces to it
+  -- the traces that are found for the network lead to it
   pub traces_found : (networks : List Prefix) (forwards : List ForwardingMatch) → AreForwards w networks forwards → (p : Prefix) (traces : List Trace) → HasTraces forwards p traces → AreNetworkTraces w p traces
   traces_found networks forwards are p traces has =
       let right = All-contains (λ (f : ForwardingMatch). AreNetworkTraces w f.network f.traces.items) forwards has.0 are.right has.1 in

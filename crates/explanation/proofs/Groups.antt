@@ -28,7 +28,7 @@ module _ (networks : List Prefix) (ordered : IsStrictlySortedBy network_cmp netw
     network_at : (j : ℕ) (d : Group) → j < length groups → (get_or groups j d).network ≡ get_or networks j d.network
     network_at j d within = sym (get_or-map network_of groups j d d.network within) ∙ ap (λ (ps : List Prefix). get_or ps j d.network) are.listed
 
-    -- of another network
+    -- for another network
     kept_at : (j : ℕ) (d : Group) → j < length groups → (o.network ≡ (get_or groups j d).network → ⊥) → (get_or groups j d).offers.items ≡ offers_for (get_or groups j d).network (take (i + 1) offers)
     kept_at j d within other =
         let g = get_or groups j d in

@@ -5,7 +5,7 @@ use Rattle.ospf_types.specs.declared.config.Interface.{Interface}
 use Rattle.ospf_types.proofs.Elements.{first_element, first_or_later, later_element, no_element}
 
 module _ (Is : ℕ × Interface → Type 0) where
-  -- what is left is among all, and has all of that kind
+  -- the rest is among all, and has all of that kind
   pub record IsLeft (all left : List (ℕ × Interface)) : Type 0 where
     pub among : (e : ℕ × Interface) → Contains left e → Contains all e
     pub has : (e : ℕ × Interface) → Contains all e → Is e → Contains left e

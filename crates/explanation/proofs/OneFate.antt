@@ -130,7 +130,7 @@ module _ (w : Layers) (are : AreAreas w.areas.now) where
   module _ (by : Offer) (network : Prefix) (same : by.network ≡ network) (all offers : List Offer) (of : AreOfNetwork network all offers)
       (internal : Option Entry) (greatest : Option ℕ) (least : Option ExternalKey) (rivals : IsRivalsOf w network offers internal greatest least)
       (judged : Judged) (is : IsJudged w internal greatest least by judged) where
-    -- what is found taken is taken
+    -- an offer that is found taken is taken
     pub taken_among : judged.verdict ≡ verdict.Taken → IsTakenAmong w all by
     taken_among taken = (
       judged.cost,

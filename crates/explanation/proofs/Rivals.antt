@@ -12,7 +12,7 @@ use Rattle.explanation.specs.Judging.{HasKey, HasNoKey, IsGreater, IsGreatestId,
 pub some_same : {A : Type 0} (x y : A) → Some x ≡ Some y → x ≡ y
 some_same x y e = ap (λ o. unwrap_or o x) e
 
--- what is found is no greater than either, and is one of them
+-- the key that is found is no greater than either, and is one of them
 below_key : (least : Option ExternalKey) (key found : ExternalKey) → IsLesser least key found → rank found ≤ rank key
 below_key None key found same = let e = ap rank same in omega (arith, e)
 below_key (Some other) key found lesser = lesser.1

@@ -66,7 +66,7 @@ module _ (p : Prefix) (one other : Prefix → Bool) (agree : one p ≡ other p) 
       ∙ (λ i. links_same scope l (links_of l.body) i ++ own_same (prefix_of l) scope l i)
       ∙ sym (filter-append (λ (o : Offer). is_same_prefix o.network p) (stubs_of other scope l) (option_to_list (own_if other scope l)))
 
-  -- of each of several things alike
+  -- for each of several things alike
   pub each_same : {A : Type 0} (f g : A → List Offer) → ((x : A) → those (f x) ≡ those (g x)) → (xs : List A) → those (flat_map f xs) ≡ those (flat_map g xs)
   each_same f g same [] = refl
   each_same f g same (x ∷ xs) =

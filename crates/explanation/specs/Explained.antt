@@ -32,7 +32,7 @@ pub record IsCandidate (w : Layers) (all : List Offer) (c : Candidate) : Type 0 
   pub judged : IsJudgedAmong w all c.offer (record { cost = c.cost; verdict = c.verdict })
   pub traces : AreTracesFor w c.offer c.verdict c.traces.items
 
--- what became of each of these offers
+-- the verdicts on these offers
 pub record AreCandidates (w : Layers) (all offers : List Offer) (candidates : List Candidate) : Type 0 where
   pub sound : (c : Candidate) → Contains candidates c → Contains offers c.offer × IsCandidate w all c
   pub complete : (o : Offer) → Contains offers o → (c : Candidate) × Contains candidates c × (c.offer ≡ o)
@@ -47,7 +47,7 @@ pub record AreInOrder (all : List Offer) (candidates : List Candidate) : Type 0 
   pub ascend : IsStrictlySortedBy network_cmp networks
   pub listed : offers_of candidates ≡ by_networks all networks
 
--- of each offer of a network that contains the address, by what is calculated of the state
+-- the offers of networks that contain the address, by the results calculated of the state
 pub record IsExplained (s : State) (address : ℕ) (candidates : List Candidate) : Type 0 where
   pub layers : Layers
   pub state : layers.state.now ≡ s
@@ -61,7 +61,7 @@ abbrev pub AddsJudged : Layers → Option Entry → Option ℕ → Option Extern
 AddsJudged w internal greatest least o before after = (c : Candidate) × (c.offer ≡ o)
     × IsJudged w internal greatest least o (record { cost = c.cost; verdict = c.verdict }) × AreTracesFor w o c.verdict c.traces.items × (after ≡ before ++ c ∷ [])
 
--- what became of this offer is added
+-- the verdict on this offer is added
 abbrev pub AddsCandidate : Layers → List Offer → Offer → List Candidate → List Candidate → Type 0
 AddsCandidate w all o before after = (c : Candidate) × IsCandidate w all c × (c.offer ≡ o) × (after ≡ before ++ c ∷ [])
 
@@ -69,7 +69,7 @@ AddsCandidate w all o before after = (c : Candidate) × IsCandidate w all c × (
 abbrev pub MakesMore : Layers → List Offer → List Offer → List Candidate → List Candidate → Type 0
 MakesMore w all group before after = (others : List Offer) → AreCandidates w all others before → AreCandidates w all (others ++ group) after
 
--- of all the offers of the network
+-- the verdicts on all offers of the network are added
 abbrev pub AddsNetwork : Layers → List Offer → Prefix → List Candidate → List Candidate → Type 0
 AddsNetwork w all p before after = MakesMore w all (offers_for p all) before after × (offers_of after ≡ offers_of before ++ offers_for p all)
 

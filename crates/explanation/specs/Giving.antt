@@ -11,6 +11,6 @@ AreOfEach Gives (x ∷ xs) traces = (own rest : List Trace) × Gives x own × (t
 abbrev pub GivesOne : (Trace → Type 0) → Type 0 → List Trace → Type 0
 GivesOne IsTrace Leads traces = ((t : Trace) × IsTrace t × (traces ≡ t ∷ [])) ⊎ ((Leads → ⊥) × (traces ≡ []))
 
--- what is given is added
+-- the traces that are given are added
 abbrev pub Adds : (List Trace → Type 0) → List Trace → List Trace → Type 0
 Adds Gives before after = (own : List Trace) × Gives own × (after ≡ before ++ own)

@@ -78,7 +78,7 @@ pub record IsGreatestId (w : Layers) (e : Entry) (offers : List Offer) (greatest
   pub no_greater : (o : Offer) → Contains offers o → IsTransitAt w e o → (id : ℕ) × (greatest ≡ Some id) × (o.source.key.id ≤ id)
   pub one : (id : ℕ) → greatest ≡ Some id → (o : Offer) × Contains offers o × IsTransitAt w e o × (o.source.key.id ≡ id)
 
--- what the offers for this network are compared with
+-- the rivals of the offers for this network
 pub record IsRivalsOf (w : Layers) (p : Prefix) (offers : List Offer) (internal : Option Entry) (greatest : Option ℕ) (least : Option ExternalKey) : Type 0 where
   pub internal_is : internal ≡ internal_at w.calculation.now p
   pub greatest_is : (e : Entry) → internal ≡ Some e → IsGreatestId w e offers greatest
@@ -111,7 +111,7 @@ IsFateOutside (Some e) least key f = f ≡ verdict.Internal
 IsFateOutside None (Some other) key f = fate_beside key other f
 IsFateOutside None None key f = f ≡ verdict.Taken
 
--- what was found, and with it what became of it
+-- the cost of the result that was found, with its verdict; or only the verdict if there was none
 abbrev pub IsJudgedBy : {X : Type 0} → (X → ℕ) → (X → Verdict → Type 0) → Result X Verdict → Judged → Type 0
 IsJudgedBy cost_of IsFate (Ok x) judged = (judged.cost ≡ Some (cost_of x)) × IsFate x judged.verdict
 IsJudgedBy cost_of IsFate (Err f) judged = (judged.cost ≡ None) × (judged.verdict ≡ f)

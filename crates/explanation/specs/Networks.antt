@@ -17,15 +17,15 @@ use Rattle.explanation.specs.declared.offered.ExternalKey.{ExternalKey}
 use Rattle.explanation.specs.Judging.{IsJudged, IsRivalsOf}
 use Rattle.explanation.specs.Offers.{is_around, offers_among}
 
--- what the LSAs of these areas offer of the networks at which the test gives true
+-- the offers of the LSAs of these areas for the wanted networks
 abbrev pub offers_in_areas : (Prefix → Bool) → List AreaValue → List Offer
 offers_in_areas wanted areas = flat_map (λ (a : AreaValue). offers_among wanted (Area a.id) (values a.lsas)) areas
 
--- what all LSAs do: those of the areas in their order, and then the AS-external-LSAs
+-- the offers of all LSAs: those of the areas in their order, and then those of the AS-external-LSAs
 abbrev pub all_wanted : (Prefix → Bool) → Layers → List Offer
 all_wanted wanted w = offers_in_areas wanted w.areas.now ++ offers_among wanted As (lsas_of (database_of w.state.now As))
 
--- of networks that contain the address
+-- the offers of networks that contain the address
 abbrev pub all_offers : Layers → ℕ → List Offer
 all_offers w address = all_wanted (is_around address) w
 

@@ -44,7 +44,7 @@ IsStubCost w area o metric cost = (o.age < MaxAge) × (
     ((o.source.key.router ≡ root_of w) × HasInterfaceOn w area o.network × (cost ≡ metric))
     ⊎ ((o.source.key.router ≢ root_of w) × ((distance : ℕ) × IsDistanceOf w.areas.now area (Router o.source.key.router) (Some distance) × (cost ≡ distance + metric))))
 
--- why a stub network has none: the first of these that holds
+-- the reason why a stub network has no cost: the first of these that holds
 abbrev pub LacksStubCost : Layers → ℕ → Offer → Verdict → Type 0
 LacksStubCost w area o verdict.MaxAge = MaxAge ≤ o.age
 LacksStubCost w area o verdict.NoInterface = (o.age < MaxAge) × (o.source.key.router ≡ root_of w) × (HasInterfaceOn w area o.network → ⊥)
@@ -56,7 +56,7 @@ abbrev pub IsTransitCost : Layers → ℕ → Offer → ℕ → Type 0
 IsTransitCost w area o cost = (o.age < MaxAge)
     × IsKeyStanding w.areas.now area (Network o.source.key.id) (Some o.source.key) × IsDistanceOf w.areas.now area (Network o.source.key.id) (Some cost)
 
--- why a transit network has none: the first of these that holds
+-- the reason why a transit network has no cost: the first of these that holds
 abbrev pub LacksTransitCost : Layers → ℕ → Offer → Verdict → Type 0
 LacksTransitCost w area o verdict.MaxAge = MaxAge ≤ o.age
 LacksTransitCost w area o verdict.Another = (o.age < MaxAge) × (key : Option Key) × IsKeyStanding w.areas.now area (Network o.source.key.id) key × (key ≢ Some o.source.key)
@@ -88,7 +88,7 @@ IsSummaryCost w area o metric cost =
     (is_examined w.active.now area ≡ true) × IsFit w o metric × (IsActiveIn w.calculation.now.active o.network → ⊥)
     × ((r : ReachedValue) × IsBorderReached w area o.source.key.router r × (cost ≡ r.distance + metric))
 
--- why a summary has none: the first of the steps that speaks against it, in the order of 16.2
+-- the reason why a summary has no cost: the first step that rejects it, in the order of 16.2
 abbrev pub LacksSummaryCost : Layers → ℕ → Offer → ℕ → Verdict → Type 0
 LacksSummaryCost w area o metric verdict.NotExamined = is_examined w.active.now area ≡ false
 LacksSummaryCost w area o metric verdict.ActiveRange =
@@ -116,12 +116,12 @@ key_by is_type_2 metric class distance =
 abbrev pub IsBoundaryReached : Layers → ℕ → Type 0
 IsBoundaryReached w router = (p : PreferredValue) × (get w.calculation.now.external.preferred router ≡ Some p)
 
--- what an AS-external-LSA is compared by
+-- the key by which an AS-external-LSA is compared
 abbrev pub IsExternalKey : Layers → Offer → ℕ → ExternalFields → ExternalKey → Type 0
 IsExternalKey w o metric external key = IsFit w o metric × IsBoundaryReached w o.source.key.router
     × ((class : PathClass) × (distance : ℕ) × LeadsAt w o.source.key.router external.forwarding (class_number class) distance × (key ≡ key_by external.is_type_2 metric class distance))
 
--- what it is compared by if it has a forwarding address, whichever the AS boundary router
+-- its key if it has a forwarding address, whatever the AS boundary router
 abbrev pub IsForwardedKey : Layers → ℕ → ExternalFields → ExternalKey → Type 0
 IsForwardedKey w metric external key =
     (class : PathClass) × (distance : ℕ) × ((router : ℕ) → LeadsAt w router external.forwarding (class_number class) distance) × (key ≡ key_by external.is_type_2 metric class distance)
@@ -130,7 +130,7 @@ IsForwardedKey w metric external key =
 abbrev pub LeadsNowhere : Layers → ℕ → Type 0
 LeadsNowhere w address = (0 < address) × ((f : ForwardValue) (way : WayValue) → get w.calculation.now.external.forwards address ≡ Some f → f.way ≡ Some way → ⊥)
 
--- why it is not compared: the first of the steps that speaks against it, in the order of 16.4
+-- the reason why it is not compared: the first step that rejects it, in the order of 16.4
 abbrev pub LacksKey : Layers → Offer → ℕ → ExternalFields → Verdict → Type 0
 LacksKey w o metric external verdict.NoBoundaryRouter = IsFit w o metric × (get w.calculation.now.external.preferred o.source.key.router ≡ None)
 LacksKey w o metric external verdict.NoForward = IsFit w o metric × IsBoundaryReached w o.source.key.router × LeadsNowhere w external.forwarding

@@ -74,14 +74,14 @@ own_by (Some p) wanted scope l = offer_if wanted scope l p (own_kind l)
 abbrev pub own_if : (Prefix → Bool) → Scope → Lsa → Option Offer
 own_if wanted scope l = own_by (prefix_of l) wanted scope l
 
--- what its stub links offer, in their order
+-- the offers of its stub links, in their order
 abbrev pub stubs_of : (Prefix → Bool) → Scope → Lsa → List Offer
 stubs_of wanted scope l = filter_map (λ (k : RouterLink). stub_if wanted scope l (without_tos k)) (links_of l.body)
 
--- what the LSA offers of these networks: by its stub links, or its own network
+-- the offers of the LSA for these networks: by its stub links, or its own network
 abbrev pub offers_of : (Prefix → Bool) → Scope → Lsa → List Offer
 offers_of wanted scope l = stubs_of wanted scope l ++ option_to_list (own_if wanted scope l)
 
--- what these LSAs offer, in their order
+-- the offers of these LSAs, in their order
 abbrev pub offers_among : (Prefix → Bool) → Scope → List Lsa → List Offer
 offers_among wanted scope lsas = flat_map (offers_of wanted scope) lsas

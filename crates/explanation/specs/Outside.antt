@@ -110,7 +110,7 @@ match_at w address = match_of (get w.calculation.now.external.forwards address)
 abbrev pub IsInRoute : Layers → Offer → ℕ → Entry → Type 0
 IsInRoute w by area e = (by.source.scope ≡ Area area) × (internal_at w.calculation.now by.network ≡ Some e)
 
--- what the offer gives to its network's route within the AS, if it has one
+-- the traces that the offer gives to its network's route within the AS, if it has one
 abbrev pub GivesRoute : Layers → Offer → List Trace → Type 0
 GivesRoute w by traces =
     ((area : ℕ) × (e : Entry) × IsInRoute w by area e × AreWithin w area by e.paths traces)

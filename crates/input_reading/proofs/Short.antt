@@ -4,7 +4,7 @@ use Rattle.std.proofs.lemmas.List.{take_all, drop_all}
 use Rattle.input_reading.specs.Shortened.{mark_of, shortened}
 use Rattle.input_reading.specs.declared.line.TheConstants.{LONGEST}
 
--- what has room in the front is all of it
+-- a line that fits is whole
 fits : (limit : ℕ) (raw mark : List ℕ) → length (take limit raw ++ mark) < limit → length raw ≤ limit
 fits limit raw mark short = omega (arith, length-append (take limit raw) mark, length-take limit raw)
 

@@ -5,7 +5,7 @@ use Rattle.input_reading.specs.Shortened.{is_hexadecimal, is_odd_number}
 use Rattle.input_reading.specs.declared.line.TheConstants.{LONGEST}
 use Rattle.input_reading.specs.declared.tail.Tail.{Tail}
 
--- what is kept of the bytes that are left out
+-- the summary of the bytes that are left out
 abbrev pub tail_of : List ℕ → Tail
 tail_of bytes = record { are_digits = list_all is_hexadecimal bytes; is_odd = is_odd_number (length bytes) }
 

@@ -39,7 +39,7 @@ pub record TakesNone (old : List ℕ) (before : Option (List ℕ)) (new : List �
   pub empty : line ≡ []
   pub ended : HasEnded new after
 
--- what a call takes, by its answer
+-- the bytes that a call takes, by its answer
 abbrev pub TakesNext : (old : List ℕ) (before : Option (List ℕ)) (new : List ℕ) (after : Option (List ℕ)) (line : List ℕ) → Next → Type 0
 TakesNext old before new after line Line = TakesWhole old before new after line
 TakesNext old before new after line Cut = TakesLast old before new after line
@@ -60,6 +60,6 @@ EndsAs raw line Line = ⊥
 EndsAs raw line Cut = (raw ≢ []) × (line ≡ shortened raw)
 EndsAs raw line End = (raw ≡ []) × (line ≡ [])
 
--- where these bytes are gathered, the line ends so
+-- the end of the line after these bytes are gathered
 abbrev pub EndsLine : (line : List ℕ) (tail : Tail) (ended : List ℕ) → Next → Type 0
 EndsLine line tail ended next = (raw : List ℕ) → IsGathered raw line tail → EndsAs raw ended next

@@ -22,7 +22,7 @@ legend_text = concat (
 abbrev pub areas_heading_text : List ℕ
 areas_heading_text = codes "<h2 id=\"areas\">Areas</h2>\n" ++ legend_text
 
--- that the area is a stub area, if it is one
+-- the text for a stub area, if the area is one
 abbrev pub stub_text : Option Stub → List ℕ
 stub_text None = []
 stub_text (Some stub) = codes " (stub)"

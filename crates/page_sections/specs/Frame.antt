@@ -59,7 +59,7 @@ abbrev pub changes_end_text : (is_empty : Bool) → List ℕ
 changes_end_text true = []
 changes_end_text false = codes "</pre>\n"
 
--- what changed last
+-- the last changes
 abbrev pub changes_text : (lines : List ℕ) → List ℕ
 changes_text [] = changes_beginning_text true
 changes_text (c ∷ cs) = changes_beginning_text false ++ ((c ∷ cs) ++ changes_end_text false)

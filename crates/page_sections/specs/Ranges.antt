@@ -51,14 +51,14 @@ some_text networks = codes "<ul class=\"nets\">\n" ++ (flat_map network_row netw
 abbrev pub list_text : List Counted → List ℕ
 list_text networks = if length networks == 0 then [] else some_text networks
 
--- how many networks there are
+-- the number of networks
 abbrev pub count_text : ℕ → List ℕ
 count_text count =
     if count == 0
     then codes ": no network</h4>\n"
     else (if count == 1 then codes ": 1 network</h4>\n" else concat (codes ": " ∷ decimal count ∷ codes " networks</h4>\n" ∷ []))
 
--- how many networks there are, and each of them
+-- the number of networks, and each of them
 abbrev pub networks_text : List Counted → List ℕ
 networks_text networks = count_text (length networks) ++ list_text networks
 

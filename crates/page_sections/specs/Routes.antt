@@ -18,7 +18,7 @@ kind_of_route route.Inter = Inter
 kind_of_route route.External1 = External1
 kind_of_route route.External2 = External2
 
--- what the table has for a network: a route of some type, or a discard
+-- the kind of an item: a route of some type, or a discard
 abbrev pub kind_of_item : Item → Kind
 kind_of_item (item.Route e) = kind_of_route e.kind
 kind_of_item item.Discard = Discard
@@ -43,11 +43,11 @@ kind_text External1 = codes "type 1 external"
 kind_text External2 = codes "type 2 external"
 kind_text Discard = codes "discard"
 
--- how many networks have an item of the kind
+-- the number of networks with an item of the kind
 abbrev pub count_text : List (Network × Item) → Kind → List ℕ
 count_text items kind = (codes "<span>" ++ (decimal (length (filter (is_of kind) items)) ++ codes " ")) ++ (kind_text kind ++ codes "</span>\n")
 
--- how many networks there are of each kind
+-- the numbers of networks of each kind
 abbrev pub counts_text : List (Network × Item) → List ℕ
 counts_text items = count_text items Intra ++ (count_text items Inter ++ (count_text items External1 ++ (count_text items External2 ++ count_text items Discard)))
 

@@ -29,7 +29,7 @@ table_text list = head_text ++ (flat_map row_text list ++ codes "</tbody>\n</tab
 abbrev pub list_text : List DueSummary → List ℕ
 list_text list = if length list == 0 then codes "<p>No summary-LSA is due in this area.</p>\n" else table_text list
 
--- what is due in an area
+-- the summaries due in an area
 abbrev pub due_text : (area : ℕ) → List DueSummary → List ℕ
 due_text area list = concat (codes "<h3>Area " ∷ address_text area ∷ codes "</h3>\n" ∷ []) ++ list_text list
 
@@ -40,7 +40,7 @@ area_text e = due_text e.0 e.1
 abbrev pub areas_text : List (ℕ × List DueSummary) → List ℕ
 areas_text areas = if length areas == 0 then codes "<p>No area is configured.</p>\n" else flat_map area_text areas
 
--- what is due in all areas, each with its Area ID
+-- the summaries due in all areas, each with its Area ID
 abbrev pub summaries_text : List (ℕ × List DueSummary) → List ℕ
 summaries_text areas = codes "<h2 id=\"summaries\">Summary-LSAs that are due</h2>\n" ++ areas_text areas
 

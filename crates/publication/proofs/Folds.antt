@@ -79,7 +79,7 @@ gives_whole f pending t line right =
     let e = fold-append updated f pending (whole t line) in
     subst (λ (z : Base × PublishedState). IsRightState line z.0 z.1) (λ i. (base i, sym e i)) end
 
--- what changed, where nothing is pending
+-- the changes, if nothing is pending
 pub gives_changes : (f : PublishedState) (networks : List Network) (t : TableValue) (line : Line) → Lead f.table.items t.items (those_of t.items networks) → IsTableFor f.base line.list t
     → IsRightState line f.base (fold updated f (deltas networks t line))
 gives_changes f networks t line lead right = ends_right f t (those_of t.items networks) line lead right

@@ -20,7 +20,7 @@ begins x right = (right, λ seat n at. ⊎_elim (λ (e : get_elem? [] seat ≡ s
 pub admits : Admits Holds None
 admits x views h = (h.0, λ seat n at. ⊎_elim (h.1 seat n) (λ (e : None ≡ Some n). absurd (cc e)) (at_snoc views None (Some n) seat at))
 
--- what is shown becomes another table of the same engine, for a list that goes on
+-- the published table becomes another one of the same engine, for a longer list
 pub publishes : (seat : ℕ) (v : Option Name) (x y : PublishedTable) → name_of y ≡ name_of x → IsShownRight y → IsPrefix x.front.list y.front.list → TurnsAt Holds seat v x y Saw
 publishes seat v x y same right grows views h at = (
   Some (name_of y),

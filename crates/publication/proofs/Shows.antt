@@ -11,7 +11,7 @@ use Rattle.publication.specs.Updates.{updated, shown_state_of, IsRightState}
 use Rattle.publication.proofs.Prefixes.{prefix_self}
 use Rattle.publication.specs.Published.{IsShownRight, IsTableFor, name_of, Saw}
 
--- what the pending updates give is right, and has the name of what is shown
+-- the result of the pending updates is right, and has the name of the published table
 pub gives_right : (x next : PublishedTable) (us : List Update) (line : Line)
     → shown_state_of next ≡ fold updated (shown_state_of x) us
     → IsRightState line x.base (fold updated (shown_state_of x) us)

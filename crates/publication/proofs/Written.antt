@@ -73,7 +73,7 @@ goes_on key v log p pre all mine =
       key_after-append key log (p ∷ []) ∙ ap (λ (b : Bool). if b then p.next else key_after key log) yes,
     )
 
--- what the author of a page wrote then, and the key of its next pen
+-- the events that the author of a page wrote then, and the key of its next pen
 pub wrote : (key : ℕ) (v now : List Page) (mine next : ℕ) (e : Event) (ask : Page) → ask ≡ record { event = e; pen = mine; next = next } → key_after key v ≡ mine → IsWritten v ask now
     → (written key now ≡ written key v ++ e ∷ []) × (key_after key now ≡ next)
 wrote key v now mine next e ask is at step =

@@ -26,7 +26,7 @@ IsTableFor base list table = IsLegal base list × IsRoutingTable (inputs_of (run
 abbrev pub IsShownRight : PublishedTable → Type 0
 IsShownRight x = IsTableFor x.base x.front.list x.table
 
--- whose table it is
+-- the name of the engine that the table belongs to
 abbrev pub name_of : PublishedTable → Name
 name_of x = record { book = x.front.book; base = x.base }
 
@@ -43,7 +43,7 @@ Saw v x y w = (w ≡ Some (name_of y)) × IsShownRight y × ((n : Name) → v �
 abbrev pub IsPublished : Bool → Line → PublishedTable → PublishedTable → Type 0
 IsPublished done list before after = MatchBool done ((after.front ≡ list) × IsShownRight after) (after ≡ before)
 
--- where it is done, the name is known; else what was known before
+-- if it is done, the name is known; otherwise the name that was known before
 abbrev pub IsKnownAfter : Bool → Name → Option Name → Option Name → Type 0
 IsKnownAfter done name before after = MatchBool done (after ≡ Some name) (after ≡ before)
 

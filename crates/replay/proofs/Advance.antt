@@ -47,7 +47,7 @@ some_all a b text all = record { part = text; rest = []; joined = sym (append-ni
 some_part : (a b : Option (List ℕ)) (text : List ℕ) → AppendsPart a b text → AppendsSome a b text
 some_part a b text part = record { part = part.part; rest = part.rest; joined = part.joined; written = part.written }
 
--- what a write of the text comes to
+-- the result of a write of the text
 pub some_written : (a b : Option (List ℕ)) (text : List ℕ) (r : Result (Unit {0}) WriteError) → OnOk r (Appends a b text) → OnErr r (AppendsPart a b text) → AppendsSome a b text
 some_written a b text (Ok u) all part = some_all a b text all
 some_written a b text (Err why) all part = some_part a b text part
@@ -66,7 +66,7 @@ no_more : (shown due : Bool) → both shown due ≡ true → shown ≡ false →
 no_more true due is off = apart off
 no_more false due is off = apart (sym is)
 
--- what is due is to be shown
+-- progress that is due is to be shown
 pub due_shown : (p : Progress) (done : ℕ) → is_due p done ≡ true → p.is_shown ≡ false → ⊥
 due_shown p done due off = no_more p.is_shown (done % 1000 == 0 || is_all p.all done) due off
 

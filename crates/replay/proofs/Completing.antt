@@ -76,7 +76,7 @@ rested format c number (line.Roll ∷ lines) =
 some_lsas : (c : CoreValue) → (lsas : List (Scope × Lsa)) × AreLsas (state_of c) lsas
 some_lsas c = let ids = some_ids (state_of c).config.areas in (lsas_in (state_of c) ids.0, (ids.0, ids.1, refl))
 
--- what is shown; it begins with the lines of the run, where these are printed
+-- the shown state; it begins with the lines of the run, if these are printed
 record Shown (v : Version) (s : Show) (format : Format) (printed : List ℕ) (c : CoreValue) : Type 0 where
   whole : List ℕ
   shown : IsShown v s format printed c whole

@@ -175,7 +175,7 @@ replays_part why p before after old new r read h =
 pub stopped_by : (why known : PrintError) (p : PrintOptions) (old new : Option (List ℕ)) (r : RecordingValue) → why ≡ known → WritesPart why r p old new → WritesPart known r p old new
 stopped_by why known p old new r is h = subst (λ (w : PrintError). WritesPart w r p old new) is h
 
--- what ends the printing is no fault of a line
+-- the reason that ends the printing is not a fault of a line
 pub no_line : (why : PrintError) (given : ReplayFault) (f : LineFault) → given ≡ fault_of why → given ≡ fault.Line f → ⊥
 no_line stop.Write given f is h = cc
 no_line stop.Closed given f is h = cc

@@ -18,7 +18,7 @@ use Rattle.route_table.specs.declared.table.Match.{Match}
 use Rattle.route_table.specs.declared.table.Match.TheVariants as found
 use Rattle.route_table.specs.Tables.{IsLongest, IsMatch}
 
--- of such entries this one is the longest network that contains the address
+-- this entry has the longest network of all that contain the address
 record IsBest (es : List (Network × Item)) (address : ℕ) (p : Network) (i : Item) : Type 0 where
   stands : find network_cmp p es ≡ Some i
   inside : HasAddress p address

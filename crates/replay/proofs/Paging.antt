@@ -25,7 +25,7 @@ adds_put a b before buffer text next line h put whole = record {
   pages = h.pages;
 }
 
--- what is on the buffer is whole lines too
+-- the buffer has whole lines too
 pub page_whole : (a b : Option (List ℕ)) (before buffer text : List ℕ) → Adds a b before buffer text → AreWhole before → AreWhole buffer
 page_whole a b before buffer text h whole = end_whole h.written buffer (subst AreWhole h.joined (append_whole before text whole h.lines))
 
@@ -72,7 +72,7 @@ part_longer why a b x t u h = record {
   appended = h.appended;
 }
 
--- how far a text is printed, of which this is the rest
+-- the printed part of a text, of which this is the rest
 pub record Adding (a b : Option (List ℕ)) (before buffer all rest : List ℕ) : Type 0 where
   pub text : List ℕ
   pub adds : Adds a b before buffer text

@@ -129,7 +129,7 @@ pub record Showing (a b : Option (List ℕ)) (before buffer : List ℕ) (forms :
 pub showing_none : (a : Option (List ℕ)) (buffer : List ℕ) (forms : List Form) (text : List ℕ) → IsTextOf text forms → Showing a a buffer buffer forms text
 showing_none a buffer forms text is = record { rest = forms; text = is; adding = adding_none a buffer _ _ refl }
 
--- what is printed of the next
+-- the printed text of the next one
 object_next : (rest : List Form) (text more : List ℕ) (h : Next rest text more) → flat_map recorded_line rest ≡ recorded_line h.form ++ flat_map recorded_line h.behind
 object_next rest text more h = ap (flat_map recorded_line) h.first
 

@@ -25,7 +25,7 @@ use Rattle.replay.proofs.Paging.{adds_none, adds_put, adds_moved, part_now, part
 
 -- ---- one line
 
--- what a roll of a core promises, as one answer
+-- the promises of a roll of a core, as one answer
 pub rolls_by : (old new : CoreValue) (r : Result ℕ Refusal) → OnOk r (Rolls old new) → IfOk r (λ serial. serial ≡ serial_of (state_of old)) → OnOk r (IsCurrent old) → IfErr r (IsRollRefusal old) → OnErr r (new ≡ old)
     → RollsBy old r new
 rolls_by old new (Ok serial) rolled is current refused unchanged = (current, rolled, is)

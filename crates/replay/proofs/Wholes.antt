@@ -48,7 +48,7 @@ append_whole a b whole (inr ends) = inr (ends_behind a b ends)
 none_behind : (a b : List ℕ) → a ++ b ≡ [] → b ≡ []
 none_behind a b none = nil_from_length b (omega (arith, length-append a b, ap length none))
 
--- what whole lines end with, wherever it begins
+-- a suffix of whole lines ends where they end: it is whole too
 pub end_whole : (a b : List ℕ) → AreWhole (a ++ b) → AreWhole b
 end_whole [] b h = h
 end_whole (x ∷ a) b (inl none) = inl (none_behind (x ∷ a) b none)

@@ -44,7 +44,7 @@ gone_part a b c bytes rest some h more = record {
   written = subst (Appends a c) (append-nil h.front) (appends_more a b c h.front [] h.written more);
 }
 
--- what the exit of a `?` returns, where its error is known
+-- the result of a `?` that returns, if its error is known
 pub err_as : {T E : Type 0} (Q : E → Type 0) (r : Result T E) (e : E) → IsErrAnd r (λ given. given ≡ e) → Q e → IfErr r Q
 err_as Q (Ok x) e given q = tt
 err_as Q (Err x) e given q = subst Q (sym given) q

@@ -69,7 +69,7 @@ undue_data line area d = object_of (
 
 -- ---- what a line of a recording came to, at its number
 
--- what the table had for the address
+-- the match of the address in the table
 abbrev pub lookup_data : Lookup → Match → Data
 lookup_data l (found.Route p e) = object_of (
     (codes "address", address_data l.address)
@@ -126,7 +126,7 @@ serial_data serial built = object_of (
     ∷ (codes "type", string (codes "serial"))
     ∷ [])
 
--- what the table has for the network
+-- the item of the network in the table
 abbrev pub item_data : Network → Item → Data
 item_data p (item.Route e) = object_of (
     (codes "network", network_data p)

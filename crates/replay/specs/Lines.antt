@@ -54,12 +54,12 @@ abbrev pub standing_line : Format → ℕ → Status → List ℕ
 standing_line format number Current = codes ""
 standing_line format number Behind = behind_line format number
 
--- what is printed of the answer to an event
+-- the printed line for the answer to an event
 abbrev pub answer_line : Format → ℕ → Result Reply Refusal → List ℕ
 answer_line format number (Ok reply) = standing_line format number reply.state
 answer_line format number (Err refusal) = refused_line format number refusal
 
--- what is printed of the answer to a roll: nothing where it was carried out
+-- the printed line for the answer to a roll: nothing if it was carried out
 abbrev pub roll_line : Format → ℕ → Result ℕ Refusal → List ℕ
 roll_line format number (Ok serial) = codes ""
 roll_line format number (Err refusal) = refused_line format number refusal
@@ -90,7 +90,7 @@ due_line Text area due =
     codes "due " ++ address_text area ++ codes " " ++ decimal due.kind ++ codes " " ++ dest_text due.dest ++ codes " " ++ decimal due.metric ++ codes "\n"
 due_line Json area due = json_line (shown_due_data area due)
 
--- what is due in an area
+-- the summaries due in an area
 abbrev pub area_lines : Format → ℕ × List DueSummary → List ℕ
 area_lines format e = flat_map (due_line format e.0) e.1
 

@@ -29,7 +29,7 @@ pub record IsParsed (bytes : List ℕ) (r : RecordingValue) : Type 0 where
   pub text : IsText bytes r
   pub few : first_number r.version r.base + length r.lines < 2 ^ 64
 
--- why a recording is not read
+-- the reason why a recording is not read
 abbrev pub IsReadFault : (before after : Option (List ℕ)) → ReplayFault → Type 0
 IsReadFault before after fault.Read = Unit {0}
 IsReadFault before after fault.Write = ⊥
@@ -72,7 +72,7 @@ pub record IsCutRun (why : PrintError) (r : RecordingValue) (p : PrintOptions) (
   pub run : IsRun p.format (record r { lines = take count r.lines }) answers printed now
   pub part : IsBeginning why text printed
 
--- what may have been written where printing stops
+-- the text that may have been written when printing stops
 abbrev pub IsCut : PrintError → RecordingValue → PrintOptions → List ℕ → Type 0
 IsCut why r p text = IsBegun why r text ⊎ IsCutRun why r p text ⊎ IsCutOutput why r p text
 

@@ -13,7 +13,7 @@ use Rattle.recording.specs.declared.line.Line.{Line}
 use Rattle.recording.specs.declared.line.Line.TheVariants as line
 use Rattle.replay.specs.Lines.{lookup_line, answer_line, roll_line}
 
--- what an event, or a roll, was answered
+-- the answer to an event or to a roll
 pub data Answer : Type 0 where
   OfEvent : (given : Result Reply Refusal) → Answer
   OfRoll : (given : Result ℕ Refusal) → Answer
@@ -36,7 +36,7 @@ IsAnswered old (line.Event e) (OfRoll given) new = ⊥
 IsAnswered old line.Roll (OfEvent given) new = ⊥
 IsAnswered old (line.Lookup address) answer new = ⊥
 
--- what is printed of it
+-- its printed line
 abbrev pub text_of_answer : Format → ℕ → Answer → List ℕ
 text_of_answer format number (OfEvent given) = answer_line format number given
 text_of_answer format number (OfRoll given) = roll_line format number given
@@ -56,7 +56,7 @@ Prints format old number (line.Roll ∷ lines) [] text new = ⊥
 Prints format old number (line.Roll ∷ lines) (answer ∷ answers) text new =
     (mid : CoreValue) × (rest : List ℕ) × IsAnswered old line.Roll answer mid × (text ≡ text_of_answer format number answer ++ rest) × Prints format mid (number + 1) lines answers rest new
 
--- what a run begins with: the base, no event since, and the table of the base
+-- the start of a run: the base, no event since, and the table of the base
 pub record IsOpened (base : Base) (c : CoreValue) : Type 0 where
   pub opening : IsOpening base standard_limits c
   pub core : IsCore c

@@ -6,7 +6,7 @@ use Rattle.std.proofs.lemmas.Bool.{ne_eqb}
 abbrev pub only : ℕ → ℕ → ℕ → Option ℕ
 only key value k = if k == key then Some value else None
 
--- of other keys than that one nothing is wanted
+-- for other keys than this one nothing is wanted
 pub not_it : (keys : List ℕ) (key value : ℕ) → Contains keys key → (k : ℕ) → (Contains keys k → ⊥) → only key value k ≡ None
 not_it keys key value there k absent = ap (λ b. if b then Some value else None) (ne_eqb k key (λ e. absent (subst (Contains keys) (sym e) there)))
 

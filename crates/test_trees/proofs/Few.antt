@@ -17,7 +17,7 @@ use Rattle.spf.specs.VertexSet.{HasNoDoubles}
 use Rattle.spf.proofs.Counting.{no_longer}
 use Rattle.spf.proofs.VertexMaps.{key_there}
 
--- what is there is something
+-- the value of an option that has one
 some_there : {X : Type 0} (o : Option X) → IsSome o → (x : X) × (o ≡ Some x)
 some_there None is = absurd cc
 some_there (Some x) is = (x, refl)
@@ -27,7 +27,7 @@ module _ (g : GraphValue) (handed : List Handed) where
   named : List Vertex
   named = keys g.ends ++ map (λ (h : Handed). h.0) handed
 
-  -- what is there after is one of them
+  -- a vertex that is there afterwards is one of them
   named_after : (v : Vertex) → IsThereAfter g handed v → Contains named v
   unfolding named
   named_after v there =

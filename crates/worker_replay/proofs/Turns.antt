@@ -136,7 +136,7 @@ pub record Taking (name : Name) (events : List Event) (answers : Answers) (left 
 pub taking_none : (name : Name) (events : List Event) (left : List Answers) → AreAnsweredDealt name events left → Taking name events [] left 0
 taking_none name events left dealt = record { rest = events; counted = omega arith; dealt = dealt; goes = λ more h. h }
 
--- what is taken is the answer of the first that is left
+-- the answer of the first event that is left is taken
 taking_next : (name : Name) (events rest : List Event) (answers : Answers) (left : List Answers) (count : ℕ) (answer : Result Answer Refused) → length rest + count ≡ length events
     → ((more : Answers) → AreAnswered name rest more → AreAnswered name events (answers ++ more)) → AreTaken name rest (Some answer) left → Taking name events (answers ++ answer ∷ []) left (count + 1)
 taking_next name events [] answers left count answer counted goes taken = absurd cc

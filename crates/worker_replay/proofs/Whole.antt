@@ -49,7 +49,7 @@ rolled_whole format false number roll = none_whole
 rolled_whole format true number None = none_whole
 rolled_whole format true number (Some answer) = roll_whole format number answer
 
--- what the lines of a run print is whole lines
+-- the output of a run's lines is whole lines
 prints_whole : (format : Format) (table : TableValue) (serial number : ℕ) (lines : List Line) (answers : Answers) (roll : Option (Result ℕ Refusal)) (text : List ℕ) → Prints format table serial number lines answers roll text → AreWhole text
 prints_whole format table serial number [] [] roll text none = inl none
 prints_whole format table serial number [] (answer ∷ answers) roll text h = absurd h

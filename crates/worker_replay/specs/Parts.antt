@@ -35,7 +35,7 @@ use Rattle.worker_replay.specs.Runs.{Answers, IsPrinted, IsRun, has_roll, rolled
 abbrev pub AreWorkers : ℕ → Type 0
 AreWorkers n = (1 ≤ n) × (n ≤ 16)
 
--- why a recording is not run
+-- the reason why a recording is not run
 abbrev pub IsRunFault : WorkerReplayFault → Type 0
 IsRunFault (fault.Replay f) = f ≡ replay_fault.Memory
 IsRunFault fault.Spawn = Unit {0}

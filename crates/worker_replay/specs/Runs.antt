@@ -46,7 +46,7 @@ has_roll (line.Roll ∷ lines) = true
 abbrev pub Answers : Type 0
 Answers = List (Result Answer Refused)
 
--- what is printed of an answer
+-- the printed part of an answer
 abbrev pub reply_of : Result Answer Refused → Result Reply Refusal
 reply_of (Ok answer) = Ok answer.reply
 reply_of (Err refused) = Err refused.refusal
@@ -62,7 +62,7 @@ IsAfter seen answer = IfSome (told_of answer) (λ t. IsPrefix t.list seen)
 
 -- ---- the roll
 
--- why an engine is not rolled
+-- the reason why an engine is not rolled
 abbrev pub IsNotRolled : Refusal → Type 0
 IsNotRolled r = (r ≡ refusal.NotCurrent) ⊎ (r ≡ refusal.Memory)
 

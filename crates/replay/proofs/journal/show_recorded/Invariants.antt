@@ -6,7 +6,7 @@ use Rattle.replay.specs.Lines.{IsTextOf}
 use Rattle.replay.proofs.Recorded.{Showing}
 use Rattle.replay.proofs.journal.show_recorded.Given as goal
 
--- what is left is text, and how far the lines are printed
+-- the rest is text, and this part of the lines is printed
 abbrev pub invariant-loop-line : goal.invariant-loop-line
 invariant-loop-line g l =
     shadow (Utf8 l.left) × ((forms : List Form) → IsTextOf l.fn.text forms

@@ -12,7 +12,7 @@ use Rattle.worker_replay.proofs.replaying.replay_many.Goals as goal
 pub returns-in-Ok-write-clause-ok : goal.returns-in-Ok-write-clause-ok
 returns-in-Ok-write-clause-ok g c = replays _ _ _ _ _ _ _ c.version-version.ensures.value _ _ c.in-Ok.ensures.recording c.in_ok-printed.ensures.run c.in-Ok-write.ensures.ok
 
--- what ends the writing is no fault of a line
+-- the reason that ends the writing is not a fault of a line
 no_line : (why : PrintError) (given : ReplayFault) (f : LineFault) → given ≡ fault_of why → given ≡ replay_fault.Line f → ⊥
 no_line stop.Write given f is h = cc
 no_line stop.Closed given f is h = cc

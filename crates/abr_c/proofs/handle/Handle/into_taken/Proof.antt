@@ -31,7 +31,7 @@ use Rattle.abr_c.specs.contracts.handle.Handle.into_taken.Key.{name as #into_tak
 use Rattle.abr_c.proofs.handle.Handle.into_taken.Statement.{statement}
 use Rattle.abr_c.proofs.handle.Handle.into_taken.Code as code
 
--- what an option has that is one of some value
+-- the value of an option that has one
 the_one : {A : Type 0} (o : Option A) → is_some o ≡ true → (x : A) × (o ≡ Some x)
 the_one None known = absurd (false≢true known)
 the_one (Some x) known = (x, refl)

@@ -44,7 +44,7 @@ use Rattle.abr_c.specs.contracts.taken.Taken.into_box.Key.{name as #into_box}
 use Rattle.abr_c.proofs.taken.Taken.into_box.Statement.{statement}
 use Rattle.abr_c.proofs.taken.Taken.into_box.Code as code
 
--- what follows the block in which the box is made
+-- the code after the block in which the box is made
 abbrev after_block : Body
 after_block = seq (assign (place 0 []) (rv_opd (copy (place 4 [])))) return
 
