@@ -12,7 +12,7 @@ mod progress;
 mod sink;
 mod source;
 
-use abr_cli::{Answer, Invocation, job, print_answer};
+use abr_cli::{CommandAnswer, Invocation, job, print_answer};
 use beginning::beginning_of;
 use progress::progress_of;
 use sink::Sink;
@@ -27,7 +27,7 @@ fn main(rt: HostRuntime) -> io::Result<ExitCode> {
     let status = match status(&rt, &rt) {
         Ok(status) => status,
         Err(error) if error.kind() == io::ErrorKind::OutOfMemory => {
-            print_answer(&Answer::NoMemory, &mut rt.stdout(), &mut rt.stderr())
+            print_answer(&CommandAnswer::NoMemory, &mut rt.stdout(), &mut rt.stderr())
         }
         Err(error) => return Err(error),
     };

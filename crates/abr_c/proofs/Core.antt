@@ -8,7 +8,7 @@ use Rattle.std_heap.specs.contracts.GlobalAllocator.TheImpl.{ghosts, dict}
 use Rattle.std_heap.proofs.Global.TheLaws as heap_laws
 use Rattle.event_core.specs.contracts.core_state.Core as core
 use Rattle.event_core.proofs.core_state.Core.TheLaws as core_laws
-use Rattle.abr_c.specs.contracts.taken.Taken as taken
+use Rattle.abr_c.specs.contracts.taken.RawBox as taken
 use Rattle.abr_c.specs.contracts.handle.Handle as handle
 use Rattle.std.specs.Prelude.{Some}
 

@@ -2,9 +2,9 @@
 use Rattle.std.specs.Prelude.{◌≡◌, ◌++◌, Bool, true, false, if◌then◌else◌, Option, Some, None, List, length, take, drop, nat_le}
 
 -- if there is one, it is written and the result is true; else nothing is written
-abbrev pub IsGiven : {X : Type 0} → Option X → (told : Bool) → (before after : X) → Type 0
-IsGiven (Some x) told before after = (told ≡ true) × (after ≡ x)
-IsGiven None told before after = (told ≡ false) × (after ≡ before)
+abbrev pub IsOutputGiven : {X : Type 0} → Option X → (told : Bool) → (before after : X) → Type 0
+IsOutputGiven (Some x) told before after = (told ≡ true) × (after ≡ x)
+IsOutputGiven None told before after = (told ≡ false) × (after ≡ before)
 
 -- the bytes are written at the beginning if there is room for all of them; otherwise nothing is
 -- written

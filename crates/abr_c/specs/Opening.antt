@@ -38,8 +38,8 @@ IsSeedRefusal seed number = ((length seed < 16) × (number ≡ short_seed)) ⊎ 
 
 -- The empty text has the hash that SipHash gives it under two keys: the first 16 bytes of the seed,
 -- eight bytes each, the lowest first.
-abbrev pub HasKeysOf : (seed : List ℕ) → RandomState → Type 0
-HasKeysOf seed state = finish (initial_hasher state) ≡ finish (with_keys (little_number 8 seed) (little_number 8 (drop 8 seed)))
+abbrev pub HasSipKeysOf : (seed : List ℕ) → RandomState → Type 0
+HasSipKeysOf seed state = finish (initial_hasher state) ≡ finish (with_keys (little_number 8 seed) (little_number 8 (drop 8 seed)))
 
 -- the seed is long enough, the core has this base, and no event was taken; or there is no core, and
 -- the number is the reason
@@ -48,7 +48,7 @@ OpensBase base seed number (Some core) = (number ≡ 0) × (16 ≤ length seed) 
 OpensBase base seed number None = IsSeedRefusal seed number
 
 -- a base is said, and opens a core or none; or there is none, and the number is why
-abbrev pub Opens : (Says : Base → Type 0) (IsRefusal : ℕ → Type 0) (seed : List ℕ) (number : ℕ) → Option CoreValue → Type 0
-Opens Says IsRefusal seed number after =
+abbrev pub OpensCore : (Says : Base → Type 0) (IsRefusal : ℕ → Type 0) (seed : List ℕ) (number : ℕ) → Option CoreValue → Type 0
+OpensCore Says IsRefusal seed number after =
     ((base : Base) × Says base × OpensBase base seed number after)
     ⊎ (IsRefusal number × (after ≡ None))

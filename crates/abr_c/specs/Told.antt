@@ -15,7 +15,7 @@ use Rattle.event_core.specs.Cores.{CoreValue, Applies, IsRollRefusal, NamesChang
 use Rattle.abr_c.specs.Numbers.{answer_number, no_core, no_network, out_of_memory, refusal_number, status_number, wire_number}
 
 -- the reply of the core to the event, and its number
-pub record IsAnswered (e : Event) (old : CoreValue) (told : ℕ) (new : CoreValue) : Type 0 where
+pub record IsCallAnswered (e : Event) (old : CoreValue) (told : ℕ) (new : CoreValue) : Type 0 where
   pub answer : Result Reply Refusal
   pub number : told ≡ answer_number answer
   pub applied : Applies old e answer new
@@ -23,21 +23,21 @@ pub record IsAnswered (e : Event) (old : CoreValue) (told : ℕ) (new : CoreValu
   pub work : IfOk answer (λ reply. HasBoundedWork old reply.state new)
 
 -- the event is answered by the core; or there is none
-abbrev pub IsTold : Event → Option CoreValue → (number : ℕ) → Option CoreValue → Type 0
-IsTold e (Some old) number (Some new) = IsAnswered e old number new
-IsTold e (Some old) number None = ⊥
-IsTold e None number new = (number ≡ no_core) × (new ≡ None)
+abbrev pub IsEventAnswered : Event → Option CoreValue → (number : ℕ) → Option CoreValue → Type 0
+IsEventAnswered e (Some old) number (Some new) = IsCallAnswered e old number new
+IsEventAnswered e (Some old) number None = ⊥
+IsEventAnswered e None number new = (number ≡ no_core) × (new ≡ None)
 
 -- the arguments name an event, which is applied; or they name no network
 abbrev pub IsToldIf : Option Event → Option CoreValue → (number : ℕ) → Option CoreValue → Type 0
-IsToldIf (Some e) old number new = IsTold e old number new
+IsToldIf (Some e) old number new = IsEventAnswered e old number new
 IsToldIf None old number new = (number ≡ no_network) × (new ≡ old)
 
 -- the bytes spell an LSA, which is installed; or the number names their first fault, or a lack of
 -- memory
 abbrev pub Installs : Scope → (bytes : List ℕ) → Option CoreValue → (number : ℕ) → Option CoreValue → Type 0
 Installs at bytes old number new =
-    ((lsa : Lsa) × IsSound bytes × Spells bytes lsa × IsTold (event.Install at lsa) old number new)
+    ((lsa : Lsa) × IsSound bytes × Spells bytes lsa × IsEventAnswered (event.Install at lsa) old number new)
     ⊎ (((f : WireFault) × (fault_of bytes ≡ Some f) × (number ≡ wire_number f) × (new ≡ old))
     ⊎ ((fault_of bytes ≡ None) × (number ≡ out_of_memory) × (new ≡ old)))
 

@@ -43,12 +43,12 @@ built_in = of_core 0 (λ core. core.base.serial + core.built)
 -- ---- the table
 
 -- the longest match of the address
-abbrev pub IsFound : map.FinMap network_cmp Item → (address : ℕ) → CItem → Type 0
-IsFound items address out = (found : Match) × IsMatch items address found × (out ≡ item_of_match found)
+abbrev pub IsMatchFound : map.FinMap network_cmp Item → (address : ℕ) → CItem → Type 0
+IsMatchFound items address out = (found : Match) × IsMatch items address found × (out ≡ item_of_match found)
 
 abbrev pub IsLookedUp : Option CoreValue → (address : ℕ) → CItem → Type 0
 IsLookedUp None address out = out ≡ no_item
-IsLookedUp (Some core) address out = IsFound core.table.items address out
+IsLookedUp (Some core) address out = IsMatchFound core.table.items address out
 
 -- the item of the table for the network
 abbrev pub item_at : Option CoreValue → Option Network → Option Item

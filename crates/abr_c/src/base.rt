@@ -1,7 +1,7 @@
 //! The base: the state before the first event of the journal.
 ghost use Rattle.std.specs.Prelude.{◌≡◌, Some, length, option_map, slice_get};
 ghost use Rattle.abr_c.specs.CTypes as c;
-ghost use Rattle.abr_c.specs.Given.{IsGiven};
+ghost use Rattle.abr_c.specs.Given.{IsOutputGiven};
 ghost use Rattle.abr_c.specs.Slots.{core_in};
 ghost use Rattle.abr_c.specs.Views.{GivesLsa, GivesText, GivesTextOf, base_serial_in, interface_at};
 ghost use Rattle.abr_c.specs.Views.{interfaces_in, lsa_at, lsas_in};
@@ -43,7 +43,7 @@ pub extern "C" fn abr_base_interface_at(
     n: usize,
     out: &mut CInterface,
 ) -> bool
-    ensures given { IsGiven (interface_at (core_in slot.old) n) result out.old out.new }
+    ensures given { IsOutputGiven (interface_at (core_in slot.old) n) result out.old out.new }
     ensures kept { core_in slot.new ≡ core_in slot.old }
 {
     let interface = with_core!(

@@ -1,7 +1,7 @@
 //! The summary-LSAs that are due.
 ghost use Rattle.std.specs.Prelude.{◌≡◌, length, option_map, slice_get};
 ghost use Rattle.abr_c.specs.CTypes as c;
-ghost use Rattle.abr_c.specs.Given.{IsGiven};
+ghost use Rattle.abr_c.specs.Given.{IsOutputGiven};
 ghost use Rattle.abr_c.specs.Slots.{core_in};
 ghost use Rattle.abr_c.specs.Views.{due_at, due_in};
 
@@ -31,7 +31,7 @@ pub extern "C" fn abr_due_at(
     n: usize,
     out: &mut CDue,
 ) -> bool
-    ensures given { IsGiven (due_at (core_in slot.old) area n) result out.old out.new }
+    ensures given { IsOutputGiven (due_at (core_in slot.old) area n) result out.old out.new }
     ensures kept { core_in slot.new ≡ core_in slot.old }
 {
     let due = with_core!(

@@ -1,7 +1,7 @@
 //! The changes that the last event made to the due summary-LSAs.
 ghost use Rattle.std.specs.Prelude.{◌≡◌, length, slice_get};
 ghost use Rattle.abr_c.specs.CTypes as c;
-ghost use Rattle.abr_c.specs.Given.{IsGiven};
+ghost use Rattle.abr_c.specs.Given.{IsOutputGiven};
 ghost use Rattle.abr_c.specs.Slots.{core_in};
 ghost use Rattle.abr_c.specs.Views.{due_changes_in};
 
@@ -30,7 +30,7 @@ pub extern "C" fn abr_due_change_at(
     n: usize,
     out: &mut CDueChange,
 ) -> bool
-    ensures given { IsGiven (slice_get (due_changes_in (core_in slot.old)) n) result out.old
+    ensures given { IsOutputGiven (slice_get (due_changes_in (core_in slot.old)) n) result out.old
         out.new }
     ensures kept { core_in slot.new ≡ core_in slot.old }
 {

@@ -5,7 +5,7 @@
 ghost use Rattle.std.specs.Prelude.{◌≡◌, option_map};
 ghost use Rattle.event_state.specs.declared.event.Event.TheVariants as event_value;
 ghost use Rattle.abr_c.specs.CTypes.{key_of, network_in, scope_of};
-ghost use Rattle.abr_c.specs.Told.{CatchesUp, IsAnswered, IsTold, IsToldIf, Installs, RollsTo};
+ghost use Rattle.abr_c.specs.Told.{CatchesUp, IsCallAnswered, IsEventAnswered, IsToldIf, Installs, RollsTo};
 ghost use Rattle.abr_c.specs.Slots.{core_in};
 
 use crate::c_types::{CKey, CPrefix, CScope};
@@ -35,7 +35,7 @@ pub extern "C" fn abr_install_bytes(
 /// Flushes one of the router's own LSAs: it is aged prematurely.
 #[unsafe(no_mangle)]
 pub extern "C" fn abr_flush(alloc: Global, slot: &mut Slot, scope: CScope, key: CKey) -> u32
-    ensures { IsTold (event_value.Flush (scope_of scope) (key_of key)) (core_in slot.old) result
+    ensures { IsEventAnswered (event_value.Flush (scope_of scope) (key_of key)) (core_in slot.old) result
         (core_in slot.new) }
 {
     let (scope, key) = (scope.scope(), key.key());
@@ -45,7 +45,7 @@ pub extern "C" fn abr_flush(alloc: Global, slot: &mut Slot, scope: CScope, key: 
 /// Removes an LSA at MaxAge from its database.
 #[unsafe(no_mangle)]
 pub extern "C" fn abr_purge(alloc: Global, slot: &mut Slot, scope: CScope, key: CKey) -> u32
-    ensures { IsTold (event_value.Purge (scope_of scope) (key_of key)) (core_in slot.old) result
+    ensures { IsEventAnswered (event_value.Purge (scope_of scope) (key_of key)) (core_in slot.old) result
         (core_in slot.new) }
 {
     let (scope, key) = (scope.scope(), key.key());
@@ -63,7 +63,7 @@ pub extern "C" fn abr_interface(
     peer: u32,
     up: bool,
 ) -> u32
-    ensures { IsTold (event_value.Interface id area address peer up) (core_in slot.old) result
+    ensures { IsEventAnswered (event_value.Interface id area address peer up) (core_in slot.old) result
         (core_in slot.new) }
 {
     let event = Event::Interface {
@@ -114,7 +114,7 @@ pub extern "C" fn abr_range_drop(alloc: Global, slot: &mut Slot, area: u32, pref
 /// Lets a second pass.
 #[unsafe(no_mangle)]
 pub extern "C" fn abr_second(alloc: Global, slot: &mut Slot) -> u32
-    ensures { IsTold event_value.Second (core_in slot.old) result (core_in slot.new) }
+    ensures { IsEventAnswered event_value.Second (core_in slot.old) result (core_in slot.new) }
 {
     apply(alloc, slot, Event::Second)
 }
@@ -145,13 +145,13 @@ pub extern "C" fn abr_roll(alloc: Global, slot: &mut Slot) -> u32
 
 // Applies the event to the core. Returns the number of its outcome.
 fn apply(alloc: Global, slot: &mut Slot, event: Event) -> u32
-    ensures { IsTold event (core_in slot.old) result (core_in slot.new) }
+    ensures { IsEventAnswered event (core_in slot.old) result (core_in slot.new) }
 {
     with_core!(alloc, slot, NO_CORE, |mut core| answer(&mut core, event))
 }
 
 fn answer(core: &mut Core, event: Event) -> u32
-    ensures { IsAnswered event core.old result core.new }
+    ensures { IsCallAnswered event core.old result core.new }
 {
     match core.apply(event) {
         Ok(reply) => status_number(reply.state),

@@ -1,10 +1,10 @@
 //! Results that are written for C, if there are any.
 ghost use Rattle.std.specs.Prelude.{◌≡◌};
-ghost use Rattle.abr_c.specs.Given.{IsGiven, written};
+ghost use Rattle.abr_c.specs.Given.{IsOutputGiven, written};
 
 /// Writes the value to `out`, if there is one. Returns true if there is.
 pub(crate) fn give<T: Copy + Drop>(out: &mut T, found: Option<T>) -> bool
-    ensures { IsGiven found result out.old out.new }
+    ensures { IsOutputGiven found result out.old out.new }
 {
     match found {
         Some(value) => {

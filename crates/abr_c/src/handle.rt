@@ -3,7 +3,7 @@ ghost use Rattle.std.specs.Prelude.{◌≡◌, Option, Some, None, is_some, true
 ghost use Rattle.event_core.specs.Cores.{CoreValue};
 ghost use Rattle.abr_c.specs.Owned.{core_coded, handle_owns};
 
-use crate::taken::Taken;
+use crate::taken::RawBox;
 use event_core::Core;
 use std::alloc::Global;
 use std::marker::Model;
@@ -25,7 +25,7 @@ impl Handle {
     pub(crate) fn of(core: Box<Core>) -> Handle
         ensures { result.inside ≡ Some core.value }
     {
-        Handle::of_taken(Taken::of(core))
+        Handle::of_taken(RawBox::of(core))
     }
 
     pub(crate) fn into_box(self) -> Box<Core>
@@ -44,22 +44,22 @@ impl Handle {
         }
     }
 
-    fn of_taken(taken: Taken<Core, Global>) -> Handle
+    fn of_taken(taken: RawBox<Core, Global>) -> Handle
         ensures { result.inside ≡ Some taken.inside }
     {
-        let Taken { at, alloc } = taken;
+        let RawBox { at, alloc } = taken;
         Handle {
             at: at as *mut u8,
             alloc,
         }
     }
 
-    fn into_taken(self) -> Taken<Core, Global>
+    fn into_taken(self) -> RawBox<Core, Global>
         requires { is_some self.inside ≡ true }
         ensures { self.inside ≡ Some result.inside }
     {
         let Handle { at, alloc } = self;
-        Taken {
+        RawBox {
             at: at as *mut Core,
             alloc,
         }

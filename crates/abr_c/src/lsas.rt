@@ -2,7 +2,7 @@
 ghost use Rattle.std.specs.Prelude.{◌≡◌, ◌≤◌, ◌++◌, length, drop};
 ghost use Rattle.lsa_codec.specs.Checksum.{checksum_of};
 ghost use Rattle.lsa_codec.specs.Spelling.{header_bytes, spelling};
-ghost use Rattle.abr_c.specs.Given.{IsGiven, written};
+ghost use Rattle.abr_c.specs.Given.{IsOutputGiven, written};
 ghost use Rattle.abr_c.specs.Told.{IsLsaNumber};
 
 use crate::given::give;
@@ -26,7 +26,7 @@ pub extern "C" fn abr_lsa_fault_bytes(alloc: Global, lsa: &[u8]) -> u32
 /// Writes the checksum that the LSA has to have to `out`. Returns true if it has one.
 #[unsafe(no_mangle)]
 pub extern "C" fn abr_lsa_sum_bytes(lsa: &[u8], out: &mut u16) -> bool
-    ensures { IsGiven (checksum_of lsa.now) result out.old out.new }
+    ensures { IsOutputGiven (checksum_of lsa.now) result out.old out.new }
 {
     give(out, sum_of(lsa))
 }

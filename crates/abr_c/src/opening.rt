@@ -6,7 +6,7 @@ ghost use Rattle.std.specs.Prelude.{◌≡◌, ◌≤◌, None, IfOk, IfErr, OnO
 ghost use Rattle.event_state.specs.BaseFaults.{base_fault_of};
 ghost use Rattle.event_state.specs.Steps.{standard_limits};
 ghost use Rattle.event_core.specs.Cores.{IsCore, IsOpening};
-ghost use Rattle.abr_c.specs.Opening.{Opens, OpensBase, SaysBase, SaysConfig, IsBaseRefusal};
+ghost use Rattle.abr_c.specs.Opening.{OpensCore, OpensBase, SaysBase, SaysConfig, IsBaseRefusal};
 ghost use Rattle.abr_c.specs.Opening.{IsConfigRefusal, IsSeedRefusal};
 ghost use Rattle.abr_c.specs.Slots.{core_in};
 
@@ -20,7 +20,7 @@ use std::alloc::Global;
 /// Opens a core with the configuration in the text.
 #[unsafe(no_mangle)]
 pub extern "C" fn abr_open_bytes(alloc: Global, config: &[u8], seed: &[u8], out: &mut Slot) -> u32
-    ensures { Opens (SaysConfig config.now) (IsConfigRefusal config.now) seed.now result
+    ensures { OpensCore (SaysConfig config.now) (IsConfigRefusal config.now) seed.now result
         (core_in out.new) }
 {
     let base = match config_in(alloc, config) {
@@ -38,7 +38,7 @@ pub extern "C" fn abr_open_base_bytes(
     seed: &[u8],
     out: &mut Slot,
 ) -> u32
-    ensures { Opens (SaysBase base.now) (IsBaseRefusal base.now) seed.now result
+    ensures { OpensCore (SaysBase base.now) (IsBaseRefusal base.now) seed.now result
         (core_in out.new) }
 {
     let base = match base_in(alloc, base) {

@@ -1,6 +1,6 @@
 //! The keys of the hash maps, from a seed.
 ghost use Rattle.std.specs.Prelude.{◌≤◌, IsTrue, OnOk, IfOk, IfErr, length};
-ghost use Rattle.abr_c.specs.Opening.{HasKeysOf, IsSeedRefusal};
+ghost use Rattle.abr_c.specs.Opening.{HasSipKeysOf, IsSeedRefusal};
 
 use crate::numbers::{LENGTH, MEMORY};
 use byteorder::{ByteOrder, LittleEndian};
@@ -27,7 +27,7 @@ impl RandomSource for Seed<'_> {
 /// Returns the keys that the first 16 bytes of a seed give.
 pub(crate) fn hashing_of(seed: &[u8]) -> Result<RandomState, u32>
     ensures long { OnOk result (16 ≤ length seed.now) }
-    ensures keys { IfOk result (HasKeysOf seed.now) }
+    ensures keys { IfOk result (HasSipKeysOf seed.now) }
     ensures refused { IfErr result (IsSeedRefusal seed.now) }
 {
     if seed.len() < 16 {
@@ -43,7 +43,7 @@ pub(crate) fn hashing_of(seed: &[u8]) -> Result<RandomState, u32>
 // No clause of `RandomState` says which keys it takes from its source, but a hash does.
 fn has_keys_of(seed: &[u8], hashing: &RandomState) -> bool
     requires { 16 ≤ length seed.now }
-    ensures { IsTrue result → HasKeysOf seed.now hashing.now }
+    ensures { IsTrue result → HasSipKeysOf seed.now hashing.now }
 {
     let (low, high) = (
         LittleEndian::read_u64(seed),

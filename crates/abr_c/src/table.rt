@@ -2,9 +2,9 @@
 ghost use Rattle.std.specs.Prelude.{◌≡◌, length, take, option_copied, option_map, slice_get};
 ghost use Rattle.std.specs.FinMap as map;
 ghost use Rattle.abr_c.specs.CTypes as c;
-ghost use Rattle.abr_c.specs.Given.{IsGiven, copied};
+ghost use Rattle.abr_c.specs.Given.{IsOutputGiven, copied};
 ghost use Rattle.abr_c.specs.Slots.{core_in};
-ghost use Rattle.abr_c.specs.Views.{IsFound, IsLookedUp, built_in, change_at, changes_in};
+ghost use Rattle.abr_c.specs.Views.{IsMatchFound, IsLookedUp, built_in, change_at, changes_in};
 ghost use Rattle.abr_c.specs.Views.{entries_in, hop_at, item_for, items_from, paths_of, serial_in};
 
 use crate::c_types::{CHop, CItem, CPrefix};
@@ -73,7 +73,7 @@ pub extern "C" fn abr_path(
     n: usize,
     out: &mut CHop,
 ) -> bool
-    ensures given { IsGiven (hop_at (core_in slot.old) (c.network_in prefix) n) result out.old
+    ensures given { IsOutputGiven (hop_at (core_in slot.old) (c.network_in prefix) n) result out.old
         out.new }
     ensures kept { core_in slot.new ≡ core_in slot.old }
 {
@@ -96,7 +96,7 @@ pub extern "C" fn abr_changes(alloc: Global, slot: &mut Slot) -> usize
 /// Writes number `n` of these networks to `out`. Returns true if there is one.
 #[unsafe(no_mangle)]
 pub extern "C" fn abr_change_at(alloc: Global, slot: &mut Slot, n: usize, out: &mut CPrefix) -> bool
-    ensures given { IsGiven (change_at (core_in slot.old) n) result out.old out.new }
+    ensures given { IsOutputGiven (change_at (core_in slot.old) n) result out.old out.new }
     ensures kept { core_in slot.new ≡ core_in slot.old }
 {
     let change = with_core!(alloc, slot, false, |core| prefix_at(core.changes(), n));
@@ -134,7 +134,7 @@ pub extern "C" fn abr_items_from(
 }
 
 fn looked_up(table: &Table, address: u32) -> CItem
-    ensures { IsFound table.now.items address result }
+    ensures { IsMatchFound table.now.items address result }
 {
     match table.lookup(address) {
         Match::Route(network, entry) => route_of(network, entry),

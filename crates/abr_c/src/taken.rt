@@ -9,28 +9,28 @@ use std::alloc::Allocator;
 use std::marker::Model;
 
 /// The pointer and the allocator of a box. It owns what the box owned.
-pub(crate) struct Taken<T, A: Allocator> {
+pub(crate) struct RawBox<T, A: Allocator> {
     pub(crate) at: *mut T,
     pub(crate) alloc: A,
     pub(crate) ghost inside: { T },
 }
 
-impl<T, A: Allocator> Model for Taken<T, A> {
+impl<T, A: Allocator> Model for RawBox<T, A> {
     ghost also_owns = { λ t. box_owns (A.dealloc_token t.alloc) T.row t.at t.inside };
 }
 
-impl<T: Drop, A: Allocator> Taken<T, A> {
-    pub(crate) fn of(whole: Box<T, A>) -> Taken<T, A>
+impl<T: Drop, A: Allocator> RawBox<T, A> {
+    pub(crate) fn of(whole: Box<T, A>) -> RawBox<T, A>
         ensures { result.inside ≡ whole.value }
     {
         let (at, alloc) = Box::into_raw_with_allocator(whole);
-        Taken { at, alloc }
+        RawBox { at, alloc }
     }
 
     pub(crate) fn into_box(self) -> Box<T, A>
         ensures { result.value ≡ self.inside }
     {
-        let Taken { at, alloc } = self;
+        let RawBox { at, alloc } = self;
         unsafe { Box::from_raw(alloc, at) }
     }
 }

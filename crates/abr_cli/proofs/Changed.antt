@@ -13,8 +13,8 @@ use Rattle.cli_queries.specs.Answers.{IsSaid}
 use Rattle.cli_queries.specs.Faults.{command_fault_text, fault_line, status_of}
 use Rattle.ospf_types.specs.declared.prefix.Prefix.{Prefix}
 use Rattle.replay.specs.Advance.{EndsShowing, IsProgress, Shows}
-use Rattle.abr_cli.specs.Changing.{Asks, IsChangesTold, IsTellingEnded, IsWordSaid, TellsEarly, telling_of}
-use Rattle.abr_cli.specs.declared.changing.Changes.{Changes}
+use Rattle.abr_cli.specs.Changing.{AsksForChanges, IsChangesTold, IsTellingEnded, IsNetworkFaultSaid, TellsEarly, telling_of}
+use Rattle.abr_cli.specs.declared.changing.ChangesCommand.{ChangesCommand}
 use Rattle.abr_cli.proofs.Shown.{advance_told}
 
 -- the line for each fault by itself
@@ -30,7 +30,7 @@ early_by_fault held t (Line f) i i' old new read line write closed memory = elim
 
 -- a word that is not a network
 pub word_said : (e : CommandFault) (status : ℕ) (i o f f' : Option (List ℕ)) → e ≡ fault.Word NotANetwork
-    → IsSaid (fault_line (command_fault_text e)) (status_of e) status f f' ⊎ IsSaid (fault_line (command_fault_text fault.Memory)) 1 status f f' → IsWordSaid status i i o o f f'
+    → IsSaid (fault_line (command_fault_text e)) (status_of e) status f f' ⊎ IsSaid (fault_line (command_fault_text fault.Memory)) 1 status f f' → IsNetworkFaultSaid status i i o o f f'
 word_said e status i o f f' is said = (
   refl,
   refl,
@@ -38,7 +38,7 @@ word_said e status i o f f' is said = (
 )
 
 -- the report for the network that is given
-pub network_told : (c : Changes) (only : Option Prefix) (t : ChangeOptions) (status : ℕ) (i i' o o' f start shown mid f' : Option (List ℕ)) → Asks c.only only → t ≡ telling_of c only
+pub network_told : (c : ChangesCommand) (only : Option Prefix) (t : ChangeOptions) (status : ℕ) (i i' o o' f start shown mid f' : Option (List ℕ)) → AsksForChanges c.only only → t ≡ telling_of c only
     → Shows c.progress 0 f start → IsProgress t.progress start shown → EndsShowing c.progress shown mid → IsTellingEnded c.file t status i i' o o' mid f' → IsChangesTold c status i i' o o' f f'
 network_told c only t status i i' o o' f start shown mid f' asks is begun progress ended told =
     let shows : IsProgress c.progress start shown = subst (λ (x : ChangeOptions). IsProgress x.progress start shown) is progress in

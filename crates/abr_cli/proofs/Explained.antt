@@ -12,7 +12,7 @@ use Rattle.cli_queries.specs.declared.command_fault.CommandFault.TheVariants as 
 use Rattle.cli_queries.specs.declared.argument_values.WordFault.{WordFault}
 use Rattle.cli_queries.specs.Answers.{IsSaid}
 use Rattle.cli_queries.specs.Faults.{command_fault_text, fault_line, status_of}
-use Rattle.abr_cli.specs.Explaining.{ExplainsEarly, IsWordFault, IsWordSaid}
+use Rattle.abr_cli.specs.Explaining.{ExplainsEarly, IsWordFault, IsWordFaultSaid}
 
 -- the line for each fault by itself
 pub early_by_fault : {X : Type 0} (held : X → Option (List ℕ)) (e : Explaining) (x : ReplayFault) (i i' : Option (List ℕ)) (old new : X) → (x ≡ Read → new ≡ old)
@@ -33,7 +33,7 @@ word_status word (Some area) w (inr is) = ap (λ (x : WordFault). status_of (fau
 
 -- a word that cannot be read
 pub word_said : (word : List ℕ) (due : Option (Bor (List ℕ))) (w : WordFault) (status : ℕ) (i o f f' : Option (List ℕ)) → IsWordFault word due w
-    → IsSaid (fault_line (command_fault_text (fault.Word w))) (status_of (fault.Word w)) status f f' ⊎ IsSaid (fault_line (command_fault_text fault.Memory)) 1 status f f' → IsWordSaid w status i i o o f f'
+    → IsSaid (fault_line (command_fault_text (fault.Word w))) (status_of (fault.Word w)) status f f' ⊎ IsSaid (fault_line (command_fault_text fault.Memory)) 1 status f f' → IsWordFaultSaid w status i i o o f f'
 word_said word due w status i o f f' is said = (
   refl,
   refl,

@@ -4,7 +4,7 @@ use Rattle.std.specs.Borrow.{Bor}
 use Rattle.replay.specs.declared.writing.WriteError.{WriteError}
 use Rattle.replay.specs.declared.writing.WriteError.TheVariants as cannot_write
 use Rattle.captured_lsas.specs.declared.options.Options.{Options}
-use Rattle.capture_recording.specs.Outputs.{Outcome}
+use Rattle.capture_recording.specs.Outputs.{CaptureOutcome}
 use Rattle.capture_recording.specs.declared.capturing.Preamble.{Preamble}
 use Rattle.capture_recording.specs.declared.capturing.Preamble.TheVariants.{Given, Router}
 use Rattle.capture_recording.specs.declared.fault.CapturingFault.{CapturingFault}
@@ -15,8 +15,8 @@ use Rattle.cli_queries.specs.declared.argument_values.WordFault.{WordFault}
 use Rattle.cli_queries.specs.declared.argument_values.WordFault.TheVariants.{NotAnAddress}
 use Rattle.cli_queries.specs.Answers.{IsSaid, IsUnwrittenSaid}
 use Rattle.cli_queries.specs.Faults.{command_fault_text, fault_line, status_of}
-use Rattle.cli_queries.specs.Words.{IsAddress, Writes}
-use Rattle.abr_cli.specs.declared.capturing.Capture.{Capture}
+use Rattle.cli_queries.specs.Words.{IsAddress, WritesAddress}
+use Rattle.abr_cli.specs.declared.capturing.CaptureCommand.{CaptureCommand}
 
 -- ---- what the recording begins with
 
@@ -25,7 +25,7 @@ abbrev pub HasRouter : Option (Bor (List ℕ)) → Option ℕ → Type 0
 HasRouter None None = Unit {0}
 HasRouter None (Some router) = ⊥
 HasRouter (Some word) None = ⊥
-HasRouter (Some word) (Some router) = Writes word.now router
+HasRouter (Some word) (Some router) = WritesAddress word.now router
 
 -- the word is not an address
 abbrev pub IsRouterFault : Option (Bor (List ℕ)) → WordFault → Type 0
@@ -34,11 +34,11 @@ IsRouterFault (Some word) f = (f ≡ NotAnAddress) × (¬ IsAddress word.now)
 
 -- the bytes of the file, if one is named, or else the configuration of the router that the capture
 -- shows
-abbrev pub IsBeginning : (begin beginning : Option (Bor (List ℕ))) → Option ℕ → Preamble → Type 0
-IsBeginning None bytes None b = ⊥
-IsBeginning None bytes (Some router) b = b ≡ Router router
-IsBeginning (Some name) None router b = ⊥
-IsBeginning (Some name) (Some bytes) router b = b ≡ Given bytes
+abbrev pub IsFileBeginning : (begin beginning : Option (Bor (List ℕ))) → Option ℕ → Preamble → Type 0
+IsFileBeginning None bytes None b = ⊥
+IsFileBeginning None bytes (Some router) b = b ≡ Router router
+IsFileBeginning (Some name) None router b = ⊥
+IsFileBeginning (Some name) (Some bytes) router b = b ≡ Given bytes
 
 -- the file cannot be read, or there is neither a file nor a router
 abbrev pub HasNone : (begin beginning : Option (Bor (List ℕ))) → Option ℕ → CommandFault → Type 0
@@ -47,11 +47,11 @@ HasNone None bytes (Some router) f = ⊥
 HasNone (Some name) None router f = f ≡ fault.Read name
 HasNone (Some name) (Some bytes) router f = ⊥
 
-abbrev pub BeginsWith : Capture → Preamble → Type 0
-BeginsWith c b = (router : Option ℕ) × HasRouter c.router router × IsBeginning c.begin c.beginning router b
+abbrev pub BeginsWith : CaptureCommand → Preamble → Type 0
+BeginsWith c b = (router : Option ℕ) × HasRouter c.router router × IsFileBeginning c.begin c.beginning router b
 
 -- the reason why there is no beginning; a word that is not an address comes first
-abbrev pub LacksBeginning : Capture → CommandFault → Type 0
+abbrev pub LacksBeginning : CaptureCommand → CommandFault → Type 0
 LacksBeginning c f = ((w : WordFault) × IsRouterFault c.router w × (f ≡ fault.Word w))
     ⊎ ((router : Option ℕ) × HasRouter c.router router × HasNone c.begin c.beginning router f)
 
@@ -81,10 +81,10 @@ IsCaptureEndSaid file x status f f' =
 
 -- the capture was recorded; or it was not recorded whole, and it was said why
 abbrev pub IsCaptureEnded : Bor (List ℕ) → Options → Preamble → (status : ℕ) (i i' o o' f f' : Option (List ℕ)) → Type 0
-IsCaptureEnded file options b status i i' o o' f f' = ((status ≡ 0) × Outcome options b i i' o o' f f' (Ok tt))
-    ⊎ ((x : CapturingFault) × (mid : Option (List ℕ)) × Outcome options b i i' o o' f mid (Err x) × IsCaptureEndSaid file x status mid f')
+IsCaptureEnded file options b status i i' o o' f f' = ((status ≡ 0) × CaptureOutcome options b i i' o o' f f' (Ok tt))
+    ⊎ ((x : CapturingFault) × (mid : Option (List ℕ)) × CaptureOutcome options b i i' o o' f mid (Err x) × IsCaptureEndSaid file x status mid f')
 
 -- nothing was read, and it was said why there is no beginning; or the capture was recorded
-abbrev pub IsCaptureTold : Capture → (status : ℕ) (i i' o o' f f' : Option (List ℕ)) → Type 0
+abbrev pub IsCaptureTold : CaptureCommand → (status : ℕ) (i i' o o' f f' : Option (List ℕ)) → Type 0
 IsCaptureTold c status i i' o o' f f' = ((x : CommandFault) × LacksBeginning c x × (i' ≡ i) × (o' ≡ o) × IsSaidOrMemory x status f f')
     ⊎ ((b : Preamble) × BeginsWith c b × IsCaptureEnded c.file c.options b status i i' o o' f f')

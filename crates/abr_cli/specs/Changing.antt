@@ -15,14 +15,14 @@ use Rattle.cli_queries.specs.Answers.{IsSaid}
 use Rattle.cli_queries.specs.Faults.{command_fault_text, fault_line}
 use Rattle.abr_cli.specs.Replaying.{IsEndSaid}
 use Rattle.abr_cli.specs.Showing.{IsAdvanceTold}
-use Rattle.abr_cli.specs.declared.changing.Changes.{Changes}
+use Rattle.abr_cli.specs.declared.changing.ChangesCommand.{ChangesCommand}
 
 -- the word asks for this network; without a word all are asked for
-abbrev pub Asks : Option (Bor (List ℕ)) → Option Prefix → Type 0
-Asks None None = Unit {0}
-Asks None (Some p) = ⊥
-Asks (Some word) None = ⊥
-Asks (Some word) (Some p) = WritesNetwork word.now p
+abbrev pub AsksForChanges : Option (Bor (List ℕ)) → Option Prefix → Type 0
+AsksForChanges None None = Unit {0}
+AsksForChanges None (Some p) = ⊥
+AsksForChanges (Some word) None = ⊥
+AsksForChanges (Some word) (Some p) = WritesNetwork word.now p
 
 -- the word is not a network
 abbrev pub LacksNetwork : Option (Bor (List ℕ)) → Type 0
@@ -39,12 +39,12 @@ TellsEarly t (Line f) i i' o o' = ((o' ≡ o) × FailsAtFront i i' f) ⊎ FailsB
 
 -- nothing was read, and a line says that the word is not a network, or that there is no memory for
 -- that line
-abbrev pub IsWordSaid : (status : ℕ) (i i' o o' f f' : Option (List ℕ)) → Type 0
-IsWordSaid status i i' o o' f f' =
+abbrev pub IsNetworkFaultSaid : (status : ℕ) (i i' o o' f f' : Option (List ℕ)) → Type 0
+IsNetworkFaultSaid status i i' o o' f f' =
     (i' ≡ i) × (o' ≡ o) × (IsSaid (fault_line (command_fault_text (fault.Word NotANetwork))) 2 status f f' ⊎ IsSaid (fault_line (command_fault_text fault.Memory)) 1 status f f')
 
 -- the report of the command, for this network if one is given
-abbrev pub telling_of : Changes → Option Prefix → ChangeOptions
+abbrev pub telling_of : ChangesCommand → Option Prefix → ChangeOptions
 telling_of c only = record {
   wanted = record { only = only; format = c.format };
   answers = c.answers;
@@ -63,6 +63,6 @@ abbrev pub IsTellingTold : Bor (List ℕ) → ChangeOptions → (status : ℕ) (
 IsTellingTold file t status i i' o o' f f' = (mid : Option (List ℕ)) × IsAdvanceTold t.progress f mid × IsTellingEnded file t status i i' o o' mid f'
 
 -- the word of the one network, if there is one, was not a network; or the report was written
-abbrev pub IsChangesTold : Changes → (status : ℕ) (i i' o o' f f' : Option (List ℕ)) → Type 0
-IsChangesTold c status i i' o o' f f' = (LacksNetwork c.only × IsWordSaid status i i' o o' f f')
-    ⊎ ((only : Option Prefix) × Asks c.only only × IsTellingTold c.file (telling_of c only) status i i' o o' f f')
+abbrev pub IsChangesTold : ChangesCommand → (status : ℕ) (i i' o o' f f' : Option (List ℕ)) → Type 0
+IsChangesTold c status i i' o o' f f' = (LacksNetwork c.only × IsNetworkFaultSaid status i i' o o' f f')
+    ⊎ ((only : Option Prefix) × AsksForChanges c.only only × IsTellingTold c.file (telling_of c only) status i i' o o' f f')

@@ -19,22 +19,22 @@ use Rattle.cli_queries.specs.declared.argument_values.WordFault.{WordFault}
 use Rattle.cli_queries.specs.declared.argument_values.WordFault.TheVariants.{NotAnAddress, NotANetwork}
 use Rattle.cli_queries.specs.Answers.{IsSaid}
 use Rattle.cli_queries.specs.Faults.{command_fault_text, fault_line}
-use Rattle.cli_queries.specs.Words.{IsAddress, IsNoNetwork, Writes}
+use Rattle.cli_queries.specs.Words.{IsAddress, IsNoNetwork, WritesAddress}
 use Rattle.abr_cli.specs.Replaying.{IsEndSaid}
 use Rattle.abr_cli.specs.Showing.{IsProgressTold}
-use Rattle.abr_cli.specs.declared.explaining.Explain.{Explain}
+use Rattle.abr_cli.specs.declared.explaining.ExplainCommand.{ExplainCommand}
 
 -- the word writes a network, or the Router ID of an AS boundary router
 abbrev pub WritesDest : List ℕ → Dest → Type 0
 WritesDest word (Net p) = WritesNetwork word p
-WritesDest word (Router router) = Writes word router
+WritesDest word (Router router) = WritesAddress word router
 
 -- the words ask this: of an address, or, where an area is named, of what is due there
-abbrev pub Asks : List ℕ → Option (Bor (List ℕ)) → Question → Type 0
-Asks word None (Address address) = Writes word address
-Asks word None (Due id d) = ⊥
-Asks word (Some area) (Address address) = ⊥
-Asks word (Some area) (Due id d) = Writes area.now id × WritesDest word d
+abbrev pub AsksToExplain : List ℕ → Option (Bor (List ℕ)) → Question → Type 0
+AsksToExplain word None (Address address) = WritesAddress word address
+AsksToExplain word None (Due id d) = ⊥
+AsksToExplain word (Some area) (Address address) = ⊥
+AsksToExplain word (Some area) (Due id d) = WritesAddress area.now id × WritesDest word d
 
 -- a word cannot be read for this reason, the area's first
 abbrev pub IsWordFault : List ℕ → Option (Bor (List ℕ)) → WordFault → Type 0
@@ -44,8 +44,8 @@ IsWordFault word (Some area) f =
 
 -- nothing was read, and a line says that a word cannot be read, or that there is no memory for that
 -- line
-abbrev pub IsWordSaid : WordFault → (status : ℕ) (i i' o o' f f' : Option (List ℕ)) → Type 0
-IsWordSaid w status i i' o o' f f' =
+abbrev pub IsWordFaultSaid : WordFault → (status : ℕ) (i i' o o' f f' : Option (List ℕ)) → Type 0
+IsWordFaultSaid w status i i' o o' f f' =
     (i' ≡ i) × (o' ≡ o) × (IsSaid (fault_line (command_fault_text (fault.Word w))) 2 status f f' ⊎ IsSaid (fault_line (command_fault_text fault.Memory)) 1 status f f')
 
 -- the input and the output after an explanation that is not whole for this fault
@@ -68,10 +68,10 @@ IsExplainingTold file e status i i' o o' f f' = (mid : Option (List ℕ))
     × IsProgressTold (record { is_shown = e.progress; all = None }) (ShowsProgress e.progress) f mid × IsExplainingEnded file e status i i' o o' mid f'
 
 -- the form in which the question is answered
-abbrev pub explaining_of : Explain → Question → Explaining
+abbrev pub explaining_of : ExplainCommand → Question → Explaining
 explaining_of c q = record { question = q; format = c.format; progress = c.progress }
 
 -- a word could not be read; or the question was answered
-abbrev pub IsExplainTold : Explain → (status : ℕ) (i i' o o' f f' : Option (List ℕ)) → Type 0
-IsExplainTold c status i i' o o' f f' = ((w : WordFault) × IsWordFault c.address.now c.due w × IsWordSaid w status i i' o o' f f')
-    ⊎ ((q : Question) × Asks c.address.now c.due q × IsExplainingTold c.file (explaining_of c q) status i i' o o' f f')
+abbrev pub IsExplainTold : ExplainCommand → (status : ℕ) (i i' o o' f f' : Option (List ℕ)) → Type 0
+IsExplainTold c status i i' o o' f f' = ((w : WordFault) × IsWordFault c.address.now c.due w × IsWordFaultSaid w status i i' o o' f f')
+    ⊎ ((q : Question) × AsksToExplain c.address.now c.due q × IsExplainingTold c.file (explaining_of c q) status i i' o o' f f')

@@ -12,7 +12,7 @@ use Rattle.cli_queries.specs.declared.command_fault.CommandFault.TheVariants as 
 use Rattle.cli_queries.specs.Answers.{IsSaidOf}
 use Rattle.abr_cli.specs.Replaying.{IsEndSaid}
 use Rattle.abr_cli.specs.Showing.{IsProgressTold}
-use Rattle.abr_cli.specs.declared.paging.Page.{Page}
+use Rattle.abr_cli.specs.declared.paging.PageCommand.{PageCommand}
 
 -- the input and the output after a page that is not whole for this fault
 abbrev pub WritesPageEarly : ReplayFault → (i i' o o' : Option (List ℕ)) → Type 0
@@ -41,11 +41,11 @@ abbrev pub IsPageEndSaid : Bor (List ℕ) → Option (Bor (List ℕ)) → Replay
 IsPageEndSaid file output x status f f' = IsEndSaidOf (unwritten output x) file x status f f'
 
 -- the page was written, and nothing was said; or there is no whole page, and it was said why
-abbrev pub IsPageEnded : Page → (status : ℕ) (i i' o o' f f' : Option (List ℕ)) → Type 0
+abbrev pub IsPageEnded : PageCommand → (status : ℕ) (i i' o o' f f' : Option (List ℕ)) → Type 0
 IsPageEnded c status i i' o o' f f' = ((status ≡ 0) × WritesPage i i' o o' × (f' ≡ f))
     ⊎ ((x : ReplayFault) × WritesPageEarly x i i' o o' × IsPageEndSaid c.file c.output x status f f')
 
 -- it was shown how much is done, where that is to be shown, and then said how it ended
-abbrev pub IsPageTold : Page → (status : ℕ) (i i' o o' f f' : Option (List ℕ)) → Type 0
+abbrev pub IsPageTold : PageCommand → (status : ℕ) (i i' o o' f f' : Option (List ℕ)) → Type 0
 IsPageTold c status i i' o o' f f' = (mid : Option (List ℕ))
     × IsProgressTold (record { is_shown = c.progress; all = None }) (ShowsProgress c.progress) f mid × IsPageEnded c status i i' o o' mid f'

@@ -13,7 +13,7 @@ use std::io;
 
 /// The command `capture`, with its words.
 #[derive(Clone, Copy)]
-pub struct Capture<'a> {
+pub struct CaptureCommand<'a> {
     /// The name of the capture.
     pub file: &'a str,
     /// The word of the Router ID, if there is one. Without a file, the beginning is made for this
@@ -27,7 +27,7 @@ pub struct Capture<'a> {
     pub options: Options,
 }
 
-impl<'a> Capture<'a> {
+impl<'a> CaptureCommand<'a> {
     /// Reads the capture from `input`, and writes its recording to `out`.
     ///
     /// The faults of the capture, how much was found, and the reason if there is no whole recording

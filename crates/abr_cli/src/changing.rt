@@ -2,7 +2,7 @@
 ghost use Rattle.std.specs.Prelude.{◌≡◌, IfOk, IfErr};
 ghost use Rattle.cli_queries.specs.declared.command_fault.CommandFault.TheVariants as fault;
 ghost use Rattle.cli_queries.specs.declared.argument_values.WordFault.TheVariants.{NotANetwork};
-ghost use Rattle.abr_cli.specs.Changing.{Asks, IsChangesTold, LacksNetwork, telling_of};
+ghost use Rattle.abr_cli.specs.Changing.{AsksForChanges, IsChangesTold, LacksNetwork, telling_of};
 
 use crate::replaying::{say_end, say_fault};
 use change_log::{ChangeFilter, ChangeOptions, print_changes};
@@ -17,7 +17,7 @@ use worker_replay::WorkerReplayFault;
 
 /// The command `changes` or `follow`, with its words.
 #[derive(Clone, Copy)]
-pub struct Changes<'a> {
+pub struct ChangesCommand<'a> {
     /// The name of the recording.
     pub file: &'a str,
     /// The word of the one network that is wanted, or `None` if all are.
@@ -33,7 +33,7 @@ pub struct Changes<'a> {
     pub progress: Progress,
 }
 
-impl Changes<'_> {
+impl ChangesCommand<'_> {
     /// Runs the recording from `input`, and writes to `out` what each of its events changed.
     ///
     /// The progress, and the reason for an early end, are written to `faults`. Returns the status.
@@ -81,7 +81,7 @@ impl Changes<'_> {
 
 // Parses the word of the network, if there is one.
 fn asked(word: Option<&str>) -> Result<Option<Prefix>, CommandFault<'static>>
-    ensures asked { IfOk result (Asks word.entry) }
+    ensures asked { IfOk result (AsksForChanges word.entry) }
     ensures lacks { IfErr result (λ e. (e ≡ fault.Word NotANetwork) × LacksNetwork word.entry) }
 {
     let Some(word) = word else {

@@ -1,15 +1,15 @@
 //! The dispatch from the words of the program to its commands.
 ghost use Rattle.std.specs.Prelude.{◌≡◌, IfOk, codes};
-ghost use Rattle.cli_args.specs.Command.{AreWorkers, IsFit};
-ghost use Rattle.abr_cli.specs.Jobs.{HasFitWorkers, IsAsked, IsJobTold, IsTold, capture_asked};
+ghost use Rattle.cli_args.specs.Command.{AreWorkers, IsJobFit};
+ghost use Rattle.abr_cli.specs.Jobs.{HasFitWorkers, IsAsked, IsJobTold, IsCommandDone, capture_asked};
 ghost use Rattle.abr_cli.specs.Jobs.{changes_asked, explain_asked, follow_asked, page_asked};
 ghost use Rattle.abr_cli.specs.Jobs.{replay_asked, shown_progress};
 
-use crate::capturing::Capture;
-use crate::changing::Changes;
-use crate::explaining::Explain;
-use crate::paging::Page;
-use crate::replaying::Replay;
+use crate::capturing::CaptureCommand;
+use crate::changing::ChangesCommand;
+use crate::explaining::ExplainCommand;
+use crate::paging::PageCommand;
+use crate::replaying::ReplayCommand;
 use capture_recording::Options;
 use cli_args::{CaptureWords, Job, OneWords, Usage};
 use cli_queries::{answer_usage, decode, fault, one, print_answer};
@@ -47,7 +47,7 @@ impl Invocation<'_> {
         out: &mut W,
         faults: &mut F,
     ) -> u8
-        requires { IfOk self.job IsFit }
+        requires { IfOk self.job IsJobFit }
         ensures { IsJobTold self.entry.progress self.entry.beginning self.entry.job result
             (R.remaining input.old) (R.remaining input.new) (W.contents out.old)
             (W.contents out.new) (F.contents faults.old) (F.contents faults.new) }
@@ -70,65 +70,65 @@ impl Invocation<'_> {
 
 // A command with its words.
 #[derive(Clone, Copy)]
-pub(crate) enum Asked<'a> {
+pub(crate) enum AnyCommand<'a> {
     One(OneWords<'a>),
     Decode { word: &'a str, long: bool },
-    Replay(Replay<'a>),
-    Changes(Changes<'a>),
-    Explain(Explain<'a>),
-    Page(Page<'a>),
-    Capture(Capture<'a>),
+    Replay(ReplayCommand<'a>),
+    Changes(ChangesCommand<'a>),
+    Explain(ExplainCommand<'a>),
+    Page(PageCommand<'a>),
+    Capture(CaptureCommand<'a>),
     Fault(&'a str),
 }
 
 // Returns the command that the job asks for.
-fn asked_of<'a>(job: Job<'a>, own: Progress, beginning: Option<&'a [u8]>) -> Asked<'a>
-    requires { IsFit job }
+fn asked_of<'a>(job: Job<'a>, own: Progress, beginning: Option<&'a [u8]>) -> AnyCommand<'a>
+    requires { IsJobFit job }
     ensures asked { IsAsked own beginning.entry job.entry result }
     ensures workers { HasFitWorkers result }
 {
     match job {
-        Job::One(words) => Asked::One(words),
-        Job::Decode { word, long } => Asked::Decode { word, long },
+        Job::One(words) => AnyCommand::One(words),
+        Job::Decode { word, long } => AnyCommand::Decode { word, long },
         Job::Replay {
             file,
             workers,
             show,
             format,
             progress,
-        } => Asked::Replay(replay_of(file, workers, show, format, shown(progress, own))),
+        } => AnyCommand::Replay(replay_of(file, workers, show, format, shown(progress, own))),
         Job::Changes {
             file,
             only,
             format,
             progress,
-        } => Asked::Changes(changes_of(file, only, format, shown(progress, own))),
+        } => AnyCommand::Changes(changes_of(file, only, format, shown(progress, own))),
         Job::Follow {
             only,
             strict,
             format,
-        } => Asked::Changes(follow_of(only, strict, format)),
+        } => AnyCommand::Changes(follow_of(only, strict, format)),
         Job::Explain {
             file,
             address,
             due,
             format,
             progress,
-        } => Asked::Explain(explain_of(file, address, due, format, shown(progress, own))),
+        } => AnyCommand::Explain(explain_of(file, address, due, format, shown(progress, own))),
         Job::Page {
             file,
             output,
             progress,
-        } => Asked::Page(page_of(file, output, shown(progress, own))),
-        Job::Capture(words) => Asked::Capture(capture_of(words, beginning)),
-        Job::Fault(word) => Asked::Fault(word),
+        } => AnyCommand::Page(page_of(file, output, shown(progress, own))),
+        Job::Capture(words) => AnyCommand::Capture(capture_of(words, beginning)),
+        Job::Fault(word) => AnyCommand::Fault(word),
     }
 }
 
 // A command to carry out.
 #[derive(Clone, Copy)]
 struct Doing<'a> {
-    asked: Asked<'a>,
+    asked: AnyCommand<'a>,
     hashing: RandomState,
 }
 
@@ -142,20 +142,20 @@ fn do_asked<S: Threads + Wait + Sync, R: io::Read, W: io::Write, F: io::Write>(
     faults: &mut F,
 ) -> u8
     requires { HasFitWorkers doing.asked }
-    ensures { IsTold doing.entry.asked result (R.remaining input.old) (R.remaining input.new)
+    ensures { IsCommandDone doing.entry.asked result (R.remaining input.old) (R.remaining input.new)
         (W.contents out.old) (W.contents out.new) (F.contents faults.old)
         (F.contents faults.new) }
 {
     let Doing { asked, hashing } = doing;
     match asked {
-        Asked::One(words) => one(rt, alloc, hashing, &words, out, faults),
-        Asked::Decode { word, long } => decode(alloc, word, long, out, faults),
-        Asked::Replay(replay) => replay.run(rt, alloc, hashing, input, out, faults),
-        Asked::Changes(changes) => changes.run(alloc, hashing, input, out, faults),
-        Asked::Explain(explain) => explain.run(alloc, hashing, input, out, faults),
-        Asked::Page(page) => page.run(alloc, hashing, input, out, faults),
-        Asked::Capture(capture) => capture.run(alloc, hashing, input, out, faults),
-        Asked::Fault(word) => fault(alloc, word, out, faults),
+        AnyCommand::One(words) => one(rt, alloc, hashing, &words, out, faults),
+        AnyCommand::Decode { word, long } => decode(alloc, word, long, out, faults),
+        AnyCommand::Replay(replay) => replay.run(rt, alloc, hashing, input, out, faults),
+        AnyCommand::Changes(changes) => changes.run(alloc, hashing, input, out, faults),
+        AnyCommand::Explain(explain) => explain.run(alloc, hashing, input, out, faults),
+        AnyCommand::Page(page) => page.run(alloc, hashing, input, out, faults),
+        AnyCommand::Capture(capture) => capture.run(alloc, hashing, input, out, faults),
+        AnyCommand::Fault(word) => fault(alloc, word, out, faults),
     }
 }
 
@@ -166,7 +166,7 @@ fn replay_of(
     show: Show,
     format: Format,
     progress: Progress,
-) -> Replay<'_>
+) -> ReplayCommand<'_>
     requires { AreWorkers workers }
     ensures asked { result ≡ replay_asked file.entry workers show format progress.is_shown }
     ensures workers { AreWorkers result.options.workers }
@@ -177,7 +177,7 @@ fn replay_of(
         progress: progress.is_shown,
     };
     let options = ReplayOptions { workers, printing };
-    Replay { file, options }
+    ReplayCommand { file, options }
 }
 
 // Returns the program's own progress, shown also if the words ask for it.
@@ -196,10 +196,10 @@ fn changes_of<'a>(
     only: Option<&'a str>,
     format: Format,
     progress: Progress,
-) -> Changes<'a>
+) -> ChangesCommand<'a>
     ensures { result ≡ changes_asked file.entry only.entry format progress }
 {
-    Changes {
+    ChangesCommand {
         file,
         only,
         format,
@@ -216,10 +216,10 @@ fn explain_of<'a>(
     due: Option<&'a str>,
     format: Format,
     progress: Progress,
-) -> Explain<'a>
+) -> ExplainCommand<'a>
     ensures { result ≡ explain_asked file.entry address.entry due.entry format progress }
 {
-    Explain {
+    ExplainCommand {
         file,
         address,
         due,
@@ -229,10 +229,10 @@ fn explain_of<'a>(
 }
 
 // Returns the command `page`. A recording that is read whole has a known number of lines.
-fn page_of<'a>(file: &'a str, output: Option<&'a str>, progress: Progress) -> Page<'a>
+fn page_of<'a>(file: &'a str, output: Option<&'a str>, progress: Progress) -> PageCommand<'a>
     ensures { result ≡ page_asked file.entry output.entry progress }
 {
-    Page {
+    PageCommand {
         file,
         output,
         progress: progress.is_shown,
@@ -240,14 +240,14 @@ fn page_of<'a>(file: &'a str, output: Option<&'a str>, progress: Progress) -> Pa
 }
 
 // Returns the command `capture`.
-fn capture_of<'a>(words: CaptureWords<'a>, beginning: Option<&'a [u8]>) -> Capture<'a>
+fn capture_of<'a>(words: CaptureWords<'a>, beginning: Option<&'a [u8]>) -> CaptureCommand<'a>
     ensures { result ≡ capture_asked words.entry beginning.entry }
 {
     let options = Options {
         keeps_all: words.keeps_all,
         without_seconds: words.without_seconds,
     };
-    Capture {
+    CaptureCommand {
         file: words.file,
         router: words.router,
         begin: words.begin,
@@ -258,11 +258,11 @@ fn capture_of<'a>(words: CaptureWords<'a>, beginning: Option<&'a [u8]>) -> Captu
 
 // Returns the command `follow`. It reads standard input, reports the outcome of each line, and
 // skips faults unless it is strict.
-fn follow_of<'a>(only: Option<&'a str>, strict: bool, format: Format) -> Changes<'a>
+fn follow_of<'a>(only: Option<&'a str>, strict: bool, format: Format) -> ChangesCommand<'a>
     ensures file { result.file.now ≡ codes "-" }
     ensures asked { result ≡ follow_asked result.file only.entry strict format }
 {
-    Changes {
+    ChangesCommand {
         file: "-",
         only,
         format,

@@ -1,7 +1,7 @@
 //! The command `explain`.
 ghost use Rattle.std.specs.Prelude.{◌≡◌, IfErr, IfOk, OnErr};
 ghost use Rattle.cli_queries.specs.Words.{IsAddress, IsNoNetwork};
-ghost use Rattle.abr_cli.specs.Explaining.{Asks, IsExplainTold, IsWordFault, WritesDest};
+ghost use Rattle.abr_cli.specs.Explaining.{AsksToExplain, IsExplainTold, IsWordFault, WritesDest};
 
 use crate::replaying::{say_end, say_fault};
 use cli_queries::{CommandFault, WordFault, read_address, read_network};
@@ -16,7 +16,7 @@ use worker_replay::WorkerReplayFault;
 
 /// The command `explain`, with its words.
 #[derive(Clone, Copy)]
-pub struct Explain<'a> {
+pub struct ExplainCommand<'a> {
     /// The name of the recording.
     pub file: &'a str,
     /// The word of the address. If an area is given, it is the word of a network, or of the Router
@@ -30,7 +30,7 @@ pub struct Explain<'a> {
     pub progress: bool,
 }
 
-impl Explain<'_> {
+impl ExplainCommand<'_> {
     /// Runs the recording from `input`, and writes the explanation to `out`.
     ///
     /// The progress, and the reason if there is no explanation, are written to `faults`. Returns
@@ -72,7 +72,7 @@ impl Explain<'_> {
 
 // Returns the question that the words ask.
 fn question_of(address: &str, due: Option<&str>) -> Result<Question, WordFault>
-    ensures asks { IfOk result (Asks address.now due.entry) }
+    ensures asks { IfOk result (AsksToExplain address.now due.entry) }
     ensures fault { IfErr result (IsWordFault address.now due.entry) }
 {
     let Some(area) = due else {

@@ -22,17 +22,17 @@ mod explaining;
 mod paging;
 mod replaying;
 
-pub use capturing::Capture;
-pub use changing::Changes;
+pub use capturing::CaptureCommand;
+pub use changing::ChangesCommand;
 pub use cli_args::{CaptureWords, Job, OneWords, Usage, job};
 pub use cli_queries::{
-    Answer, CommandFault, answer_decode, answer_number, answer_one, answer_usage, decode, fault,
-    one, print_answer,
+    CommandAnswer, CommandFault, answer_decode, answer_number, answer_one, answer_usage, decode,
+    fault, one, print_answer,
 };
 pub use dispatch::Invocation;
-pub use explaining::Explain;
+pub use explaining::ExplainCommand;
 pub use output_lines::{Format, Show};
-pub use paging::Page;
+pub use paging::PageCommand;
 pub use replay::{PrintOptions, Progress, ReplayFault, replay_one};
-pub use replaying::{Replay, say_fault};
+pub use replaying::{ReplayCommand, say_fault};
 pub use worker_replay::{ReplayOptions, WorkerReplayFault, replay_many};

@@ -13,7 +13,7 @@ use worker_replay::WorkerReplayFault;
 
 /// The command `page`, with its words.
 #[derive(Clone, Copy)]
-pub struct Page<'a> {
+pub struct PageCommand<'a> {
     /// The name of the recording.
     pub file: &'a str,
     /// The name of the file that the page is written to, or `None` for standard output.
@@ -22,7 +22,7 @@ pub struct Page<'a> {
     pub progress: bool,
 }
 
-impl Page<'_> {
+impl PageCommand<'_> {
     /// Runs the recording from `input`, and writes its page to `out`.
     ///
     /// The progress, and the reason if there is no page, are written to `faults`. The reason names

@@ -18,13 +18,13 @@ use worker_replay::{ReplayOptions, WorkerReplayFault, replay_many};
 
 /// The command `replay`, with its words.
 #[derive(Clone, Copy)]
-pub struct Replay<'a> {
+pub struct ReplayCommand<'a> {
     /// The name of the recording.
     pub file: &'a str,
     pub options: ReplayOptions,
 }
 
-impl Replay<'_> {
+impl ReplayCommand<'_> {
     /// Runs the recording from `input`. Its output, and the state that the options name, are
     /// written to `out`.
     ///

@@ -25,7 +25,7 @@ use thiserror::Error;
 
 /// A command, and its expected results.
 #[derive(Debug)]
-pub struct Row<'a> {
+pub struct TestRow<'a> {
     /// The line at which the row begins, counted from 1.
     pub line: usize,
     pub words: Vec<&'a str>,
@@ -41,9 +41,9 @@ pub struct Row<'a> {
 }
 
 // proof: a value is dropped by one call, not part by part at each exit of a function.
-impl<'a> Drop for Row<'a> {
+impl<'a> Drop for TestRow<'a> {
     fn drop(self) {
-        let Row {
+        let TestRow {
             line: _,
             words: _words,
             input: _input,
@@ -88,7 +88,7 @@ where
 /// # Errors
 ///
 /// Returns the first line that is not valid, or `Memory` if memory runs out.
-pub fn read_rows<'a>(alloc: Global, text: &'a str) -> Result<Vec<Row<'a>>, RowFault> {
+pub fn read_rows<'a>(alloc: Global, text: &'a str) -> Result<Vec<TestRow<'a>>, RowFault> {
     let mut rows = Vec::new(alloc);
     let mut open = None;
     let mut number = 0usize;
@@ -97,8 +97,8 @@ pub fn read_rows<'a>(alloc: Global, text: &'a str) -> Result<Vec<Row<'a>>, RowFa
         open = match open {
             None => begin_row(alloc, number, line)?,
             Some(row) => match go_on(row, rows.last(), number, line)? {
-                Step::Open(row) => Some(row),
-                Step::Ended(row) => {
+                RowState::Open(row) => Some(row),
+                RowState::Ended(row) => {
                     rows.push(row)?;
                     None
                 }
@@ -110,20 +110,24 @@ pub fn read_rows<'a>(alloc: Global, text: &'a str) -> Result<Vec<Row<'a>>, RowFa
 
 // A row that is open, or that has ended.
 #[derive(Drop)]
-enum Step<'a> {
-    Open(Row<'a>),
-    Ended(Row<'a>),
+enum RowState<'a> {
+    Open(TestRow<'a>),
+    Ended(TestRow<'a>),
 }
 
 // Returns the row that the line begins, or `None` if the line is empty or a remark.
-fn begin_row<'a>(alloc: Global, number: usize, line: &'a str) -> Result<Option<Row<'a>>, RowFault> {
+fn begin_row<'a>(
+    alloc: Global,
+    number: usize,
+    line: &'a str,
+) -> Result<Option<TestRow<'a>>, RowFault> {
     if line.is_empty() || line.starts_with('#') {
         return Ok(None);
     }
     let Some(rest) = line.strip_prefix('$') else {
         return Err(RowFault::Line(number));
     };
-    Ok(Some(Row {
+    Ok(Some(TestRow {
         line: number,
         words: words_of(alloc, rest)?,
         input: Vec::new(alloc),
@@ -156,17 +160,17 @@ fn words_of<'a>(alloc: Global, text: &'a str) -> Result<Vec<&'a str>, RowFault> 
 
 // Adds a line to the row. `before` is the row before it, if there is one.
 fn go_on<'a>(
-    mut row: Row<'a>,
-    before: Option<&Row<'a>>,
+    mut row: TestRow<'a>,
+    before: Option<&TestRow<'a>>,
     number: usize,
     line: &str,
-) -> Result<Step<'a>, RowFault> {
+) -> Result<RowState<'a>, RowFault> {
     if let Some(status) = line.strip_prefix("= ") {
         row.status = status.parse().map_err(|_| RowFault::Line(number))?;
-        return Ok(Step::Ended(row));
+        return Ok(RowState::Ended(row));
     }
     if add_input(&mut row.input, number, line)? || add_wanted(&mut row, number, line)? {
-        return Ok(Step::Open(row));
+        return Ok(RowState::Open(row));
     }
     if let Some(text) = line.strip_prefix("b ") {
         add_line(&mut row.beginning, text)?;
@@ -181,7 +185,7 @@ fn go_on<'a>(
     } else {
         return Err(RowFault::Line(number));
     }
-    Ok(Step::Open(row))
+    Ok(RowState::Open(row))
 }
 
 // Adds the line's part of the input. Returns false if the line is not part of the input.
@@ -203,7 +207,7 @@ fn add_input(input: &mut Vec<u8>, number: usize, line: &str) -> Result<bool, Row
 }
 
 // Adds the line's expected output. Returns false if the line is not part of it.
-fn add_wanted(row: &mut Row<'_>, number: usize, line: &str) -> Result<bool, RowFault> {
+fn add_wanted(row: &mut TestRow<'_>, number: usize, line: &str) -> Result<bool, RowFault> {
     if let Some(text) = line.strip_prefix(">* ") {
         add_often(&mut row.output, number, text, "")?;
     } else if let Some(text) = line.strip_prefix(">+ ") {

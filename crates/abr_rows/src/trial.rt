@@ -1,7 +1,7 @@
 //! One row, and how it is run.
 
 use crate::input::Input;
-use crate::row::Row;
+use crate::row::TestRow;
 use abr_cli::{Invocation, Progress, job};
 use std::alloc::{AllocError, Global};
 use std::hash::RandomState;
@@ -23,7 +23,7 @@ pub fn is_as_wanted<S: Threads + Wait + Sync>(
     rt: &S,
     alloc: Global,
     hashing: RandomState,
-    row: &Row<'_>,
+    row: &TestRow<'_>,
 ) -> Result<bool, AllocError> {
     let mut input = if row.is_readable {
         Input::Bytes(row.input.as_slice())

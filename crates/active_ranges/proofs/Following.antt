@@ -18,23 +18,23 @@ use Rattle.spf.proofs.OfSome.{contains_more}
 use Rattle.intra.specs.Intras.{EntriesByPrefix}
 use Rattle.intra.proofs.Following.{one_or_other}
 use Rattle.active_ranges.specs.Active.{ActiveValue, AreRangesOf, DiffersAt, EntriesDifferAmong, IsConfigured, IsMember, member_cmp}
-use Rattle.active_ranges.specs.Following.{AreFollowed, HasTurned, IsCostIn, IsNamed, IsNotedOf}
+use Rattle.active_ranges.specs.Following.{AreMembersFollowed, HasTurned, IsCostIn, IsNamed, IsNotedOf}
 use Rattle.active_ranges.specs.declared.active.Noted.{Noted}
 use Rattle.active_ranges.specs.declared.member.RangeMember.{RangeMember}
 use Rattle.active_ranges.proofs.Members.{member_total, member_exact}
 
 -- ---- member by member
 
-pub followed_none : (entries : EntriesByPrefix) (v : ActiveValue) → AreFollowed entries [] v v
+pub followed_none : (entries : EntriesByPrefix) (v : ActiveValue) → AreMembersFollowed entries [] v v
 followed_none entries v = record {
   spent = refl;
   here = λ m c. absurd (no_element m c);
   others = λ m absent. refl;
 }
 
-pub followed_more : (entries : EntriesByPrefix) (old mid new : ActiveValue) (named : List RangeMember) (i : ℕ) (member : RangeMember) → i < length named → member ≡ get_or named i member → AreFollowed entries (take i named) old mid
+pub followed_more : (entries : EntriesByPrefix) (old mid new : ActiveValue) (named : List RangeMember) (i : ℕ) (member : RangeMember) → i < length named → member ≡ get_or named i member → AreMembersFollowed entries (take i named) old mid
     → new.spent ≡ mid.spent → ((cost : ℕ) → (get new.members member ≡ Some cost) ↔ IsCostIn (get entries member.network) member.area cost)
-    → ((m : RangeMember) → m ≢ member → get new.members m ≡ get mid.members m) → AreFollowed entries (take (i + 1) named) old new
+    → ((m : RangeMember) → m ≢ member → get new.members m ≡ get mid.members m) → AreMembersFollowed entries (take (i + 1) named) old new
 followed_more entries old mid new named i member lt at first spent here others = record {
   spent = spent ∙ first.spent;
   here = λ m c cost. elim (one_or_other member_total member_exact member m) [
@@ -48,8 +48,8 @@ followed_more entries old mid new named i member lt at first spent here others =
       others m (λ e. absent (more.1 (inr e))) ∙ first.others m (λ c. absent (more.1 (inl c)));
 }
 
-pub followed_all : (entries : EntriesByPrefix) (old new : ActiveValue) (named : List RangeMember) (i : ℕ) → length named ≤ i → AreFollowed entries (take i named) old new → AreFollowed entries named old new
-followed_all entries old new named i past followed = subst (λ (ms : List RangeMember). AreFollowed entries ms old new) (take_all i named past) followed
+pub followed_all : (entries : EntriesByPrefix) (old new : ActiveValue) (named : List RangeMember) (i : ℕ) → length named ≤ i → AreMembersFollowed entries (take i named) old new → AreMembersFollowed entries named old new
+followed_all entries old new named i past followed = subst (λ (ms : List RangeMember). AreMembersFollowed entries ms old new) (take_all i named past) followed
 
 -- a member that is none has no cost
 pub left_here : (new : ActiveValue) (member : RangeMember) → get new.members member ≡ None → (cost : ℕ) → (get new.members member ≡ Some cost) ↔ IsCostIn (get (empty {R = network_cmp}) member.network) member.area cost
@@ -72,7 +72,7 @@ among_or_not {K = K} total exact (y ∷ ys) x = elim (one_or_other total exact y
 ]
 
 module _ (areas : List AreaConfig) (dests : List Dest) (before entries : EntriesByPrefix) (old new : ActiveValue) (named : List RangeMember) (was : AreRangesOf areas before old)
-    (differ : EntriesDifferAmong dests before entries) (exact : (m : RangeMember) → Contains named m ↔ IsNamed areas dests m) (followed : AreFollowed entries named old new) where
+    (differ : EntriesDifferAmong dests before entries) (exact : (m : RangeMember) → Contains named m ↔ IsNamed areas dests m) (followed : AreMembersFollowed entries named old new) where
   -- a member that is named
   at_named : (m : RangeMember) (cost : ℕ) → Contains named m → (get new.members m ≡ Some cost) ↔ IsMember areas entries m cost
   at_named m cost c =
@@ -115,7 +115,7 @@ module _ (old new : ActiveValue) (noted : List Noted) (notes : (n : Noted) → C
       let here : DiffersAt old new from.0.prefix = subst (λ (q : Prefix). DiffersAt old new q) (sym from.2) d in
       (exact p).1 (from.0, from.1, from.2, elim here [ inl left ↦ inl (note.1 left.0, left.1) | inr came ↦ inr (λ active. came.0 (note.0 active), came.1) ])
 
-module _ (entries : EntriesByPrefix) (old new : ActiveValue) (named : List RangeMember) (followed : AreFollowed entries named old new) (touched : List Prefix)
+module _ (entries : EntriesByPrefix) (old new : ActiveValue) (named : List RangeMember) (followed : AreMembersFollowed entries named old new) (touched : List Prefix)
     (ranges : (p : Prefix) → Contains touched p ↔ Contains (map (λ (m : RangeMember). m.range) named) p) (noted : List Noted) (listed : map (λ (n : Noted). n.prefix) noted ≡ touched)
     (notes : (n : Noted) → Contains noted n → IsNotedOf old n) (turned : List Prefix)
     (exact : (p : Prefix) → Contains turned p ↔ ((n : Noted) × Contains noted n × (n.prefix ≡ p) × HasTurned new n)) where

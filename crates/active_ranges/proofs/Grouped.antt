@@ -21,7 +21,7 @@ use Rattle.ospf_types.proofs.Maps.{get-lookup}
 use Rattle.ospf_types.proofs.Orders.{network_total, network_exact}
 use Rattle.intra.proofs.Following.{one_or_other}
 use Rattle.active_ranges.specs.Active.{ActiveValue, member_cmp}
-use Rattle.active_ranges.specs.Grouped.{Networks, NetworksByRange, is_elsewhere, member_in, member_of, members_in, range_cmp, range_of}
+use Rattle.active_ranges.specs.Grouped.{RangeNetworksValue, NetworksByRange, is_elsewhere, member_in, member_of, members_in, range_cmp, range_of}
 use Rattle.active_ranges.specs.declared.member.AreaRange.{AreaRange}
 use Rattle.active_ranges.specs.declared.member.RangeMember.{RangeMember}
 use Rattle.active_ranges.proofs.Members.{member_total, member_exact}
@@ -51,7 +51,7 @@ or_none (Some x) = refl
 -- ---- the cost of a member
 
 -- of its network, where the range has networks
-abbrev pub cost_among : Option Networks → Prefix → Option ℕ
+abbrev pub cost_among : Option RangeNetworksValue → Prefix → Option ℕ
 cost_among None network = None
 cost_among (Some networks) network = lookup (is_at (network_cmp network)) networks.entries
 
@@ -80,7 +80,7 @@ in_range m r (e ∷ es) =
     ap (λ (b : Bool). cond b (Some e.1) (lookup (is_at (member_cmp m)) (map (member_in r) es))) (both_equal (network_cmp m.range r.prefix) (nat_cmp m.area r.area) (network_cmp m.network e.0))
     ∙ among_one (of_member m r) (is_at (network_cmp m.network) e.0) (lookup (is_at (network_cmp m.network)) es) (lookup (is_at (member_cmp m)) (map (member_in r) es)) e.1 (in_range m r es)
 
-this_or_others : (b : Bool) (here : Option ℕ) (networks : Networks) (others : Option ℕ) (rest : Option Networks) (network : Prefix) → here ≡ lookup (is_at (network_cmp network)) networks.entries → others ≡ cost_among rest network
+this_or_others : (b : Bool) (here : Option ℕ) (networks : RangeNetworksValue) (others : Option ℕ) (rest : Option RangeNetworksValue) (network : Prefix) → here ≡ lookup (is_at (network_cmp network)) networks.entries → others ≡ cost_among rest network
     → option_or (cond b here None) (cond (not b) others None) ≡ cost_among (cond b (Some networks) rest) network
 this_or_others true here networks others rest network is are = or_none here ∙ is
 this_or_others false here networks others rest network is are = are
@@ -105,23 +105,23 @@ found rs spent m = get-lookup member_total (members_in rs) m ∙ found_in m rs
 
 -- ---- one range has other networks
 
-module _ (es fs : NetworksByRange) (was is : Bool) (r : AreaRange) (new : Option Networks)
+module _ (es fs : NetworksByRange) (was is : Bool) (r : AreaRange) (new : Option RangeNetworksValue)
     (updates : (q : AreaRange) → lookup (is_at (range_cmp q)) fs ≡ cond (is_at (range_cmp r) q) new (lookup (is_at (range_cmp q)) es)) where
   -- its members have costs of them
   pub changed_here : (m : RangeMember) → range_of m ≡ r → get (ranges_value fs is).members m ≡ cost_among new m.network
   changed_here m same =
-      found fs is m ∙ ap (λ (o : Option Networks). cost_among o m.network) (updates (range_of m) ∙ ap (λ (b : Bool). cond b new (lookup (is_at (range_cmp (range_of m))) es)) (ap (is_at (range_cmp r)) same ∙ (eq_by_cmp_equiv range_total).refl r))
+      found fs is m ∙ ap (λ (o : Option RangeNetworksValue). cost_among o m.network) (updates (range_of m) ∙ ap (λ (b : Bool). cond b new (lookup (is_at (range_cmp (range_of m))) es)) (ap (is_at (range_cmp r)) same ∙ (eq_by_cmp_equiv range_total).refl r))
 
   -- and the others what they had
   pub changed_elsewhere : (m : RangeMember) → (range_of m ≡ r → ⊥) → get (ranges_value fs is).members m ≡ get (ranges_value es was).members m
   changed_elsewhere m other =
       let apart : is_at (range_cmp r) (range_of m) ≡ false =
       elim (is_at (range_cmp r) (range_of m)) as (λ b. is_at (range_cmp r) (range_of m) ≡ b → b ≡ false) [ true ↦ λ tied. absurd (other (sym (tells_apart range_exact r (range_of m) tied))) | false ↦ λ tied. refl ] refl in
-      found fs is m ∙ ap (λ (o : Option Networks). cost_among o m.network) (updates (range_of m) ∙ ap (λ (b : Bool). cond b new (lookup (is_at (range_cmp (range_of m))) es)) apart) ∙ sym (found es was m)
+      found fs is m ∙ ap (λ (o : Option RangeNetworksValue). cost_among o m.network) (updates (range_of m) ∙ ap (λ (b : Bool). cond b new (lookup (is_at (range_cmp (range_of m))) es)) apart) ∙ sym (found es was m)
 
 -- ---- one member has another cost
 
-module _ (es fs : NetworksByRange) (was is : Bool) (member : RangeMember) (cost : Option ℕ) (had : Option Networks) (new : Networks) (stood : lookup (is_at (range_cmp (range_of member))) es ≡ had)
+module _ (es fs : NetworksByRange) (was is : Bool) (member : RangeMember) (cost : Option ℕ) (had : Option RangeNetworksValue) (new : RangeNetworksValue) (stood : lookup (is_at (range_cmp (range_of member))) es ≡ had)
     (updates : (q : AreaRange) → lookup (is_at (range_cmp q)) fs ≡ cond (is_at (range_cmp (range_of member)) q) (Some new) (lookup (is_at (range_cmp q)) es))
     (within : (q : Prefix) → lookup (is_at (network_cmp q)) new.entries ≡ cond (is_at (network_cmp member.network) q) cost (cost_among had q)) where
   pub put_here : get (ranges_value fs is).members member ≡ cost
@@ -142,12 +142,12 @@ module _ (es fs : NetworksByRange) (was is : Bool) (member : RangeMember) (cost 
         ] refl in
         changed_here es fs was is (range_of member) (Some new) updates m same ∙ within m.network
         ∙ ap (λ (b : Bool). cond b cost (cost_among had m.network)) network_apart
-        ∙ ap (λ (o : Option Networks). cost_among o m.network) (sym stood ∙ ap (λ (r : AreaRange). lookup (is_at (range_cmp r)) es) (sym same)) ∙ sym (found es was m)
+        ∙ ap (λ (o : Option RangeNetworksValue). cost_among o m.network) (sym stood ∙ ap (λ (r : AreaRange). lookup (is_at (range_cmp r)) es) (sym same)) ∙ sym (found es was m)
   ]
 
 -- ---- the first member of a range
 
-module _ (es fs : NetworksByRange) (was is : Bool) (r : AreaRange) (network : Prefix) (cost : ℕ) (none new : Networks) (empty : none.entries ≡ [])
+module _ (es fs : NetworksByRange) (was is : Bool) (r : AreaRange) (network : Prefix) (cost : ℕ) (none new : RangeNetworksValue) (empty : none.entries ≡ [])
     (within : (q : Prefix) → lookup (is_at (network_cmp q)) new.entries ≡ cond (is_at (network_cmp network) q) (Some cost) (lookup (is_at (network_cmp q)) none.entries))
     (updates : (q : AreaRange) → lookup (is_at (range_cmp q)) fs ≡ cond (is_at (range_cmp r) q) (Some new) (lookup (is_at (range_cmp q)) es)) where
   alone : (q : Prefix) → lookup (is_at (network_cmp q)) new.entries ≡ cond (is_at (network_cmp network) q) (Some cost) None

@@ -4,7 +4,7 @@ use Rattle.std.specs.Prelude.{◌↔◌, Contains, IsTrue, is_some}
 use Rattle.ospf_types.specs.declared.prefix.Prefix.{Prefix}
 use Rattle.ospf_types.proofs.Elements.{first_element}
 use Rattle.ospf_types.proofs.KeyOrders.{prefixes_equal, prefixes_decided}
-use Rattle.active_ranges.specs.Grouped.{Networks}
+use Rattle.active_ranges.specs.Grouped.{RangeNetworksValue}
 
 pub are_apart : (p q : Prefix) (b : Bool) → b ≡ not (prefixes_equal p q) → b ≡ true → p ≢ q
 are_apart p q b is differ same = absurd (let wrong : true ≡ false = sym differ ∙ is ∙ ap not ((prefixes_decided p q).1 same) in cc)
@@ -16,7 +16,7 @@ so_if false is = absurd cc
 pub are_one : (p q : Prefix) (b : Bool) → b ≡ not (prefixes_equal p q) → b ≡ false → p ≡ q
 are_one p q b is alike = (prefixes_decided p q).0 (so_if (prefixes_equal p q) (sym is ∙ alike))
 
-module _ (networks : Networks) (b : Bool) (tells : IsTrue b ↔ (networks.entries ≡ [])) where
+module _ (networks : RangeNetworksValue) (b : Bool) (tells : IsTrue b ↔ (networks.entries ≡ [])) where
   pub no_entries : b ≡ true → networks.entries ≡ []
   no_entries is = tells.0 is
 

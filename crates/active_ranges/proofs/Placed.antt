@@ -22,7 +22,7 @@ use Rattle.ospf_types.specs.Network.{network_cmp}
 use Rattle.ospf_types.proofs.Elements.{first_element, no_element}
 use Rattle.ospf_types.proofs.InOrder.{only_item, sorted_insert}
 use Rattle.ospf_types.proofs.Orders.{network_total, network_exact}
-use Rattle.active_ranges.specs.Grouped.{AreMadeOf, IsAt, IsGapFor, IsPutIn, Networks}
+use Rattle.active_ranges.specs.Grouped.{AreMadeOf, IsNetworkAt, IsGapFor, IsPutIn, RangeNetworksValue}
 use Rattle.active_ranges.proofs.Grouped.{lookup_in_two}
 
 abbrev pub Entries : Type 0
@@ -114,7 +114,7 @@ pub record IsEdited (es : Entries) (k : Prefix) (cost : Option ℕ) (new : Entri
   pub in_order : AreInOrder new
 
 module _ (es : Entries) (ordered : AreInOrder es) (k : Prefix) where
-  module _ (at : ℕ) (place : IsAt es k at) where
+  module _ (at : ℕ) (place : IsNetworkAt es k at) where
     abbrev low : Entries
     low = take at es
 
@@ -225,7 +225,7 @@ module _ (es : Entries) (ordered : AreInOrder es) (k : Prefix) where
   searchable = searchable_from_sorted network_total (λ e. e.0) es k (λ j e low high. ap is_lt (turned (get_or es j e).0 (get_or es (j + 1) e).0 (less_at es ordered j (j + 1) e (omega arith) high)))
 
   -- it ends at the network, or where that would go
-  pub searched : (r : Result ℕ ℕ) → IsSearchInRange r (length es) → IsBinarySearchResult (λ e. network_cmp e.0 k) es r → record { found : IfOk r (IsAt es k); absent : IfErr r (IsGapFor es k) }
+  pub searched : (r : Result ℕ ℕ) → IsSearchInRange r (length es) → IsBinarySearchResult (λ e. network_cmp e.0 k) es r → record { found : IfOk r (IsNetworkAt es k); absent : IfErr r (IsGapFor es k) }
   searched (Ok at) in_range equal = record { found = record { in_range = in_range; here = λ e. network_exact _ _ (equal e) }; absent = tt }
   searched (Err at) in_range split = record { found = tt; absent = record { in_range = in_range; apart = split searchable } }
 
@@ -238,13 +238,13 @@ module _ (items es : Entries) (same : items ≡ es) (ordered : AreInOrder items)
   edited : (o : Option ℕ) → cost ≡ o → (new made : Entries) → new ≡ made → IsEdited es k o made → IsEdited es k cost new
   edited o is new made e by = subst (IsEdited es k cost) (sym e) (subst (λ (c : Option ℕ). IsEdited es k c made) (sym is) by)
 
-  pub removed : cost ≡ None → (at : ℕ) → IsAt es k at → (new : Entries) → new ≡ remove items at → IsEdited es k cost new
+  pub removed : cost ≡ None → (at : ℕ) → IsNetworkAt es k at → (new : Entries) → new ≡ remove items at → IsEdited es k cost new
   removed none at place new e = edited None none new (remove es at) (e ∙ ap (λ (xs : Entries). remove xs at) same) (was_removed es in_order k at place)
 
   pub stayed : cost ≡ None → (at : ℕ) → IsGapFor es k at → IsEdited es k cost es
   stayed none at gap = edited None none es es refl (was_absent es in_order k at gap)
 
-  pub written : (c : ℕ) → cost ≡ Some c → (at : ℕ) → IsAt es k at → IsEdited es k cost (set items at (k, c))
+  pub written : (c : ℕ) → cost ≡ Some c → (at : ℕ) → IsNetworkAt es k at → IsEdited es k cost (set items at (k, c))
   written c some at place = edited (Some c) some (set items at (k, c)) (set es at (k, c)) (ap (λ (xs : Entries). set xs at (k, c)) same) (was_set es in_order k at place c)
 
   pub inserted : (c : ℕ) → cost ≡ Some c → (at : ℕ) → IsGapFor es k at → (new : Entries) → new ≡ insert items at (k, c) → IsEdited es k cost new
@@ -256,13 +256,13 @@ pub map_keys : {A : Type 0} (f : Prefix → A) (es : Entries) → map (λ (e : P
 map_keys f [] = refl
 map_keys f (e ∷ es) = ap (λ ys. f e.0 ∷ ys) (map_keys f es)
 
-pub made_none : (networks : Networks) → networks.entries ≡ [] → AreMadeOf [] networks
+pub made_none : (networks : RangeNetworksValue) → networks.entries ≡ [] → AreMadeOf [] networks
 made_none networks none = record {
   there = λ p c. absurd (no_element p c);
   costs = λ p c is. let wrong : None ≡ Some c = ap (cost_at p) (sym none) ∙ is in absurd cc;
 }
 
-pub made_more : (came : Entries) (k : Prefix) (cost : ℕ) (old new : Networks) → AreMadeOf came old → IsPutIn old k (Some cost) new → AreMadeOf (came ++ (k, cost) ∷ []) new
+pub made_more : (came : Entries) (k : Prefix) (cost : ℕ) (old new : RangeNetworksValue) → AreMadeOf came old → IsPutIn old k (Some cost) new → AreMadeOf (came ++ (k, cost) ∷ []) new
 made_more came k cost old new made put = record {
   there = λ p c. elim (is_at (network_cmp k) p) as (λ b. is_at (network_cmp k) p ≡ b → (n : ℕ) × (cost_at p new.entries ≡ Some n)) [
     | true ↦ λ tied. (cost, put p ∙ ap (λ (b : Bool). cond b (Some cost) (cost_at p old.entries)) tied)

@@ -13,8 +13,8 @@ use Rattle.ospf_types.specs.declared.prefix.Prefix.{Prefix}
 use Rattle.ospf_types.specs.Address.{Covers}
 use Rattle.ospf_types.specs.Network.{network_cmp}
 use Rattle.intra.specs.Intras.{EntriesByPrefix}
-use Rattle.active_ranges.specs.Active.{ActiveValue, AreRangesOf, EntriesDifferAmong, IsActiveIn, IsConfigured, IsMember, IsMemberWithin, IsRangeNamed, IsWithin, RangesDifferAt}
-use Rattle.active_ranges.specs.Following.{AreFollowed, IsCostIn}
+use Rattle.active_ranges.specs.Active.{ActiveValue, AreRangesOf, EntriesDifferAmong, IsActiveIn, IsConfigured, IsMember, IsMemberWithin, IsRangeNamed, IsRangeNetwork, RangesDifferAt}
+use Rattle.active_ranges.specs.Following.{AreMembersFollowed, IsCostIn}
 use Rattle.active_ranges.specs.declared.member.RangeMember.{RangeMember}
 use Rattle.active_ranges.proofs.Following.{among_or_not}
 use Rattle.active_ranges.proofs.Members.{member_total, member_exact}
@@ -60,14 +60,14 @@ module _ (before after : List AreaConfig) (area : ℕ) (range : Prefix) (differ 
       )
 
   -- a member of another range, or of another area
-  other_range : (m : RangeMember) → (Contains members m → ⊥) → IsWithin entries m.area m.range m.network → one area range ≡ one m.area m.range → ⊥
+  other_range : (m : RangeMember) → (Contains members m → ⊥) → IsRangeNetwork entries m.area m.range m.network → one area range ≡ one m.area m.range → ⊥
   other_range m absent within e =
       let mine : ℕ × Prefix = (area, range) in
       let theirs : ℕ × Prefix = (m.area, m.range) in
       let same : mine ≡ theirs = some_pair mine theirs e in
       let id : m.area ≡ area = sym (ap (λ (x : ℕ × Prefix). x.0) same) in
       let prefix : m.range ≡ range = sym (ap (λ (x : ℕ × Prefix). x.1) same) in
-      absent ((exact m).1 (id, prefix, subst (λ (n : ℕ). IsWithin entries n range m.network) id (subst (λ (q : Prefix). IsWithin entries m.area q m.network) prefix within)))
+      absent ((exact m).1 (id, prefix, subst (λ (n : ℕ). IsRangeNetwork entries n range m.network) id (subst (λ (q : Prefix). IsRangeNetwork entries m.area q m.network) prefix within)))
 
   member_elsewhere : (m : RangeMember) (cost : ℕ) → (Contains members m → ⊥) → IsMember before entries m cost ↔ IsMember after entries m cost
   member_elsewhere m cost absent = (
@@ -76,7 +76,7 @@ module _ (before after : List AreaConfig) (area : ℕ) (range : Prefix) (differ 
   )
 
   -- the members have the costs of members now
-  followed_by : (costs : EntriesByPrefix) → AreFollowed costs members old new → ((m : RangeMember) (cost : ℕ) → Contains members m → IsCostIn (get costs m.network) m.area cost ↔ IsMember after entries m cost) → AreRangesOf after entries new
+  followed_by : (costs : EntriesByPrefix) → AreMembersFollowed costs members old new → ((m : RangeMember) (cost : ℕ) → Contains members m → IsCostIn (get costs m.network) m.area cost ↔ IsMember after entries m cost) → AreRangesOf after entries new
   followed_by costs followed are = record {
     fresh = followed.spent ∙ was.fresh;
     members = λ m cost. elim (among_or_not member_total member_exact members m) [
@@ -91,10 +91,10 @@ module _ (before after : List AreaConfig) (area : ℕ) (range : Prefix) (differ 
     ];
   }
 
-  pub ranges_set : IsConfigured after area range → AreFollowed entries members old new → AreRangesOf after entries new
+  pub ranges_set : IsConfigured after area range → AreMembersFollowed entries members old new → AreRangesOf after entries new
   ranges_set configured followed = followed_by entries followed (member_here configured)
 
-  pub ranges_dropped : (IsConfigured after area range → ⊥) → AreFollowed empty members old new → AreRangesOf after entries new
+  pub ranges_dropped : (IsConfigured after area range → ⊥) → AreMembersFollowed empty members old new → AreRangesOf after entries new
   ranges_dropped absent followed = followed_by empty followed (none_here absent)
 
 -- ---- what is active otherwise
@@ -124,7 +124,7 @@ same_option None None there back = refl
 -- they differ only where the network is named and lies in the range
 module _ (named : Option (ℕ × Prefix)) (areas others : List AreaConfig) (differ : RangesDifferAt named areas others) (dests : List Dest) (before after : EntriesByPrefix) (whole : IsRangeNamed named dests before)
     (entries : EntriesDifferAmong dests before after) (old new : ActiveValue) (was : AreRangesOf areas before old) (are : AreRangesOf others after new) where
-  apart_there : (m : RangeMember) → (Contains dests (Net m.network) → ⊥) → IsWithin before m.area m.range m.network → named ≡ Some (m.area, m.range) → ⊥
+  apart_there : (m : RangeMember) → (Contains dests (Net m.network) → ⊥) → IsRangeNetwork before m.area m.range m.network → named ≡ Some (m.area, m.range) → ⊥
   apart_there m absent within e = absent ((whole m.area m.range e).1 m.network within)
 
   pub members_stay : (m : RangeMember) → (Contains dests (Net m.network) → Covers m.range m.network → ⊥) → get new.members m ≡ get old.members m

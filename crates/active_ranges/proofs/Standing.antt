@@ -14,8 +14,8 @@ use Rattle.intra.specs.Intras.{EntriesByPrefix}
 use Rattle.ospf_types.specs.declared.config.AreaConfig.{AreaConfig}
 use Rattle.ospf_types.specs.Address.{Covers}
 use Rattle.active_ranges.specs.Active.{ActiveValue, AreRangesOf, IsConfigured, IsMember, IsMemberWithin}
-use Rattle.active_ranges.specs.Following.{AreFollowed, IsMemberIn}
-use Rattle.active_ranges.specs.Grouped.{Networks, NetworksByRange, member_of, range_cmp}
+use Rattle.active_ranges.specs.Following.{AreMembersFollowed, IsMemberIn}
+use Rattle.active_ranges.specs.Grouped.{RangeNetworksValue, NetworksByRange, member_of, range_cmp}
 use Rattle.active_ranges.specs.declared.member.AreaRange.{AreaRange}
 use Rattle.active_ranges.specs.declared.member.RangeMember.{RangeMember}
 use Rattle.active_ranges.proofs.Grouped.{cost_among, found, ranges_value}
@@ -38,15 +38,15 @@ module _ (rs : NetworksByRange) (spent : Bool) (area : ℕ) (range : Prefix) whe
   members_none none m = (
     λ c. absurd (no_element m c),
     λ w.
-        let wrong : None ≡ Some w.2.0 = ap (λ (o : Option Networks). cost_among o m.network) none ∙ sym (cost_of m w.0 w.1) ∙ w.2.1 in
+        let wrong : None ≡ Some w.2.0 = ap (λ (o : Option RangeNetworksValue). cost_among o m.network) none ∙ sym (cost_of m w.0 w.1) ∙ w.2.1 in
         cc,
   )
 
   -- or these
-  pub members_there : (networks : Networks) → Some networks ≡ lookup (is_at (range_cmp at_range)) rs → (m : RangeMember) → Contains (map (member_of at_range) (keys_of networks.entries)) m ↔ IsMemberIn value area range m
+  pub members_there : (networks : RangeNetworksValue) → Some networks ≡ lookup (is_at (range_cmp at_range)) rs → (m : RangeMember) → Contains (map (member_of at_range) (keys_of networks.entries)) m ↔ IsMemberIn value area range m
   members_there networks stands m =
       let of : m.range ≡ range → m.area ≡ area → get value.members m ≡ lookup (is_at (network_cmp m.network)) networks.entries =
-      λ prefix id. cost_of m prefix id ∙ ap (λ (o : Option Networks). cost_among o m.network) (sym stands) in (
+      λ prefix id. cost_of m prefix id ∙ ap (λ (o : Option RangeNetworksValue). cost_among o m.network) (sym stands) in (
         λ c.
             let from = mapped_from (member_of at_range) (keys_of networks.entries) m c in
             let prefix : m.range ≡ range = ap (λ (x : RangeMember). x.range) (sym from.2) in
@@ -86,7 +86,7 @@ module _ (before : List AreaConfig) (entries : EntriesByPrefix) (old : ActiveVal
   )
 
   -- and they have the costs of their entries
-  pub stood_followed : (first : RangeMember) → Contains had first → AreFollowed entries had old old
+  pub stood_followed : (first : RangeMember) → Contains had first → AreMembersFollowed entries had old old
   stood_followed first there = record {
     spent = refl;
     here = λ m c cost.

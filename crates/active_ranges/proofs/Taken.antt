@@ -16,9 +16,9 @@ use Rattle.ospf_types.proofs.Elements.{mapped_element, mapped_from}
 use Rattle.ospf_types.proofs.Orders.{network_total, network_exact}
 use Rattle.intra.specs.Intras.{EntriesByPrefix}
 use Rattle.intra.proofs.Following.{one_or_other}
-use Rattle.active_ranges.specs.Active.{ActiveValue, AreRangesOf, IsMember, IsMemberWithin, IsWithin}
-use Rattle.active_ranges.specs.Following.{AreFollowed, AreTakenIn, HasLeft, IsCostIn, IsCostWithin}
-use Rattle.active_ranges.specs.Grouped.{AreMadeOf, Networks, NetworksByRange, range_cmp}
+use Rattle.active_ranges.specs.Active.{ActiveValue, AreRangesOf, IsMember, IsMemberWithin, IsRangeNetwork}
+use Rattle.active_ranges.specs.Following.{AreMembersFollowed, AreTakenIn, HasLeft, IsCostIn, IsCostWithin}
+use Rattle.active_ranges.specs.Grouped.{AreMadeOf, RangeNetworksValue, NetworksByRange, range_cmp}
 use Rattle.active_ranges.specs.declared.member.AreaRange.{AreaRange}
 use Rattle.active_ranges.specs.declared.member.RangeMember.{RangeMember}
 use Rattle.active_ranges.proofs.Following.{left_here}
@@ -31,7 +31,7 @@ use Rattle.active_ranges.proofs.Lists.{no_value}
 some_same : {A : Type 0} {x y : A} → Some x ≡ Some y → x ≡ y
 some_same e = cc
 
-module _ (es fs : NetworksByRange) (was is : Bool) (area : ℕ) (range : Prefix) (costs : List (RangeMember × ℕ)) (within : (m : RangeMember) (cost : ℕ) → Contains costs (m, cost) → (m.range ≡ range) × (m.area ≡ area)) (networks : Networks) where
+module _ (es fs : NetworksByRange) (was is : Bool) (area : ℕ) (range : Prefix) (costs : List (RangeMember × ℕ)) (within : (m : RangeMember) (cost : ℕ) → Contains costs (m, cost) → (m.range ≡ range) × (m.area ≡ area)) (networks : RangeNetworksValue) where
   abbrev taken : AreaRange
   taken = record { prefix = range; area = area }
 
@@ -91,7 +91,7 @@ stays_but_range area range old new members here others m absent = elim (one_or_o
 
 -- a range that is dropped, with members that are all that it had
 pub gone_followed : (area : ℕ) (range : Prefix) (old new : ActiveValue) (members : List RangeMember) → HasLeft area range old new → ((m : RangeMember) → Contains members m → (m.range ≡ range) × (m.area ≡ area))
-    → ((m : RangeMember) → m.range ≡ range → m.area ≡ area → (Contains members m → ⊥) → get old.members m ≡ None) → AreFollowed empty members old new
+    → ((m : RangeMember) → m.range ≡ range → m.area ≡ area → (Contains members m → ⊥) → get old.members m ≡ None) → AreMembersFollowed empty members old new
 gone_followed area range old new members left within none_was = record {
   spent = left.spent;
   here = λ m c cost. let is = within m c in left_here new m (left.here m is.0 is.1) cost;
@@ -124,13 +124,13 @@ module _ (entries : EntriesByPrefix) (area : ℕ) (range : Prefix) (costs : List
     none_was : (m : RangeMember) → (Contains members m → ⊥) → m.range ≡ range → m.area ≡ area → get old.members m ≡ None
     none_was m absent prefix id = no_value (get old.members m) (λ cost is.
         let w : IsMember before entries m cost = (was.members m cost).0 is in
-        let within : IsWithin entries m.area m.range m.network = (w.0, w.1, w.2, w.5) in
-        absent ((members_exact m).1 (id, prefix, subst (λ (n : ℕ). IsWithin entries n range m.network) id (subst (λ (q : Prefix). IsWithin entries m.area q m.network) prefix within))))
+        let within : IsRangeNetwork entries m.area m.range m.network = (w.0, w.1, w.2, w.5) in
+        absent ((members_exact m).1 (id, prefix, subst (λ (n : ℕ). IsRangeNetwork entries n range m.network) id (subst (λ (q : Prefix). IsRangeNetwork entries m.area q m.network) prefix within))))
 
-    pub left_followed : HasLeft area range old new → AreFollowed empty members old new
+    pub left_followed : HasLeft area range old new → AreMembersFollowed empty members old new
     left_followed left = gone_followed area range old new members left (λ m c. let is = (members_exact m).0 c in (is.1, is.0)) (λ m prefix id absent. none_was m absent prefix id)
 
-    pub taken_followed : AreTakenIn area range costs old new → AreFollowed entries members old new
+    pub taken_followed : AreTakenIn area range costs old new → AreMembersFollowed entries members old new
     taken_followed taken = record {
       spent = taken.spent;
       here = λ m c cost.

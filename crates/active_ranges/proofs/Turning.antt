@@ -9,7 +9,7 @@ use Rattle.ospf_types.proofs.Elements.{no_element}
 use Rattle.ospf_types.proofs.Orders.{network_total, network_exact}
 use Rattle.route_choice.specs.Lists.{IsOfSome}
 use Rattle.active_ranges.specs.Active.{ActiveValue}
-use Rattle.active_ranges.specs.Following.{HasMore, HasTurned, IsNotedOf, IsTold}
+use Rattle.active_ranges.specs.Following.{HasMore, HasTurned, IsNotedOf, IsChangeReported}
 use Rattle.active_ranges.specs.declared.active.Noted.{Noted}
 use Rattle.active_ranges.proofs.Ascending.{IsAscending, ascending_passed, ascending_pushed}
 use Rattle.route_choice.proofs.Adding.{more_none, more_one, more_next, more_all}
@@ -21,7 +21,7 @@ prefixes = map (λ (n : Noted). n.prefix)
 abbrev pub HasTurnedAt : ActiveValue → Noted → Prefix → Type 0
 HasTurnedAt v n p = (n.prefix ≡ p) × HasTurned v n
 
-module _ (v : ActiveValue) (noted : List Noted) (i : ℕ) (n : Noted) (lt : i < length noted) (at : n ≡ get_or noted i n) (before after : List Prefix) (told : IsTold v n before after) where
+module _ (v : ActiveValue) (noted : List Noted) (i : ℕ) (n : Noted) (lt : i < length noted) (at : n ≡ get_or noted i n) (before after : List Prefix) (told : IsChangeReported v n before after) where
   -- one more is reported, or left out
   pub ascending_told : IsAscending network_cmp before (map (λ (m : Noted). m.prefix) (drop i noted)) → IsAscending network_cmp after (map (λ (m : Noted). m.prefix) (drop (i + 1) noted))
   ascending_told are =

@@ -13,7 +13,7 @@ use Rattle.ospf_types.specs.Summaries.{IsGreatest}
 use Rattle.ospf_types.proofs.Elements.{no_element, first_element, later_element, first_or_later}
 use Rattle.ospf_types.proofs.Orders.{network_total, network_exact}
 use Rattle.active_ranges.specs.Active.{HasCost}
-use Rattle.active_ranges.specs.Grouped.{IsCostOf, Networks, NetworksByRange, range_cmp}
+use Rattle.active_ranges.specs.Grouped.{IsCostOf, RangeNetworksValue, NetworksByRange, range_cmp}
 use Rattle.active_ranges.specs.declared.member.AreaRange.{AreaRange}
 use Rattle.active_ranges.proofs.Greatest.{IsReached, is_greatest, greater, greater_one, greater_left, greater_right}
 use Rattle.active_ranges.proofs.Grouped.{cost_among, found, ranges_value}
@@ -22,7 +22,7 @@ use Rattle.active_ranges.proofs.Placed.{AreInOrder, Entries}
 some_same : {A : Type 0} {x y : A} → Some x ≡ Some y → x ≡ y
 some_same e = cc
 
-module _ (networks : Networks) (limit : ℕ) where
+module _ (networks : RangeNetworksValue) (limit : ℕ) where
   abbrev pub IsCost : ℕ → Type 0
   IsCost c = IsCostOf networks c × (c < limit)
 
@@ -83,16 +83,16 @@ module _ (rs : NetworksByRange) (spent : Bool) (range : Prefix) (area limit : �
   abbrev IsCostBelow : ℕ → Type 0
   IsCostBelow c = HasCost (ranges_value rs spent) range area c × (c < limit)
 
-  pub costliest_there : (networks : Networks) → Some networks ≡ lookup (is_at (range_cmp at_range)) rs → (most : Option ℕ) → ((n : ℕ) → (most ≡ Some n) ↔ IsGreatest (λ c. IsCostOf networks c × (c < limit)) n)
+  pub costliest_there : (networks : RangeNetworksValue) → Some networks ≡ lookup (is_at (range_cmp at_range)) rs → (most : Option ℕ) → ((n : ℕ) → (most ≡ Some n) ↔ IsGreatest (λ c. IsCostOf networks c × (c < limit)) n)
       → (n : ℕ) → (most ≡ Some n) ↔ IsGreatest IsCostBelow n
   costliest_there networks stands most is n =
       let of : (network : Prefix) → get (ranges_value rs spent).members (record { range = range; area = area; network = network }) ≡ lookup (is_at (network_cmp network)) networks.entries =
-      λ network. found rs spent (record { range = range; area = area; network = network }) ∙ ap (λ (o : Option Networks). cost_among o network) (sym stands) in
+      λ network. found rs spent (record { range = range; area = area; network = network }) ∙ ap (λ (o : Option RangeNetworksValue). cost_among o network) (sym stands) in
       let alike : (c : ℕ) → (IsCostOf networks c × (c < limit)) ↔ IsCostBelow c = λ c. (λ w. ((w.0.0, of w.0.0 ∙ w.0.1), w.1), λ w. ((w.0.0, sym (of w.0.0) ∙ w.0.1), w.1)) in
       (λ m. greatest_alike (λ c. IsCostOf networks c × (c < limit)) IsCostBelow alike n ((is n).0 m), λ g. (is n).1 (greatest_alike IsCostBelow (λ c. IsCostOf networks c × (c < limit)) (λ c. ((alike c).1, (alike c).0)) n g))
 
   pub costliest_none : None ≡ lookup (is_at (range_cmp at_range)) rs → (n : ℕ) → IsGreatest IsCostBelow n → ⊥
   costliest_none none n g =
       let w = g.holds.0 in
-      let wrong : None ≡ Some n = ap (λ (o : Option Networks). cost_among o w.0) none ∙ sym (found rs spent (record { range = range; area = area; network = w.0 })) ∙ w.1 in
+      let wrong : None ≡ Some n = ap (λ (o : Option RangeNetworksValue). cost_among o w.0) none ∙ sym (found rs spent (record { range = range; area = area; network = w.0 })) ∙ w.1 in
       cc

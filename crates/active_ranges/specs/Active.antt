@@ -84,8 +84,8 @@ abbrev pub RangesDifferAt : Option (ℕ × Prefix) → List AreaConfig → List 
 RangesDifferAt named before after = (area : ℕ) (r : Range) → (named ≡ Some (area, r.prefix) → ⊥) → IsRangeIn after area r ↔ IsRangeIn before area r
 
 -- the network has an intra-area entry through the area, and the range covers it
-abbrev pub IsWithin : EntriesByPrefix → ℕ → Prefix → Prefix → Type 0
-IsWithin entries area range network = (e : Entry) × (get entries network ≡ Some e) × (e.area ≡ Some area) × Covers range network
+abbrev pub IsRangeNetwork : EntriesByPrefix → ℕ → Prefix → Prefix → Type 0
+IsRangeNetwork entries area range network = (e : Entry) × (get entries network ≡ Some e) × (e.area ≡ Some area) × Covers range network
 
 -- the ranges belong to an earlier configuration, which differs from this one only in the range that
 -- is named
@@ -95,8 +95,8 @@ AreRangesButAt named areas entries v = (before : List AreaConfig) × AreRangesOf
 -- among the destinations are the prefix of the range that may differ, and the networks of its area
 -- that it covers
 abbrev pub IsRangeNamed : Option (ℕ × Prefix) → List Dest → EntriesByPrefix → Type 0
-IsRangeNamed named dests entries = (area : ℕ) (range : Prefix) → named ≡ Some (area, range) → Contains dests (Net range) × ((network : Prefix) → IsWithin entries area range network → Contains dests (Net network))
+IsRangeNamed named dests entries = (area : ℕ) (range : Prefix) → named ≡ Some (area, range) → Contains dests (Net range) × ((network : Prefix) → IsRangeNetwork entries area range network → Contains dests (Net network))
 
 -- it is the member that a network within the range is of it
 abbrev pub IsMemberWithin : EntriesByPrefix → ℕ → Prefix → RangeMember → Type 0
-IsMemberWithin entries area range m = (m.area ≡ area) × (m.range ≡ range) × IsWithin entries area range m.network
+IsMemberWithin entries area range m = (m.area ≡ area) × (m.range ≡ range) × IsRangeNetwork entries area range m.network

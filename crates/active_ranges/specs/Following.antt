@@ -66,7 +66,7 @@ abbrev pub ranges_in : List RangeMember → List Prefix
 ranges_in members = map (λ m. m.range) members
 
 -- these members have the costs of the entries, and the others what they had
-pub record AreFollowed (entries : EntriesByPrefix) (named : List RangeMember) (old new : ActiveValue) : Type 0 where
+pub record AreMembersFollowed (entries : EntriesByPrefix) (named : List RangeMember) (old new : ActiveValue) : Type 0 where
   pub spent : new.spent ≡ old.spent
   pub here : (m : RangeMember) → Contains named m → (cost : ℕ) → (get new.members m ≡ Some cost) ↔ IsCostIn (get entries m.network) m.area cost
   pub others : (m : RangeMember) → (Contains named m → ⊥) → get new.members m ≡ get old.members m
@@ -116,5 +116,5 @@ abbrev pub IsTurnedAmong : ActiveValue → List Noted → Prefix → Type 0
 IsTurnedAmong v ns p = (n : Noted) × Contains ns n × (n.prefix ≡ p) × HasTurned v n
 
 -- the prefix is added where what was noted of it is no longer so
-abbrev pub IsTold : ActiveValue → Noted → List Prefix → List Prefix → Type 0
-IsTold v n before after = ((after ≡ before) × (HasTurned v n → ⊥)) ⊎ ((after ≡ before ++ n.prefix ∷ []) × HasTurned v n)
+abbrev pub IsChangeReported : ActiveValue → Noted → List Prefix → List Prefix → Type 0
+IsChangeReported v n before after = ((after ≡ before) × (HasTurned v n → ⊥)) ⊎ ((after ≡ before ++ n.prefix ∷ []) × HasTurned v n)

@@ -20,30 +20,30 @@ abbrev pub range_of : RangeMember → AreaRange
 range_of m = record { prefix = m.range; area = m.area }
 
 -- the networks of a range, ascending, each at its cost
-pub record Networks : Type 0 where
+pub record RangeNetworksValue : Type 0 where
   pub entries : List (Prefix × ℕ)
 
 abbrev pub NetworksByRange : Type 0
-NetworksByRange = List (AreaRange × Networks)
+NetworksByRange = List (AreaRange × RangeNetworksValue)
 
 -- one of them has this cost
-abbrev pub IsCostOf : Networks → ℕ → Type 0
+abbrev pub IsCostOf : RangeNetworksValue → ℕ → Type 0
 IsCostOf networks cost = (network : Prefix) × (lookup (is_at (network_cmp network)) networks.entries ≡ Some cost)
 
 -- the network has this cost now, or none, and the others have what they had
-abbrev pub IsPutIn : Networks → Prefix → Option ℕ → Networks → Type 0
+abbrev pub IsPutIn : RangeNetworksValue → Prefix → Option ℕ → RangeNetworksValue → Type 0
 IsPutIn old network cost new =
     (q : Prefix) → lookup (is_at (network_cmp q)) new.entries ≡ cond (is_at (network_cmp network) q) cost (lookup (is_at (network_cmp q)) old.entries)
 
 -- it has just the networks given, each at a cost given with it
-pub record AreMadeOf (came : List (Prefix × ℕ)) (networks : Networks) : Type 0 where
+pub record AreMadeOf (came : List (Prefix × ℕ)) (networks : RangeNetworksValue) : Type 0 where
   pub there : (p : Prefix) → Contains (keys_of came) p → (cost : ℕ) × (lookup (is_at (network_cmp p)) networks.entries ≡ Some cost)
   pub costs : (p : Prefix) (cost : ℕ) → lookup (is_at (network_cmp p)) networks.entries ≡ Some cost → Contains came (p, cost)
 
 -- ---- places among the networks
 
 -- it is at this place
-pub record IsAt (es : List (Prefix × ℕ)) (network : Prefix) (at : ℕ) : Type 0 where
+pub record IsNetworkAt (es : List (Prefix × ℕ)) (network : Prefix) (at : ℕ) : Type 0 where
   pub in_range : at < length es
   pub here : (e : Prefix × ℕ) → (get_or es at e).0 ≡ network
 

@@ -9,9 +9,9 @@ ghost use Rattle.ospf_types.specs.Network.{network_cmp};
 ghost use Rattle.active_ranges.specs.Active.{AreRangesOf, AreRangesBehind, AreRangesButAt};
 ghost use Rattle.active_ranges.specs.Active.{DiffersAt, HasCost, IsActiveIn, IsMemberWithin};
 ghost use Rattle.active_ranges.specs.Active.{spent_ranges};
-ghost use Rattle.active_ranges.specs.Following.{AreAlikeBut, AreFollowed, AreNotedOf, AreOfRange};
+ghost use Rattle.active_ranges.specs.Following.{AreAlikeBut, AreMembersFollowed, AreNotedOf, AreOfRange};
 ghost use Rattle.active_ranges.specs.Following.{AreTakenIn, HasCostBy, HasLeft, IsCostIn};
-ghost use Rattle.active_ranges.specs.Following.{IsMemberIn, IsTold, IsTurnedAmong, prefixes_of};
+ghost use Rattle.active_ranges.specs.Following.{IsMemberIn, IsChangeReported, IsTurnedAmong, prefixes_of};
 ghost use Rattle.active_ranges.specs.Following.{ranges_in};
 ghost use Rattle.active_ranges.specs.Grouped.{member_of};
 ghost use Rattle.active_ranges.specs.Lists.{ListsExactly, HasMore, IsGreatestBelow};
@@ -19,7 +19,7 @@ ghost use Rattle.active_ranges.specs.Right.{IsRightWith};
 
 use crate::covered_members::named_members;
 use crate::member::{AreaRange, RangeMember};
-use crate::networks::Networks;
+use crate::networks::RangeNetworks;
 use crate::within::{costs_within, is_configured};
 use intra::Intra;
 use ospf_types::config::AreaConfig;
@@ -35,7 +35,7 @@ use std::marker::Model;
 /// The active ranges of the areas, each with its networks and the costs of their entries.
 pub struct ActiveRanges {
     // A range that lost its last network may stay here, with an empty list. It is not active.
-    ranges: BTreeMap<AreaRange, Networks>,
+    ranges: BTreeMap<AreaRange, RangeNetworks>,
     spent: bool,
 }
 
@@ -318,7 +318,7 @@ impl ActiveRanges {
 
     // Appends the prefix, if this has changed since it was noted.
     fn push_turned(&self, note: Noted, prefixes: &mut Vec<Prefix>) -> Result<(), Memory>
-        ensures { OnOk result (IsTold self.now note prefixes.old.items prefixes.new.items) }
+        ensures { OnOk result (IsChangeReported self.now note prefixes.old.items prefixes.new.items) }
     {
         if note.active == self.contains(note.prefix) {
             return Ok(());
@@ -329,7 +329,7 @@ impl ActiveRanges {
 
     // Sets the members to the costs of their entries.
     fn follow(&mut self, alloc: Global, intra: &Intra, named: &[RangeMember]) -> Result<(), Memory>
-        ensures { OnOk result (AreFollowed intra.now.entries named.now self.old self.new) }
+        ensures { OnOk result (AreMembersFollowed intra.now.entries named.now self.old self.new) }
     {
         for member in named {
             self.follow_member(alloc, intra, *member)?;
@@ -348,7 +348,7 @@ impl ActiveRanges {
         ensures { OnOk result (AreTakenIn named.0 named.1 costs.now self.old self.new) }
     {
         let (area, prefix) = named;
-        let networks = Networks::of(alloc, costs)?;
+        let networks = RangeNetworks::of(alloc, costs)?;
         self.ranges.insert(AreaRange { prefix, area }, networks)?;
         Ok(())
     }
@@ -422,7 +422,7 @@ impl ActiveRanges {
         let Some(cost) = cost else {
             return Ok(());
         };
-        let mut networks = Networks::new(alloc);
+        let mut networks = RangeNetworks::new(alloc);
         networks.put(network, Some(cost))?;
         self.ranges.insert(range, networks)?;
         Ok(())
@@ -486,7 +486,7 @@ pub(crate) fn cost_in(entry: Option<&Entry>, area: u32) -> Option<u32>
 // Appends the prefix, if the range has a network.
 fn push_active(
     prefix: Prefix,
-    networks: &Networks,
+    networks: &RangeNetworks,
     prefixes: &mut Vec<Prefix>,
 ) -> Result<(), Memory>
     ensures { OnOk result (HasMore

@@ -4,7 +4,7 @@ ghost use Rattle.std.specs.Prelude.{map as list_map};
 ghost use Rattle.std.specs.List.Sorted.{IsStrictlySortedBy};
 ghost use Rattle.std.specs.Map.{keys_of};
 ghost use Rattle.ospf_types.specs.Network.{network_cmp};
-ghost use Rattle.active_ranges.specs.Grouped.{AreMadeOf, IsAt, IsCostOf, IsGapFor, IsPutIn};
+ghost use Rattle.active_ranges.specs.Grouped.{AreMadeOf, IsNetworkAt, IsCostOf, IsGapFor, IsPutIn};
 ghost use Rattle.active_ranges.specs.Grouped.{member_of};
 ghost use Rattle.active_ranges.specs.Lists.{IsGreatestBelow};
 
@@ -17,15 +17,15 @@ use std::marker::Model;
 /// The networks of a range in ascending order, each at its cost. They are adjacent in memory, so
 /// that it is cheap to visit all.
 #[derive(Drop)]
-pub(crate) struct Networks {
+pub(crate) struct RangeNetworks {
     list: Vec<(Prefix, u32)>,
 }
 
-impl Model for Networks {
+impl Model for RangeNetworks {
     ghost use Rattle.std.specs.List.Sorted.{IsStrictlySortedBy};
     ghost use Rattle.std.specs.Map.{keys_of};
     ghost use Rattle.ospf_types.specs.Network.{network_cmp};
-    ghost use Rattle.active_ranges.specs.Grouped.{Networks as NetworksValue};
+    ghost use Rattle.active_ranges.specs.Grouped.{RangeNetworksValue as NetworksValue};
 
     ghost Value = { NetworksValue };
 
@@ -34,21 +34,21 @@ impl Model for Networks {
     ghost invariant = { λ n. IsStrictlySortedBy network_cmp (keys_of n.list.items) };
 }
 
-impl Networks {
+impl RangeNetworks {
     /// Creates an empty list.
-    pub(crate) fn new(alloc: Global) -> Networks
+    pub(crate) fn new(alloc: Global) -> RangeNetworks
         ensures { result.entries ≡ [] }
     {
-        Networks {
+        RangeNetworks {
             list: Vec::new(alloc),
         }
     }
 
     /// Returns the networks of the members, at their costs.
-    pub(crate) fn of(alloc: Global, costs: &[(RangeMember, u32)]) -> Result<Networks, Memory>
+    pub(crate) fn of(alloc: Global, costs: &[(RangeMember, u32)]) -> Result<RangeNetworks, Memory>
         ensures { IfOk result (AreMadeOf (list_map (λ x. (x.0.network, x.1)) costs.now)) }
     {
-        let mut networks = Networks {
+        let mut networks = RangeNetworks {
             list: Vec::with_capacity(alloc, costs.len())?,
         };
         for (member, cost) in costs {
@@ -119,7 +119,7 @@ impl Networks {
     // Returns the index of the network as `Ok`, or the index at which to insert it as `Err`. The
     // end is tried first, as networks often come in order.
     fn place(&self, network: Prefix) -> Result<usize, usize>
-        ensures found { IfOk result (IsAt self.now.entries network) }
+        ensures found { IfOk result (IsNetworkAt self.now.entries network) }
         ensures absent { IfErr result (IsGapFor self.now.entries network) }
     {
         let list = self.list.as_slice();

@@ -7,7 +7,7 @@ use Rattle.ospf_types.specs.declared.key.Key.{Key}
 use Rattle.ospf_types.specs.Keys.{key_cmp}
 use Rattle.advertised_index.specs.AdvertisedRoute.{AdvertisedValue}
 use Rattle.advertised_index.specs.AffectedDests.{AreAdded}
-use Rattle.advertised_index.specs.Indexes.{OfferIndexValue, ChangedOffersValue, IsTouchedAt, AreTouched}
+use Rattle.advertised_index.specs.Indexes.{OfferIndexValue, ChangedOffersValue, IsTouchedAt, AreDestsAffected}
 use Rattle.advertised_index.proofs.Following.{left_or_now, none_left, there_or_not}
 
 -- nothing is advertised any more under the keys that are not left
@@ -53,7 +53,7 @@ module _ (i : OfferIndexValue) (keys : List Key) where
           ];
         }
 
-    pub all_touched : (u v : ChangedOffersValue) → length keys ≤ place → AreTouchedBut (drop place keys) i u v → AreTouched i (record { routes = map.empty }) u v
+    pub all_touched : (u v : ChangedOffersValue) → length keys ≤ place → AreTouchedBut (drop place keys) i u v → AreDestsAffected i (record { routes = map.empty }) u v
     all_touched u v past so_far =
         record {
           dests = so_far.dests;

@@ -8,7 +8,7 @@ use Rattle.ospf_types.proofs.Orders.{key_total, key_exact}
 use Rattle.route_choice.proofs.KeyedMaps.{one_or_other}
 use Rattle.advertised_index.specs.AdvertisedRoute.{AdvertisedValue}
 use Rattle.advertised_index.specs.AffectedDests.{AreAdded}
-use Rattle.advertised_index.specs.Indexes.{OfferIndexValue, ChangedOffersValue, HasDest, HasForwarding, IsTouchedAt, AreTouched}
+use Rattle.advertised_index.specs.Indexes.{OfferIndexValue, ChangedOffersValue, HasDest, HasForwarding, IsTouchedAt, AreDestsAffected}
 
 -- ---- what one route adds
 
@@ -31,12 +31,12 @@ added_some a before after dests dest addresses forwarding =
 -- ---- from one index to the next
 
 -- where nothing is touched
-pub touched_none : (i : OfferIndexValue) (v : ChangedOffersValue) → AreTouched i i v v
+pub touched_none : (i : OfferIndexValue) (v : ChangedOffersValue) → AreDestsAffected i i v v
 touched_none i v = record { dests = λ dest c. c; addresses = λ address c. c; each = λ k. inl refl }
 
 -- another route under one key; what was there and what is there are affected
 pub touched_at : (old new : OfferIndexValue) (key : Key) (before between after : ChangedOffersValue) → AreAdded (get old.routes key) before between → AreAdded (get new.routes key) between after
-    → ((k : Key) → k ≢ key → get new.routes k ≡ get old.routes k) → AreTouched old new before after
+    → ((k : Key) → k ≢ key → get new.routes k ≡ get old.routes k) → AreDestsAffected old new before after
 touched_at old new key before between after first second others =
     record {
       dests = λ dest c. second.dests dest (first.dests dest c);
@@ -70,7 +70,7 @@ module _ (v w : ChangedOffersValue) (dests : (dest : Dest) → Contains v.dests 
         λ address has. elim has [ inl was ↦ addresses address (first.1 address (inl was)) | inr is ↦ second.1 address (inr is) ],
       )
 
-pub touched_both : (a b c : OfferIndexValue) (u v w : ChangedOffersValue) → AreTouched a b u v → AreTouched b c v w → AreTouched a c u w
+pub touched_both : (a b c : OfferIndexValue) (u v w : ChangedOffersValue) → AreDestsAffected a b u v → AreDestsAffected b c v w → AreDestsAffected a c u w
 touched_both a b c u v w first second =
     record {
       dests = λ dest has. second.dests dest (first.dests dest has);

@@ -13,7 +13,7 @@ use Rattle.route_choice.proofs.KeyedMaps.{one_or_other}
 use Rattle.lsdb.specs.Contents.{body_at, IsOrder, contents_of}
 use Rattle.lsdb.specs.Databases.{Database, DatabaseValue}
 use Rattle.advertised_index.specs.AdvertisedRoute.{advertised_at}
-use Rattle.advertised_index.specs.Indexes.{OfferIndexValue, ChangedOffersValue, IsIndexOf, LsasDifferAmong, AreTouched}
+use Rattle.advertised_index.specs.Indexes.{OfferIndexValue, ChangedOffersValue, IsIndexOf, LsasDifferAmong, AreDestsAffected}
 use Rattle.advertised_index.proofs.Effects.{touched_none, touched_both}
 
 -- ---- the first of what is left, or a later one
@@ -46,7 +46,7 @@ module _ (root : ℕ) (scope : Scope) (d : Database) where
 
   pub record IsFollowed (ahead : Key → Type 0) (old now : OfferIndexValue) (before after : ChangedOffersValue) : Type 0 where
     pub right : (k : Key) → (ahead k → ⊥) → IsRightAt now k
-    pub touched : AreTouched old now before after
+    pub touched : AreDestsAffected old now before after
 
   -- ---- named keys
 
@@ -59,7 +59,7 @@ module _ (root : ℕ) (scope : Scope) (d : Database) where
 
   module _ (names : List (Scope × Key)) (i : ℕ) where
     pub followed_more : (old now next : OfferIndexValue) (u v w : ChangedOffersValue) (named first : Scope × Key) → i < length names → named ≡ get_or names i first → IsFollowed (IsNamed (drop i names)) old now u v
-        → (named.0 ≡ scope → IsRightAt next named.1) → ((k : Key) → named ≢ (scope, k) → map.get next.routes k ≡ map.get now.routes k) → AreTouched now next v w → IsFollowed (IsNamed (drop (i + 1) names)) old next u w
+        → (named.0 ≡ scope → IsRightAt next named.1) → ((k : Key) → named ≢ (scope, k) → map.get next.routes k ≡ map.get now.routes k) → AreDestsAffected now next v w → IsFollowed (IsNamed (drop (i + 1) names)) old next u w
     followed_more old now next u v w named first lt is followed taken others touched =
         record {
           right = λ k apart. elim (named_or_other named scope k) [
@@ -88,7 +88,7 @@ module _ (root : ℕ) (scope : Scope) (d : Database) where
 
   module _ (keys : List Key) (i : ℕ) where
     pub gone_on : (old now next : OfferIndexValue) (u v w : ChangedOffersValue) (key first : Key) → i < length keys → key ≡ get_or keys i first → IsFollowed (Contains (drop i keys)) old now u v
-        → IsRightAt next key → ((k : Key) → k ≢ key → map.get next.routes k ≡ map.get now.routes k) → AreTouched now next v w → IsFollowed (Contains (drop (i + 1) keys)) old next u w
+        → IsRightAt next key → ((k : Key) → k ≢ key → map.get next.routes k ≡ map.get now.routes k) → AreDestsAffected now next v w → IsFollowed (Contains (drop (i + 1) keys)) old next u w
     gone_on old now next u v w key first lt is followed taken others touched =
         record {
           right = λ k apart. elim (one_or_other key_total key_exact key k) [

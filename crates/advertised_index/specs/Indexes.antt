@@ -96,7 +96,7 @@ IsTouchedAt old new after = (new ≡ old)
     × ((address : ℕ) → HasForwarding old address ⊎ HasForwarding new address → Contains after.addresses address))
 
 -- all that was affected before is still, and so is all that the two indexes say otherwise
-pub record AreTouched (old new : OfferIndexValue) (before after : ChangedOffersValue) : Type 0 where
+pub record AreDestsAffected (old new : OfferIndexValue) (before after : ChangedOffersValue) : Type 0 where
   pub dests : (dest : Dest) → Contains before.dests dest → Contains after.dests dest
   pub addresses : (address : ℕ) → Contains before.addresses address → Contains after.addresses address
   pub each : (k : Key) → IsTouchedAt (get old.routes k) (get new.routes k) after

@@ -35,12 +35,12 @@ abbrev pub HasSmallKey : IndexKey × Key → Type 0
 HasSmallKey m = IsSmall m.1
 
 -- there is a route, and it is of the group
-abbrev pub IsOf : Option AdvertisedValue → Key → IndexKey → Type 0
-IsOf route k g = (a : AdvertisedValue) × (route ≡ Some a) × IsOfGroup g k a
+abbrev pub IsIndexedUnder : Option AdvertisedValue → Key → IndexKey → Type 0
+IsIndexedUnder route k g = (a : AdvertisedValue) × (route ≡ Some a) × IsOfGroup g k a
 
 -- the key, in a group that its route is of
 abbrev pub IsMemberBy : Option AdvertisedValue → Key → IndexKey × Key → Type 0
-IsMemberBy route k m = (m.1 ≡ k) × IsOf route k m.0
+IsMemberBy route k m = (m.1 ≡ k) × IsIndexedUnder route k m.0
 
 -- if the one route is of the member's group, the other is of it too
 abbrev pub IsStillBy : Option AdvertisedValue → Option AdvertisedValue → Key → IndexKey × Key → Type 0
@@ -48,7 +48,7 @@ IsStillBy gone stays k m = IsMemberBy gone k m → IsMemberBy stays k m
 
 -- the member is not the key in the group, unless the route is of it
 abbrev pub IsNoneBut : Option AdvertisedValue → Key → IndexKey → IndexKey × Key → Type 0
-IsNoneBut stays k g m = m ≡ (g, k) → IsOf stays k g
+IsNoneBut stays k g m = m ≡ (g, k) → IsIndexedUnder stays k g
 
 -- all members of the groups from the first to the last are among these
 abbrev pub HasAllBetween : IndexKey → IndexKey → List (IndexKey × Key) → List (IndexKey × Key) → Type 0
@@ -64,4 +64,4 @@ AreRoutesAlikeBut key old new = (k : Key) → k ≢ key → result_at key_cmp ne
 
 -- each key is in the groups that its route is of, and nothing else is there
 abbrev pub AreMembersOf : AdvertisedByKey → List (IndexKey × Key) → Type 0
-AreMembersOf routes members = (m : IndexKey × Key) → Contains members m ↔ IsOf (get routes m.1) m.1 m.0
+AreMembersOf routes members = (m : IndexKey × Key) → Contains members m ↔ IsIndexedUnder (get routes m.1) m.1 m.0

@@ -8,7 +8,7 @@ ghost use Rattle.advertised_index.specs.declared.index_key.IndexKey.TheVariants 
 ghost use Rattle.advertised_index.specs.Indexes.{empty_index, IsTakenAt, IsAlikeAt, AreAlikeBut};
 ghost use Rattle.advertised_index.specs.Indexes.{IsIndexOf, IsIndexBehind, IsInGroup, IsLedTo};
 ghost use Rattle.advertised_index.specs.Indexes.{GroupLeadsTo, IsForwardedTo, IsForwardedInto, HasDest};
-ghost use Rattle.advertised_index.specs.Indexes.{AreTouched};
+ghost use Rattle.advertised_index.specs.Indexes.{AreDestsAffected};
 ghost use Rattle.advertised_index.specs.Lists.{HasMore, HasMoreOnce, KeepsAll, HasAll, HasAtMost};
 ghost use Rattle.advertised_index.specs.LsasByKey.{IsMemberBy, AreRoutesAlikeBut};
 ghost use Rattle.route_choice.specs.Results.{result_at};
@@ -97,7 +97,7 @@ impl AdvertisedIndex {
             self.old }
         ensures index { OnOk result
             (IsIndexOf from.entry.root from.entry.scope from.entry.database.now.lsas self.new) }
-        ensures touched { OnOk result (AreTouched self.old self.new affected.old affected.new) }
+        ensures touched { OnOk result (AreDestsAffected self.old self.new affected.old affected.new) }
     {
         for named in keys {
             self.follow_named(from, *named, affected)?;
@@ -118,7 +118,7 @@ impl AdvertisedIndex {
         requires { self.old ≡ empty_index }
         ensures index { OnOk result
             (IsIndexOf from.entry.root from.entry.scope from.entry.database.now.lsas self.new) }
-        ensures touched { OnOk result (AreTouched self.old self.new affected.old affected.new) }
+        ensures touched { OnOk result (AreDestsAffected self.old self.new affected.old affected.new) }
     {
         for key in from.database.keys() {
             self.follow_key(from, *key, affected)?;
@@ -133,7 +133,7 @@ impl AdvertisedIndex {
     /// Returns `Memory` if memory runs out. The index is then unchanged.
     pub fn clear(&mut self, affected: &mut AffectedDests) -> Result<(), Memory>
         ensures cleared { OnOk result (self.new ≡ empty_index) }
-        ensures touched { OnOk result (AreTouched self.old self.new affected.old affected.new) }
+        ensures touched { OnOk result (AreDestsAffected self.old self.new affected.old affected.new) }
     {
         self.touch_all(affected)?;
         self.routes.clear();
@@ -230,7 +230,7 @@ impl AdvertisedIndex {
             self.new) }
         ensures others { OnOk result
             ((k : KeyValue) → named ≢ (from.entry.scope, k) → IsAlikeAt self.old self.new k) }
-        ensures touched { OnOk result (AreTouched self.old self.new affected.old affected.new) }
+        ensures touched { OnOk result (AreDestsAffected self.old self.new affected.old affected.new) }
     {
         let (of, key) = named;
         if of != from.scope {
@@ -249,7 +249,7 @@ impl AdvertisedIndex {
         ensures taken { OnOk result
             (IsTakenAt from.entry.root from.entry.scope key from.entry.database.now.lsas self.new) }
         ensures others { OnOk result (AreAlikeBut key self.old self.new) }
-        ensures touched { OnOk result (AreTouched self.old self.new affected.old affected.new) }
+        ensures touched { OnOk result (AreDestsAffected self.old self.new affected.old affected.new) }
     {
         let fresh = from.advertised_under(key);
         if are_same(self.route(key), fresh.as_ref()) {
@@ -268,7 +268,7 @@ impl AdvertisedIndex {
     ) -> Result<(), Memory>
         ensures taken { OnOk result (map.get self.new.routes key ≡ fresh) }
         ensures others { OnOk result (AreAlikeBut key self.old self.new) }
-        ensures touched { OnOk result (AreTouched self.old self.new affected.old affected.new) }
+        ensures touched { OnOk result (AreDestsAffected self.old self.new affected.old affected.new) }
     {
         let old = self.route(key).copied();
         affected.add(old.as_ref())?;
@@ -303,7 +303,7 @@ impl AdvertisedIndex {
 
     // Appends the destinations and forwarding addresses of all routes.
     fn touch_all(&self, affected: &mut AffectedDests) -> Result<(), Memory>
-        ensures { OnOk result (AreTouched self.now empty_index affected.old affected.new) }
+        ensures { OnOk result (AreDestsAffected self.now empty_index affected.old affected.new) }
     {
         let keys = self.routes.keys(*affected.dests.allocator())?;
         for key in keys.as_slice() {

@@ -5,7 +5,7 @@ ghost use Rattle.std.specs.List.{All, AllPairs};
 ghost use Rattle.advertised_index.specs.declared.index_key.IndexKey.TheVariants as group_value;
 ghost use Rattle.advertised_index.specs.Lists.{KeepsAll, HasAll, HasAtMost, KeepsThese, KeepsOnly};
 ghost use Rattle.advertised_index.specs.Lists.{HasNoneFrom, HasThoseFrom};
-ghost use Rattle.advertised_index.specs.LsasByKey.{HasSmallKey, IsSmall, IsNotAfter, IsOf, IsMemberBy};
+ghost use Rattle.advertised_index.specs.LsasByKey.{HasSmallKey, IsSmall, IsNotAfter, IsIndexedUnder, IsMemberBy};
 ghost use Rattle.advertised_index.specs.LsasByKey.{IsStillBy, IsNoneBut, HasAllBetween, AreAllBetween};
 ghost use Rattle.advertised_index.specs.KnownKeys.{AreNoted, AreNotedBut, HasKey};
 
@@ -248,7 +248,7 @@ fn forget_without_keys(members: &BTreeSet<Member>, noted: &mut KnownKeys, group:
 
 // Returns true if there is a route, and it is in the group.
 fn is_of(route: Option<&AdvertisedRoute>, group: &IndexKey, key: Key) -> bool
-    ensures { IsTrue result ↔ IsOf (option_copied route.entry) key group.now }
+    ensures { IsTrue result ↔ IsIndexedUnder (option_copied route.entry) key group.now }
 {
     match route {
         Some(route) => route.is_of(group, key),

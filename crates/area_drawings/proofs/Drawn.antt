@@ -12,8 +12,8 @@ use Rattle.area_drawings.specs.declared.columns.Column.{Column}
 use Rattle.area_drawings.specs.declared.reached.ReachedVertex.{ReachedVertex}
 use Rattle.area_drawings.specs.declared.stands.Stand.{Stand}
 use Rattle.area_drawings.specs.Columns.{AreColumnsOf, column_cmp}
-use Rattle.area_drawings.specs.Drawings.{AreColumns, IsDrawingOf, IsTold, reached_of, stand_of, stands_of}
-use Rattle.area_drawings.specs.Links.{AreApart, AreLinksBetween}
+use Rattle.area_drawings.specs.Drawings.{AreDrawnColumns, IsDrawingOf, IsTreeDrawn, reached_of, stand_of, stands_of}
+use Rattle.area_drawings.specs.Links.{AreStandsApart, AreLinksBetween}
 use Rattle.area_drawings.specs.Places.{AreInPlaces, HasRows, IsInColumn}
 use Rattle.area_drawings.specs.Reaching.{AreReached}
 use Rattle.area_drawings.proofs.Once.{once_moved}
@@ -32,7 +32,7 @@ columns_moved rs moved columns same are c = (
 )
 
 -- no two are of one vertex
-pub stands_apart : (d : Database) (t : AreaTreeValue) (stands : List Stand) → AreReached d t (reached_of stands) → AreApart stands
+pub stands_apart : (d : Database) (t : AreaTreeValue) (stands : List Stand) → AreReached d t (reached_of stands) → AreStandsApart stands
 stands_apart d t stands reached i j e lt within same =
     let short : i < length stands = omega arith in
     reached.once i j e.reached lt (omega (arith, length-map stands (λ s. s.reached)))
@@ -47,14 +47,14 @@ stand_push vs v ss i d lt before is =
     ∙ sym (take_more ss i d lt)
 
 -- the facts of the vertices in their cells hold for their drawings
-pub is_drawing : (root : ℕ) (d : Database) (t : AreaTreeValue) (stands : List Stand) (columns : List Column) (drawing : Drawing) → drawing.root ≡ root → stands_of drawing ≡ stands → All (IsTold d t) drawing.vertices
+pub is_drawing : (root : ℕ) (d : Database) (t : AreaTreeValue) (stands : List Stand) (columns : List Column) (drawing : Drawing) → drawing.root ≡ root → stands_of drawing ≡ stands → All (IsTreeDrawn d t) drawing.vertices
     → AreReached d t (reached_of stands) → IsStrictlySortedBy column_cmp columns → AreColumnsOf (reached_of stands) columns → drawing.columns ≡ map (λ c. c.distance) columns → All (IsInColumn columns) stands
     → AreInPlaces stands → HasRows drawing.rows stands → AreLinksBetween t.area.graph stands drawing.links → AllPairs (λ k l. k ≢ l) drawing.links → IsDrawingOf root d t drawing
 is_drawing root d t stands columns drawing root_is are told reached in_order exact distances each places rows links each_once = record {
   root_is = root_is;
   reached = subst (λ (ss : List Stand). AreReached d t (reached_of ss)) (sym are) reached;
   told = told;
-  columns = subst (λ (ss : List Stand). AreColumns drawing.columns ss) (sym are) (record { columns = columns; in_order = in_order; exact = exact; told = distances; each = each });
+  columns = subst (λ (ss : List Stand). AreDrawnColumns drawing.columns ss) (sym are) (record { columns = columns; in_order = in_order; exact = exact; told = distances; each = each });
   places = subst AreInPlaces (sym are) places;
   rows = subst (HasRows drawing.rows) (sym are) rows;
   links = subst (λ (ss : List Stand). AreLinksBetween t.area.graph ss drawing.links) (sym are) links;

@@ -4,9 +4,9 @@ use Rattle.std.specs.List.{All, Contains}
 use Rattle.std.proofs.lemmas.List.Elements.{All-contains, Contains-append_left, Contains-push, Contains-push_cases}
 use Rattle.ospf_types.specs.declared.entry.Vertex.{Vertex}
 use Rattle.area_drawings.specs.declared.drawing.DrawnLink.{DrawnLink}
-use Rattle.vertex_graph.specs.Link.{Link}
+use Rattle.vertex_graph.specs.GraphLink.{GraphLink}
 use Rattle.area_drawings.specs.declared.stands.Stand.{Stand}
-use Rattle.area_drawings.specs.Links.{AddsLink, AreApart, HasOneMore, IsStandOf, LacksVertex, link_between}
+use Rattle.area_drawings.specs.Links.{AddsLink, AreStandsApart, HasOneMore, IsStandOf, LacksVertex, link_between}
 use Rattle.area_drawings.proofs.Once.{one}
 
 -- it is there already
@@ -20,7 +20,7 @@ one_more link old l = (
 )
 
 -- the drawing of a link is one more
-pub adds : (stands : List Stand) (s : Stand) (link : Link) (to : Stand) (old new : List DrawnLink) → AreApart stands → IsStandOf stands link.to to → HasOneMore (link_between s link.cost to) old new → AddsLink stands s link old new
+pub adds : (stands : List Stand) (s : Stand) (link : GraphLink) (to : Stand) (old new : List DrawnLink) → AreStandsApart stands → IsStandOf stands link.to to → HasOneMore (link_between s link.cost to) old new → AddsLink stands s link old new
 adds stands s link to old new apart here more l = (
   λ c. elim ((more l).0 c) [ inl was ↦ inl was | inr same ↦ inr (to, here, same) ],
   λ w. elim w [
@@ -30,7 +30,7 @@ adds stands s link to old new apart here more l = (
 )
 
 -- no link leads to what is not drawn
-pub adds_none : (stands : List Stand) (s : Stand) (link : Link) (old : List DrawnLink) → LacksVertex stands link.to → AddsLink stands s link old old
+pub adds_none : (stands : List Stand) (s : Stand) (link : GraphLink) (old : List DrawnLink) → LacksVertex stands link.to → AddsLink stands s link old old
 adds_none stands s link old lacks l = (λ c. inl c, λ w. elim w [ inl was ↦ was | inr drawn ↦ absurd (lacks drawn.0 drawn.1) ])
 
 pub lacks : (stands : List Stand) (v : Vertex) → All (λ s. s.reached.vertex ≢ v) stands → LacksVertex stands v

@@ -10,7 +10,7 @@ use Rattle.ospf_types.proofs.Elements.{no_element, first_element, later_element,
 use Rattle.area_drawings.specs.declared.drawing.GridCell.{GridCell}
 use Rattle.area_drawings.specs.declared.reached.ReachedVertex.{ReachedVertex}
 use Rattle.area_drawings.specs.declared.stands.Stand.{Stand}
-use Rattle.area_drawings.specs.Places.{AreInPlaces, HasRows, IsBefore, IsNext, IsRun, rows_of}
+use Rattle.area_drawings.specs.Places.{AreInPlaces, HasRows, IsPlaceBefore, IsNext, IsStandChain, rows_of}
 
 -- one vertex more has a cell
 pub reached_push : (ss : List Stand) (s : Stand) (rs : List ReachedVertex) (i : ℕ) (d : ReachedVertex) → i < length rs → map (λ t. t.reached) ss ≡ take i rs → s.reached ≡ get_or rs i d → map (λ t. t.reached) (ss ++ s ∷ []) ≡ take (i + 1) rs
@@ -20,31 +20,31 @@ reached_push ss s rs i d lt before is =
     ∙ ap (λ (r : ReachedVertex). take i rs ++ r ∷ []) is
     ∙ sym (take_more rs i d lt)
 
-pub run_push : (before : Option Stand) (ss : List Stand) (mid : Option Stand) (s : Stand) → IsRun before ss mid → IsNext mid s → IsRun before (ss ++ s ∷ []) (Some s)
+pub run_push : (before : Option Stand) (ss : List Stand) (mid : Option Stand) (s : Stand) → IsStandChain before ss mid → IsNext mid s → IsStandChain before (ss ++ s ∷ []) (Some s)
 run_push before [] mid s run next = (subst (λ (b : Option Stand). IsNext b s) run next, refl)
 run_push before (t ∷ ts) mid s run next = (run.0, run_push (Some t) ts mid s run.1 next)
 
 -- the next vertex comes after it
-behind : (b s : Stand) → IsNext (Some b) s → IsBefore b.place s.place
+behind : (b s : Stand) → IsNext (Some b) s → IsPlaceBefore b.place s.place
 behind b s next = elim next [ inl same ↦ inr (sym same.0, same.1) | inr below ↦ inl (omega arith) ]
 
-farther : (p q r : GridCell) → IsBefore p q → IsBefore q r → IsBefore p r
+farther : (p q r : GridCell) → IsPlaceBefore p q → IsPlaceBefore q r → IsPlaceBefore p r
 farther p q r first second =
     elim first [
       | inl up ↦ elim second [ inl further ↦ inl (omega arith) | inr same ↦ inl (omega arith) ]
       | inr left ↦ elim second [ inl further ↦ inl (omega arith) | inr same ↦ inr (omega arith, omega arith) ]
     ]
 
-all_behind : (b : Stand) (ss : List Stand) (last : Option Stand) → IsRun (Some b) ss last → All (λ s. IsBefore b.place s.place) ss
-all_behind b [] last run = All-nil (λ s. IsBefore b.place s.place)
+all_behind : (b : Stand) (ss : List Stand) (last : Option Stand) → IsStandChain (Some b) ss last → All (λ s. IsPlaceBefore b.place s.place) ss
+all_behind b [] last run = All-nil (λ s. IsPlaceBefore b.place s.place)
 all_behind b (s ∷ ss) last run =
     let here = behind b s run.0 in
-    All-cons (λ t. IsBefore b.place t.place) s ss here (All-weaker (λ t. IsBefore s.place t.place) (λ t. IsBefore b.place t.place) (λ t later. farther b.place s.place t.place here later) ss (all_behind s ss last run.1))
+    All-cons (λ t. IsPlaceBefore b.place t.place) s ss here (All-weaker (λ t. IsPlaceBefore s.place t.place) (λ t. IsPlaceBefore b.place t.place) (λ t later. farther b.place s.place t.place here later) ss (all_behind s ss last run.1))
 
 -- each comes before the next ones
-pub in_places : (before : Option Stand) (ss : List Stand) (last : Option Stand) → IsRun before ss last → AreInPlaces ss
+pub in_places : (before : Option Stand) (ss : List Stand) (last : Option Stand) → IsStandChain before ss last → AreInPlaces ss
 in_places before [] last run = λ i j d lt within. absurd (omega arith)
-in_places before (s ∷ ss) last run = AllPairs-cons (λ t u. IsBefore t.place u.place) s ss (all_behind s ss last run.1) (in_places (Some s) ss last run.1)
+in_places before (s ∷ ss) last run = AllPairs-cons (λ t u. IsPlaceBefore t.place u.place) s ss (all_behind s ss last run.1) (in_places (Some s) ss last run.1)
 
 -- some vertex is in the row
 abbrev HasRow : List Stand → ℕ → Type 0
@@ -63,7 +63,7 @@ no_fewer : (before : Option Stand) (s : Stand) → IsNext before s → (row : �
 no_fewer None s next row lt = absurd (omega arith)
 no_fewer (Some b) s next row lt = elim next [ inl same ↦ omega arith | inr below ↦ omega arith ]
 
-run_rows : (before : Option Stand) (ss : List Stand) (last : Option Stand) → IsRun before ss last → (row : ℕ) → (row < rows_of last) ↔ ((row < rows_of before) ⊎ HasRow ss row)
+run_rows : (before : Option Stand) (ss : List Stand) (last : Option Stand) → IsStandChain before ss last → (row : ℕ) → (row < rows_of last) ↔ ((row < rows_of before) ⊎ HasRow ss row)
 run_rows before [] last run row = (
   λ lt. inl (subst (λ (o : Option Stand). row < rows_of o) run lt),
   λ w. elim w [ inl lt ↦ subst (λ (o : Option Stand). row < rows_of o) (sym run) lt | inr has ↦ absurd (no_element has.0 has.1) ],
@@ -84,7 +84,7 @@ run_rows before (s ∷ ss) last run row =
     )
 
 -- the rows are those below this number
-pub has_rows : (ss : List Stand) (last : Option Stand) (rows : ℕ) → IsRun None ss last → rows ≡ rows_of last → HasRows rows ss
+pub has_rows : (ss : List Stand) (last : Option Stand) (rows : ℕ) → IsStandChain None ss last → rows ≡ rows_of last → HasRows rows ss
 has_rows ss last rows run is row =
     let all = run_rows None ss last run row in (
       λ lt. ⊎_elim (λ (none : row < 0). absurd (omega arith)) (λ (has : HasRow ss row). has) (all.0 (subst (λ (n : ℕ). row < n) is lt)),

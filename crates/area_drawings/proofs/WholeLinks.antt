@@ -9,22 +9,22 @@ use Rattle.ospf_types.specs.declared.entry.Vertex.{Vertex}
 use Rattle.ospf_types.proofs.Elements.{no_element}
 use Rattle.area_drawings.specs.declared.drawing.DrawnLink.{DrawnLink}
 use Rattle.vertex_graph.specs.Graphs.{GraphValue, AreLinksFrom, LinksOf}
-use Rattle.vertex_graph.specs.Link.{Link}
+use Rattle.vertex_graph.specs.GraphLink.{GraphLink}
 use Rattle.graph_links.proofs.Apart.{apart_append}
 use Rattle.spf.specs.HandedOn.{IsOfSome}
 use Rattle.spf.proofs.OfSome.{of_none, of_more, of_all}
 use Rattle.area_drawings.specs.declared.stands.Stand.{Stand}
-use Rattle.area_drawings.specs.Links.{AddsLink, AreApart, AreLinksBetween, AreLinksOut, IsDrawnOf, IsLinkOut}
+use Rattle.area_drawings.specs.Links.{AddsLink, AreStandsApart, AreLinksBetween, AreLinksOut, IsDrawnOf, IsLinkOut}
 use Rattle.area_drawings.proofs.Once.{not_earlier}
 
 -- just those are there that are drawn of these links
-abbrev pub AreDrawnOf : List Stand → Stand → List Link → List DrawnLink → Type 0
+abbrev pub AreDrawnOf : List Stand → Stand → List GraphLink → List DrawnLink → Type 0
 AreDrawnOf stands s links drawn = (k : DrawnLink) → Contains drawn k ↔ IsOfSome links (IsDrawnOf stands s) k
 
 pub none_drawn : (stands : List Stand) (s : Stand) → AreDrawnOf stands s [] []
 none_drawn stands s k = (λ c. absurd (no_element k c), λ w. absurd (of_none (IsDrawnOf stands s) k w))
 
-pub drawn_more : (stands : List Stand) (s : Stand) (links : List Link) (i : ℕ) (link : Link) (old new : List DrawnLink) → i < length links → link ≡ get_or links i link → AreDrawnOf stands s (take i links) old
+pub drawn_more : (stands : List Stand) (s : Stand) (links : List GraphLink) (i : ℕ) (link : GraphLink) (old new : List DrawnLink) → i < length links → link ≡ get_or links i link → AreDrawnOf stands s (take i links) old
     → AddsLink stands s link old new → AreDrawnOf stands s (take (i + 1) links) new
 drawn_more stands s links i link old new lt is before adds k =
     let more = of_more (IsDrawnOf stands s) links i link k lt is in (
@@ -33,11 +33,11 @@ drawn_more stands s links i link old new lt is before adds k =
     )
 
 -- a link of the graph by its ends
-by_ends : (g : GraphValue) (s t : Stand) (link : Link) → link.from ≡ s.reached.vertex → t.reached.vertex ≡ link.to → LinksOf g link.from link.to link.cost link.label → LinksOf g s.reached.vertex t.reached.vertex link.cost link.label
+by_ends : (g : GraphValue) (s t : Stand) (link : GraphLink) → link.from ≡ s.reached.vertex → t.reached.vertex ≡ link.to → LinksOf g link.from link.to link.cost link.label → LinksOf g s.reached.vertex t.reached.vertex link.cost link.label
 by_ends g s t link from to h = subst (λ (p : Vertex × Vertex). LinksOf g p.0 p.1 link.cost link.label) (λ i. (from i, sym to i)) h
 
 -- all links out of a vertex
-pub all_out : (g : GraphValue) (stands : List Stand) (s : Stand) (links : List Link) (i : ℕ) (drawn : List DrawnLink) → AreLinksFrom g s.reached.vertex links → length links ≤ i → AreDrawnOf stands s (take i links) drawn → AreLinksOut g stands s drawn
+pub all_out : (g : GraphValue) (stands : List Stand) (s : Stand) (links : List GraphLink) (i : ℕ) (drawn : List DrawnLink) → AreLinksFrom g s.reached.vertex links → length links ≤ i → AreDrawnOf stands s (take i links) drawn → AreLinksOut g stands s drawn
 all_out g stands s links i drawn exact past are k =
     let all = of_all (IsDrawnOf stands s) links i k past in (
       λ c. of_link (all.0 ((are k).0 c)),
@@ -51,7 +51,7 @@ all_out g stands s links i drawn exact past are k =
 
     from_link : IsLinkOut g stands s k → IsOfSome links (IsDrawnOf stands s) k
     from_link (t, there, (cost, (label, h), is)) =
-        let link : Link = record { from = s.reached.vertex; to = t.reached.vertex; cost = cost; label = label } in
+        let link : GraphLink = record { from = s.reached.vertex; to = t.reached.vertex; cost = cost; label = label } in
         (link, (exact link).1 (refl, h), (t, (there, refl), is))
 
 -- just the links out of these vertices are there
@@ -71,7 +71,7 @@ module _ (g : GraphValue) (stands : List Stand) (i : ℕ) (d : Stand) (old row :
       )
 
   -- no link is out of two vertices
-  pub row_apart : AreApart stands → i < length stands → AreOutOf g stands (take i stands) old → AreLinksOut g stands (get_or stands i d) row → AllPairs (λ j k. j ≢ k) old → AllPairs (λ j k. j ≢ k) row → AllPairs (λ j k. j ≢ k) (old ++ row)
+  pub row_apart : AreStandsApart stands → i < length stands → AreOutOf g stands (take i stands) old → AreLinksOut g stands (get_or stands i d) row → AllPairs (λ j k. j ≢ k) old → AllPairs (λ j k. j ≢ k) row → AllPairs (λ j k. j ≢ k) (old ++ row)
   row_apart apart lt before exact first second =
       apart_append old row first second
       (λ k early late. clash k ((before k).0 early) ((exact k).0 late))

@@ -53,7 +53,7 @@ abbrev pub reached_of : List Stand → List ReachedVertex
 reached_of stands = map (λ s. s.reached) stands
 
 -- its next hops come from the tree, and its roles from its router-LSA
-pub record IsTold (d : Database) (t : AreaTreeValue) (v : DrawnVertex) : Type 0 where
+pub record IsTreeDrawn (d : Database) (t : AreaTreeValue) (v : DrawnVertex) : Type 0 where
   pub hops : v.hops ≡ listed_hops (get t.tree.hops v.vertex)
   pub roles : (flags : ℕ) × HasFlags d v.vertex flags × AreRoles flags v.roles
 
@@ -61,7 +61,7 @@ pub record IsTold (d : Database) (t : AreaTreeValue) (v : DrawnVertex) : Type 0 
 
 -- The columns are one for the networks, and one for the routers, at each distance that some have,
 -- in this order. Their distances are these, and each vertex is in its column.
-pub record AreColumns (distances : List ℕ) (stands : List Stand) : Type 0 where
+pub record AreDrawnColumns (distances : List ℕ) (stands : List Stand) : Type 0 where
   pub columns : List Column
   pub in_order : IsStrictlySortedBy column_cmp columns
   pub exact : AreColumnsOf (reached_of stands) columns
@@ -74,8 +74,8 @@ pub record IsDrawingOf (root : ℕ) (d : Database) (t : AreaTreeValue) (drawing 
   pub root_is : drawing.root ≡ root
   -- exactly the vertices that are reached, without duplicates
   pub reached : AreReached d t (reached_of (stands_of drawing))
-  pub told : All (IsTold d t) drawing.vertices
-  pub columns : AreColumns drawing.columns (stands_of drawing)
+  pub told : All (IsTreeDrawn d t) drawing.vertices
+  pub columns : AreDrawnColumns drawing.columns (stands_of drawing)
   -- from row to row, and in a row from left to right
   pub places : AreInPlaces (stands_of drawing)
   pub rows : HasRows drawing.rows (stands_of drawing)

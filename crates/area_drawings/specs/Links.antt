@@ -6,12 +6,12 @@ use Rattle.ospf_types.specs.declared.label.Label.{Label}
 use Rattle.area_drawings.specs.declared.drawing.DrawnEnd.{DrawnEnd}
 use Rattle.area_drawings.specs.declared.drawing.DrawnLink.{DrawnLink}
 use Rattle.vertex_graph.specs.Graphs.{GraphValue, LinksOf}
-use Rattle.vertex_graph.specs.Link.{Link}
+use Rattle.vertex_graph.specs.GraphLink.{GraphLink}
 use Rattle.area_drawings.specs.declared.stands.Stand.{Stand}
 
 -- no two are of one vertex
-abbrev pub AreApart : List Stand → Type 0
-AreApart stands = AllPairs (λ s t. s.reached.vertex ≢ t.reached.vertex) stands
+abbrev pub AreStandsApart : List Stand → Type 0
+AreStandsApart stands = AllPairs (λ s t. s.reached.vertex ≢ t.reached.vertex) stands
 
 -- the vertex in its place
 abbrev pub IsStandOf : List Stand → Vertex → Stand → Type 0
@@ -47,11 +47,11 @@ abbrev pub AreLinksBetween : GraphValue → List Stand → List DrawnLink → Ty
 AreLinksBetween g stands links = (l : DrawnLink) → Contains links l ↔ ((s : Stand) × Contains stands s × IsLinkOut g stands s l)
 
 -- it is what is drawn of this link, out of a vertex
-abbrev pub IsDrawnOf : List Stand → Stand → Link → DrawnLink → Type 0
+abbrev pub IsDrawnOf : List Stand → Stand → GraphLink → DrawnLink → Type 0
 IsDrawnOf stands s link l = (t : Stand) × IsStandOf stands link.to t × (l ≡ link_between s link.cost t)
 
 -- the link is added, if both ends are drawn
-abbrev pub AddsLink : List Stand → Stand → Link → List DrawnLink → List DrawnLink → Type 0
+abbrev pub AddsLink : List Stand → Stand → GraphLink → List DrawnLink → List DrawnLink → Type 0
 AddsLink stands s link old new = (l : DrawnLink) → Contains new l ↔ (Contains old l ⊎ IsDrawnOf stands s link l)
 
 -- this one is there now, and those that were

@@ -7,12 +7,12 @@ use Rattle.area_drawings.specs.declared.stands.Stand.{Stand}
 use Rattle.area_drawings.specs.Columns.{column_of}
 
 -- a place comes before another: it is in a row further up, or further left in the row
-abbrev pub IsBefore : GridCell → GridCell → Type 0
-IsBefore p q = (p.row < q.row) ⊎ ((p.row ≡ q.row) × (p.column < q.column))
+abbrev pub IsPlaceBefore : GridCell → GridCell → Type 0
+IsPlaceBefore p q = (p.row < q.row) ⊎ ((p.row ≡ q.row) × (p.column < q.column))
 
 -- Each comes before the next ones, so that no two have one cell.
 abbrev pub AreInPlaces : List Stand → Type 0
-AreInPlaces stands = AllPairs (λ s t. IsBefore s.place t.place) stands
+AreInPlaces stands = AllPairs (λ s t. IsPlaceBefore s.place t.place) stands
 
 -- the rows with a vertex are those below this number
 abbrev pub HasRows : ℕ → List Stand → Type 0
@@ -37,6 +37,6 @@ abbrev pub IsNext : Option Stand → Stand → Type 0
 IsNext before s = IsNextRow before s.place.column s.place.row
 
 -- each comes after the one before it, the first after this one, and another is the last
-abbrev pub IsRun : Option Stand → List Stand → Option Stand → Type 0
-IsRun before [] last = last ≡ before
-IsRun before (s ∷ ss) last = IsNext before s × IsRun (Some s) ss last
+abbrev pub IsStandChain : Option Stand → List Stand → Option Stand → Type 0
+IsStandChain before [] last = last ≡ before
+IsStandChain before (s ∷ ss) last = IsNext before s × IsStandChain (Some s) ss last

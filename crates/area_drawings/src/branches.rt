@@ -7,7 +7,7 @@ use area_trees::AreaTree;
 use ospf_types::entry::Vertex;
 use ospf_types::memory::Memory;
 use std::alloc::Global;
-use vertex_graph::Link;
+use vertex_graph::GraphLink;
 
 /// A vertex, and the vertex before it on a shortest path from the root.
 #[derive(Clone, Copy)]
@@ -47,7 +47,7 @@ fn add_branches(
 }
 
 // Returns true if a shortest path leads over this link out of `parent`.
-fn is_branch(tree: &AreaTree, parent: ReachedVertex, link: &Link) -> bool {
+fn is_branch(tree: &AreaTree, parent: ReachedVertex, link: &GraphLink) -> bool {
     match tree.distance(link.to.vertex()) {
         Some(distance) => is_least(parent.distance, link.cost, distance),
         None => false,

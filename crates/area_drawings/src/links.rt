@@ -1,7 +1,7 @@
 //! The links of the picture: the links of the graph between vertices that are drawn.
 ghost use Rattle.std.specs.Prelude.{◌≡◌, ◌≢◌, ◌↔◌, IfOk, IfSome, IfNone, IsTrue, OnOk, Contains};
 ghost use Rattle.std.specs.List.{AllPairs};
-ghost use Rattle.area_drawings.specs.Links.{AddsLink, AreApart, AreLinksBetween, AreLinksOut};
+ghost use Rattle.area_drawings.specs.Links.{AddsLink, AreStandsApart, AreLinksBetween, AreLinksOut};
 ghost use Rattle.area_drawings.specs.Links.{HasOneMore, KeepsApart, LacksVertex, IsStandOf, end_of};
 ghost use Rattle.area_drawings.specs.Links.{link_between};
 
@@ -12,7 +12,7 @@ use area_trees::AreaTree;
 use ospf_types::entry::Vertex;
 use ospf_types::memory::Memory;
 use std::alloc::Global;
-use vertex_graph::Link;
+use vertex_graph::GraphLink;
 
 /// Returns the links between these vertices, without duplicates. Links of one cost between two
 /// vertices are drawn as one.
@@ -21,7 +21,7 @@ pub(crate) fn draw_links(
     tree: &AreaTree,
     stands: &[Stand],
 ) -> Result<Vec<DrawnLink>, Memory>
-    requires { AreApart stands.now }
+    requires { AreStandsApart stands.now }
     ensures exact { IfOk result (λ links. AreLinksBetween tree.now.area.graph stands.now links.items) }
     ensures each_once { IfOk result (λ links. AllPairs (λ k l. k ≢ l) links.items) }
 {
@@ -40,7 +40,7 @@ fn links_out(
     stands: &[Stand],
     from: Stand,
 ) -> Result<Vec<DrawnLink>, Memory>
-    requires { AreApart stands.now }
+    requires { AreStandsApart stands.now }
     ensures exact { IfOk result (λ links. AreLinksOut tree.now.area.graph stands.now from links.items) }
     ensures each_once { IfOk result (λ links. AllPairs (λ k l. k ≢ l) links.items) }
 {
@@ -55,10 +55,10 @@ fn links_out(
 fn add_link(
     stands: &[Stand],
     from: Stand,
-    link: &Link,
+    link: &GraphLink,
     links: &mut Vec<DrawnLink>,
 ) -> Result<(), Memory>
-    requires { AreApart stands.now }
+    requires { AreStandsApart stands.now }
     ensures exact { OnOk result (AddsLink stands.now from link.now links.old.items links.new.items) }
     ensures each_once { OnOk result (KeepsApart links.old.items links.new.items) }
 {

@@ -2,7 +2,7 @@
 ghost use Rattle.std.specs.Prelude.{◌≡◌, map, IfOk};
 ghost use Rattle.std.specs.List.{All};
 ghost use Rattle.area_trees.specs.Areas.{IsTreeIn};
-ghost use Rattle.area_drawings.specs.Drawings.{AreRoles, HasFlags, IsTold, stand_of};
+ghost use Rattle.area_drawings.specs.Drawings.{AreRoles, HasFlags, IsTreeDrawn, stand_of};
 
 use crate::stands::Stand;
 use crate::{DrawnVertex, Roles};
@@ -28,7 +28,7 @@ pub(crate) fn draw_vertices(
 ) -> Result<Listed<DrawnVertex>, Memory>
     requires { IsTreeIn database.now.lsas tree.now }
     ensures stands { IfOk result (λ vertices. map stand_of vertices ≡ stands.now) }
-    ensures told { IfOk result (All (IsTold database.now.lsas tree.now)) }
+    ensures told { IfOk result (All (IsTreeDrawn database.now.lsas tree.now)) }
 {
     let mut vertices = Listed::new(alloc);
     for stand in stands {
@@ -46,7 +46,7 @@ fn draw_vertex(
 ) -> Result<DrawnVertex, Memory>
     requires { IsTreeIn database.now.lsas tree.now }
     ensures stand { IfOk result (λ vertex. stand_of vertex ≡ stand) }
-    ensures told { IfOk result (IsTold database.now.lsas tree.now) }
+    ensures told { IfOk result (IsTreeDrawn database.now.lsas tree.now) }
 {
     let vertex = stand.reached.vertex;
     Ok(DrawnVertex {

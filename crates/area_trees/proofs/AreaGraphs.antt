@@ -26,7 +26,7 @@ use Rattle.spf.proofs.Elements.{cases_contains}
 use Rattle.vertex_graph.specs.LinkEnd.{LinkEnd}
 use Rattle.vertex_graph.specs.Graphs.{GraphValue, Handed, AreApartHanded, AreFewAfter, IsThereAfter, IsReplaced}
 use Rattle.vertex_graph.proofs.VertexTests.{is_vertex, vertex_laws, vertex_same}
-use Rattle.area_trees.specs.Areas.{AreNetworksOf, AreStanding, AreaGraphValue, DifferAmong, IsGraphOf, IsStanding, IsUsed, LeadsBy, body_at, network_key, router_key, vertex_of}
+use Rattle.area_trees.specs.Areas.{AreNetworksOf, AreStanding, AreaGraphValue, DifferAmong, IsGraphOf, IsStanding, IsUsed, LeadsByBody, body_at, network_key, router_key, vertex_of}
 
 -- ---- the graph of no LSAs
 
@@ -54,7 +54,7 @@ graph_of_none v no_ends none = record {
 pub graph_same : (d : Database) (v w : AreaGraphValue) → w.graph.ends ≡ v.graph.ends → w.networks ≡ v.networks → IsGraphOf d v → IsGraphOf d w
 graph_same d v w ends networks is = record {
   networks = subst (AreNetworksOf d) (sym networks) is.networks;
-  leads = λ u. let l = is.leads u in (l.0, l.1, subst (LeadsBy u l.0) (ap (λ es. get es u) (sym ends)) l.2);
+  leads = λ u. let l = is.leads u in (l.0, l.1, subst (LeadsByBody u l.0) (ap (λ es. get es u) (sym ends)) l.2);
 }
 
 -- ---- what is given for each vertex
@@ -140,9 +140,9 @@ module _ (before after : Database) (changed : List Key) (differ : DifferAmong be
 
   module _ (vs : List Vertex) (exact : (v : Vertex) → Contains vs v ↔ ((k : Key) × Contains changed k × (vertex_of k ≡ Some v))) (hs : List Handed) (all : AreStanding after vs hs) (old : AreaGraphValue) (is : IsGraphOf before old) where
     module _ (new : GraphValue) (replaced : IsReplaced old.graph new hs) where
-      leads_handed : (w : Vertex) (body : Option Body) → Contains hs (w, body) → LeadsBy w body (get new.ends w)
+      leads_handed : (w : Vertex) (body : Option Body) → Contains hs (w, body) → LeadsByBody w body (get new.ends w)
       leads_handed w None c = replaced.away w c
-      leads_handed w (Some body) c = let there = replaced.there w body c in subst (LeadsBy w (Some body)) (sym there.1) there.2
+      leads_handed w (Some body) c = let there = replaced.there w body c in subst (LeadsByBody w (Some body)) (sym there.1) there.2
 
       -- the graph belongs to the database after
       pub graph_after : (networks : List (ℕ × ℕ)) → AreNetworksOf after networks → IsGraphOf after (record { graph = new; networks = networks })
@@ -154,14 +154,14 @@ module _ (before after : Database) (changed : List Key) (differ : DifferAmong be
               let was = is.leads w in (
                 was.0,
                 stands_still w (λ k c names. unnamed ((exact w).1 (k, c, names))) was.0 was.1,
-                subst (LeadsBy w was.0) (sym (replaced.others w (λ given c. unnamed (handed_stands after vs hs all w given c).0))) was.2,
+                subst (LeadsByBody w was.0) (sym (replaced.others w (λ given c. unnamed (handed_stands after vs hs all w given c).0))) was.2,
               )
         ];
       }
 
     -- ---- routers are few, since each has an LSA
 
-    some_leads : (w : Vertex) (body : Option Body) (ends : Option (List LinkEnd)) → LeadsBy w body ends → IsSome ends → IsSome body
+    some_leads : (w : Vertex) (body : Option Body) (ends : Option (List LinkEnd)) → LeadsByBody w body ends → IsSome ends → IsSome body
     some_leads w (Some body) ends leads some = refl
     some_leads w None ends leads some = let gone : is_some {T = List LinkEnd} None ≡ true = subst (λ (o : Option (List LinkEnd)). IsSome o) leads some in absurd cc
 

@@ -2,7 +2,7 @@
 use Rattle.std.proofs.Common.{◌≡◌, ℕ, Bool, false, List, Result, Ok, Err, sym, ap, subst, ◌∙◌}
 use Rattle.std.specs.Prelude.{OnOk, is_err}
 use Rattle.lsdb.specs.Databases.{Database}
-use Rattle.vertex_graph.specs.Link.{Link}
+use Rattle.vertex_graph.specs.GraphLink.{GraphLink}
 use Rattle.vertex_graph.specs.Up.{Up}
 use Rattle.vertex_graph.specs.Graphs.{GraphValue, AreExact, HasEnds}
 use Rattle.vertex_graph.proofs.Deciding.{link_decided}
@@ -11,7 +11,7 @@ use Rattle.spf.proofs.Caller.{right_before}
 use Rattle.area_trees.specs.Areas.{AreaTreeValue, IsAreaTree, IsGraphOf}
 
 -- the tree of the graph before is right before the changes
-pub tree_before : (was inside : AreaTreeValue) → inside ≡ was → IsTreeOf was.area.graph was.tree → (new graph : GraphValue) → graph ≡ new → (gone come : List Link)
+pub tree_before : (was inside : AreaTreeValue) → inside ≡ was → IsTreeOf was.area.graph was.tree → (new graph : GraphValue) → graph ≡ new → (gone come : List GraphLink)
     → HasEnds inside.area.graph → HasEnds new → AreExact inside.area.graph new gone come → new.root ≡ inside.area.graph.root → IsTreeBefore graph gone come inside.tree
 tree_before was inside view_is tree new graph graph_is gone come ends ends_after exact root =
     subst (λ (g : GraphValue). IsTreeBefore g gone come inside.tree) (sym graph_is)

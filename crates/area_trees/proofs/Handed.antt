@@ -8,18 +8,18 @@ use Rattle.ospf_types.specs.declared.entry.Vertex.{Vertex}
 use Rattle.ospf_types.specs.declared.entry.Vertex.TheVariants.{Network}
 use Rattle.ospf_types.specs.Lsa.{Body}
 use Rattle.vertex_graph.specs.Graphs.{Handed, handed_of}
-use Rattle.area_trees.specs.Areas.{AreNetworksOf, AreStanding, IsGreatest, IsGreatestOf, IsStanding, body_at, network_key}
+use Rattle.area_trees.specs.Areas.{AreNetworksOf, AreStanding, IsGreatestRouter, IsGreatestOf, IsStanding, body_at, network_key}
 
 module _ (d : Database) (networks : List (ℕ × ℕ)) (are : AreNetworksOf d networks) (id : ℕ) where
   -- for a network without a usable network-LSA none stands
   pub none_stands : ((router : ℕ) → Contains networks (id, router) → ⊥) → IsStanding d (Network id) None
   none_stands none = inr (λ router used. none router ((are id router).1 used), refl)
 
-  pub greatest_of : (router : ℕ) → IsGreatest networks id router → IsGreatestOf d id router
+  pub greatest_of : (router : ℕ) → IsGreatestRouter networks id router → IsGreatestOf d id router
   greatest_of router greatest = ((are id router).0 greatest.0, λ other used. greatest.1 other ((are id other).1 used))
 
   -- the one of the greatest Advertising Router stands
-  pub greatest_stands : (router : ℕ) (body : Option Body) → IsGreatest networks id router → body ≡ body_at d (network_key id router) → IsStanding d (Network id) body
+  pub greatest_stands : (router : ℕ) (body : Option Body) → IsGreatestRouter networks id router → body ≡ body_at d (network_key id router) → IsStanding d (Network id) body
   greatest_stands router body greatest is = inl (router, greatest_of router greatest, is)
 
 -- one more vertex with what represents it

@@ -29,7 +29,7 @@ use Rattle.spf.specs.Trees.{IsTree}
 use Rattle.spf.specs.TreeValues.{listed_hops}
 use Rattle.spf.proofs.SameLinks.{tree_same}
 use Rattle.spf.proofs.Values.{value_at}
-use Rattle.area_trees.specs.Areas.{IsStanding, LeadsBy, IsGraphOf, IsAreaTree, IsAreaOf, AreaGraphValue, AreaTreeValue, router_key, network_key, body_at}
+use Rattle.area_trees.specs.Areas.{IsStanding, LeadsByBody, IsGraphOf, IsAreaTree, IsAreaOf, AreaGraphValue, AreaTreeValue, router_key, network_key, body_at}
 use Rattle.area_trees.proofs.Held.{under_key, among_values, held_by, used_of}
 use Rattle.area_trees.proofs.Leading.{leads_some, some_leads, named_there, link_there, link_named, end_at, end_there, details_there, addresses_there, router_there, router_named, IsTo}
 use Rattle.area_trees.proofs.Standing.{there, is_there, one_standing, used_network, some_router, some_network}
@@ -56,12 +56,12 @@ module _ {d : Database} {v : AreaGraphValue} (is : IsGraphOf d v) where
   led : (w : Vertex) (b : Body) → IsStanding d w (Some b) → (ends : List LinkEnd) × (get v.graph.ends w ≡ Some ends) × AreEnds w b ends
   led w b stands =
       let at = is.leads w in
-      leads_some w b (get v.graph.ends w) (subst (λ (o : Option Body). LeadsBy w o (get v.graph.ends w)) (one_standing d w at.0 (Some b) at.1 stands) at.2)
+      leads_some w b (get v.graph.ends w) (subst (λ (o : Option Body). LeadsByBody w o (get v.graph.ends w)) (one_standing d w at.0 (Some b) at.1 stands) at.2)
 
   leading : (w : Vertex) (ends : List LinkEnd) → get v.graph.ends w ≡ Some ends → (b : Body) × IsStanding d w (Some b) × AreEnds w b ends
   leading w ends here =
       let at = is.leads w in
-      let from = some_leads w at.0 ends (subst (LeadsBy w at.0) here at.2) in
+      let from = some_leads w at.0 ends (subst (LeadsByBody w at.0) here at.2) in
       (from.0, subst (IsStanding d w) from.1 at.1, from.2)
 
   pub graph_ends : HasEnds v.graph

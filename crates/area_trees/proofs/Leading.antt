@@ -12,15 +12,15 @@ use Rattle.vertex_graph.specs.EndOrder.{listed_end}
 use Rattle.vertex_graph.specs.Ends.{end_by, end_of, AreEnds}
 use Rattle.vertex_graph.specs.Graphs.{number_of}
 use Rattle.vertex_graph.specs.Pairs.{Names, AreDetailsTo}
-use Rattle.area_trees.specs.Areas.{LeadsBy}
+use Rattle.area_trees.specs.Areas.{LeadsByBody}
 
 -- ---- a body leads somewhere, and no body nowhere
 
-pub leads_some : (v : Vertex) (b : Body) (o : Option (List LinkEnd)) → LeadsBy v (Some b) o → (ends : List LinkEnd) × (o ≡ Some ends) × AreEnds v b ends
+pub leads_some : (v : Vertex) (b : Body) (o : Option (List LinkEnd)) → LeadsByBody v (Some b) o → (ends : List LinkEnd) × (o ≡ Some ends) × AreEnds v b ends
 leads_some v b (Some ends) leads = (ends, refl, leads)
 leads_some v b None leads = absurd leads
 
-pub some_leads : (v : Vertex) (o : Option Body) (ends : List LinkEnd) → LeadsBy v o (Some ends) → (b : Body) × (o ≡ Some b) × AreEnds v b ends
+pub some_leads : (v : Vertex) (o : Option Body) (ends : List LinkEnd) → LeadsByBody v o (Some ends) → (b : Body) × (o ≡ Some b) × AreEnds v b ends
 some_leads v (Some b) ends leads = (b, refl, leads)
 some_leads v None ends leads = absurd cc
 

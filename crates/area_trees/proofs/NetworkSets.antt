@@ -12,7 +12,7 @@ use Rattle.std.proofs.lemmas.List.Elements.{All-contains}
 use Rattle.std.proofs.lemmas.Map.Lookups.{CmpEqualImpliesEq, exact_pairs, exact_unsigned}
 use Rattle.std.proofs.lemmas.Map.Views.{btree_set_contains_iff, tells_apart}
 use Rattle.ospf_types.proofs.Elements.{mapped_element, mapped_from}
-use Rattle.area_trees.specs.Areas.{IsGreatest}
+use Rattle.area_trees.specs.Areas.{IsGreatestRouter}
 use Rattle.area_trees.specs.declared.networks.NetworkLsa.{NetworkLsa}
 
 abbrev pub lsa : ℕ → ℕ → NetworkLsa
@@ -66,7 +66,7 @@ module _ (s : BTreeSet NetworkLsa) (small : All (λ (l : NetworkLsa). l.router <
       let there : true ≡ false = sym ((in_pairs s id router).0 c) ∙ gone in
       cc
 
-  pub last_greatest : (t : List NetworkLsa) (k : NetworkLsa) → part ≡ t ++ k ∷ [] → IsGreatest (pairs s.keys) id k.router
+  pub last_greatest : (t : List NetworkLsa) (k : NetworkLsa) → part ≡ t ++ k ∷ [] → IsGreatestRouter (pairs s.keys) id k.router
   last_greatest t k is =
       let in_range = range.3 k t is in
       let same : k.id ≡ id = omega (arith, le_by_id (lsa id 0) k in_range.0.0, le_by_id k (lsa id 4294967295) in_range.0.1) in (

@@ -12,7 +12,7 @@ use Rattle.ospf_types.specs.declared.key.Key.{Key}
 use Rattle.ospf_types.proofs.Elements.{no_element, first_element}
 use Rattle.lsdb.specs.Databases.{Database}
 use Rattle.vertex_graph.specs.Graphs.{GraphValue, AreExact}
-use Rattle.vertex_graph.specs.Link.{Link}
+use Rattle.vertex_graph.specs.GraphLink.{GraphLink}
 use Rattle.vertex_graph.specs.Up.{Up}
 use Rattle.spf.specs.TreeValues.{TreeValue, IsBounded, IsWorkDone, AreChanged}
 use Rattle.area_trees.specs.Areas.{AreaGraphValue, AreaTreeValue, DifferAmong, IsAreaTree, IsGraphOf, IsStanding, body_at, network_key, router_key}
@@ -62,8 +62,8 @@ pub same_graph : (g : GraphValue) → AreExact g g [] []
 same_graph g = record {
   went = λ l. (λ c. absurd (no_element l c), λ h. absurd (h.1 h.0));
   came = λ l. (λ c. absurd (no_element l c), λ h. absurd (h.1 h.0));
-  went_once = no_pairs (λ (k l : Link). k ≢ l);
-  came_once = no_pairs (λ (k l : Link). k ≢ l);
+  went_once = no_pairs (λ (k l : GraphLink). k ≢ l);
+  came_once = no_pairs (λ (k l : GraphLink). k ≢ l);
 }
 
 pub no_bounds : (g : GraphValue) (t : TreeValue) → IsBounded g [] [] t 0 0

@@ -5,7 +5,7 @@ use Rattle.ospf_types.specs.declared.entry.Vertex.{Vertex}
 use Rattle.ospf_types.specs.declared.entry.Vertex.TheVariants.{Router, Network}
 use Rattle.ospf_types.specs.declared.key.Key.{Key}
 use Rattle.ospf_types.specs.Lsa.{Body, RouterLink, RouterLinks, NetworkLinks, NetworkSummary, BoundarySummary, AsExternal, kind_of}
-use Rattle.lsdb.specs.Contents.{IsSound}
+use Rattle.lsdb.specs.Contents.{IsDatabaseSound}
 use Rattle.lsdb.specs.Databases.{Database}
 use Rattle.area_trees.specs.Areas.{router_key, network_key, body_at, IsStanding}
 use Rattle.area_trees.proofs.Held.{held_by}
@@ -41,7 +41,7 @@ network_body (NetworkSummary mask metric tos) e = absurd (omega arith)
 network_body (BoundarySummary metric tos) e = absurd (omega arith)
 network_body (AsExternal mask first more) e = absurd (omega arith)
 
-module _ {d : Database} (sound : IsSound d) where
+module _ {d : Database} (sound : IsDatabaseSound d) where
   kind_at : (key : Key) (b : Body) → body_at d key ≡ Some b → kind_of b ≡ key.kind
   kind_at key b e =
       let w = held_by d key b e in

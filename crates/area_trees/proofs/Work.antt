@@ -11,7 +11,7 @@ use Rattle.ospf_types.specs.Distances.{Links, IsDistance, IsHop}
 use Rattle.ospf_types.specs.Inputs.{Inputs, Area}
 use Rattle.ospf_types.specs.Links.{IsVertex, IsLink}
 use Rattle.lsdb.specs.Databases.{Database}
-use Rattle.vertex_graph.specs.Link.{Link}
+use Rattle.vertex_graph.specs.GraphLink.{GraphLink}
 use Rattle.vertex_graph.specs.Up.{Up}
 use Rattle.vertex_graph.specs.Graphs.{GraphValue, LinksOf, HasRoot, AreExact}
 use Rattle.vertex_graph.proofs.Deciding.{link_decided}
@@ -81,7 +81,7 @@ module _ (root : ℕ) {A B C D : Links} {had_A has_B had_C has_D : Type 0} (one 
 
 -- exact changes between links are exact between the same links
 module _ {A B C D : Links} (one : SameLinks A C) (other : SameLinks B D) where
-  exact_same : (gone come : List Link) → AreExactChanges A B gone come → AreExactChanges C D gone come
+  exact_same : (gone come : List GraphLink) → AreExactChanges A B gone come → AreExactChanges C D gone come
   exact_same gone come exact = record {
     went = λ from to cost label.
         let x = one from to cost label in
@@ -148,7 +148,7 @@ module _ {g : GraphValue} {old new : TreeValue} {root : ℕ} {before after : Lin
   )
 
 -- the links before are those that the graph after and the changes give
-module _ {was g : GraphValue} {before : Links} {gone come : List Link} (same_before : SameLinks (LinksOf was) before) (decided_before : AreDecided (LinksOf was)) (decided_after : AreDecided (LinksOf g)) (exact : AreExact was g gone come) where
+module _ {was g : GraphValue} {before : Links} {gone come : List GraphLink} (same_before : SameLinks (LinksOf was) before) (decided_before : AreDecided (LinksOf was)) (decided_after : AreDecided (LinksOf g)) (exact : AreExact was g gone come) where
   exact_here : AreExactChanges (LinksOf was) (LinksOf g) gone come
   exact_here = record {
     went = λ from to cost label. exact.went (link_value from to cost label);

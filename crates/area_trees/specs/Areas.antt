@@ -10,12 +10,12 @@ use Rattle.lsa_codec.specs.declared.checked.Checked.{Checked}
 use Rattle.lsdb.specs.Databases.{Database}
 use Rattle.ospf_types.specs.declared.config.Interface.{Interface}
 use Rattle.ospf_types.specs.Inputs.{Inputs, Area, IsUp}
-use Rattle.lsdb.specs.Contents.{IsSound}
+use Rattle.lsdb.specs.Contents.{IsDatabaseSound}
 pub use Rattle.lsdb.specs.Contents.{body_at}
 use Rattle.vertex_graph.specs.LinkEnd.{LinkEnd}
 use Rattle.vertex_graph.specs.Up.{Up}
 use Rattle.vertex_graph.specs.Ends.{AreEnds}
-use Rattle.vertex_graph.specs.Link.{Link}
+use Rattle.vertex_graph.specs.GraphLink.{GraphLink}
 use Rattle.vertex_graph.specs.Graphs.{GraphValue, Handed, AreExact, handed_of}
 use Rattle.spf.specs.TreeValues.{TreeValue, AreChanged, IsBounded, IsTreeOf, IsWorkDone, IsWorkForAll}
 use Rattle.spf.specs.Touched.{Touched}
@@ -62,13 +62,13 @@ abbrev pub FollowsKey : Database → Key → List (ℕ × ℕ) → Type 0
 FollowsKey d key networks = key.kind ≡ 2 → Contains networks (key.id, key.router) ↔ IsUsed d key
 
 -- the networks other than that of the key are the same
-abbrev pub KeepsOthers : Key → List (ℕ × ℕ) → List (ℕ × ℕ) → Type 0
-KeepsOthers key old new =
+abbrev pub KeepsOtherNetworks : Key → List (ℕ × ℕ) → List (ℕ × ℕ) → Type 0
+KeepsOtherNetworks key old new =
     (id router : ℕ) → (((key.kind ≡ 2) × (key.id ≡ id) × (key.router ≡ router)) → ⊥) → Contains new (id, router) ↔ Contains old (id, router)
 
 -- of those with the Link State ID this Advertising Router is the greatest
-abbrev pub IsGreatest : List (ℕ × ℕ) → ℕ → ℕ → Type 0
-IsGreatest networks id router = Contains networks (id, router) × ((other : ℕ) → Contains networks (id, other) → other ≤ router)
+abbrev pub IsGreatestRouter : List (ℕ × ℕ) → ℕ → ℕ → Type 0
+IsGreatestRouter networks id router = Contains networks (id, router) × ((other : ℕ) → Contains networks (id, other) → other ≤ router)
 
 -- of a database's usable network-LSAs with the Link State ID this Advertising Router is the
 -- greatest
@@ -100,10 +100,10 @@ abbrev pub StandFor : Database → List Vertex → List (Vertex × Option (Bor C
 StandFor d vertices lsas = AreStanding d vertices (handed_of lsas)
 
 -- where the vertex leads by the body of its LSA
-abbrev pub LeadsBy : Vertex → Option Body → Option (List LinkEnd) → Type 0
-LeadsBy v (Some body) (Some ends) = AreEnds v body ends
-LeadsBy v (Some body) None = ⊥
-LeadsBy v None ends = ends ≡ None
+abbrev pub LeadsByBody : Vertex → Option Body → Option (List LinkEnd) → Type 0
+LeadsByBody v (Some body) (Some ends) = AreEnds v body ends
+LeadsByBody v (Some body) None = ⊥
+LeadsByBody v None ends = ends ≡ None
 
 -- ---- graph and tree
 
@@ -114,7 +114,7 @@ pub record AreaGraphValue : Type 0 where
 -- the graph belongs to the database
 pub record IsGraphOf (d : Database) (v : AreaGraphValue) : Type 0 where
   pub networks : AreNetworksOf d v.networks
-  pub leads : (w : Vertex) → (body : Option Body) × IsStanding d w body × LeadsBy w body (get v.graph.ends w)
+  pub leads : (w : Vertex) → (body : Option Body) × IsStanding d w body × LeadsByBody w body (get v.graph.ends w)
 
 -- the graph belongs to a database that differs from this one at most in the LSAs under these keys
 abbrev pub IsGraphBut : Database → List Key → AreaGraphValue → Type 0
@@ -172,7 +172,7 @@ IsWorkBetween old new touched = IsWorkDone new.area.graph old.tree new.tree touc
 
 -- the work of a change is bounded by what differs
 abbrev pub IsWorkBounded : AreaTreeValue → AreaTreeValue → ℕ → ℕ → Type 0
-IsWorkBounded old new taken hop_sets = (gone come : List Link) × AreExact old.area.graph new.area.graph gone come × IsBounded new.area.graph gone come old.tree taken hop_sets
+IsWorkBounded old new taken hop_sets = (gone come : List GraphLink) × AreExact old.area.graph new.area.graph gone come × IsBounded new.area.graph gone come old.tree taken hop_sets
 
 -- what a change took from queues and wrote of next hops is bounded by what differs
 abbrev pub HasBoundedWork : AreaTreeValue → AreaTreeValue → Touched → Type 0
@@ -183,5 +183,5 @@ HasBoundedWork old new touched = IsWorkBounded old new touched.taken touched.hop
 -- the area has the LSAs of the database, and these are its interfaces that are up
 pub record IsAreaOf (s : Inputs) (a : Area) (d : Database) (ups : List Up) : Type 0 where
   pub lsas : a.lsas ≡ values d
-  pub sound : IsSound d
+  pub sound : IsDatabaseSound d
   pub interfaces : (u : Up) → Contains ups u ↔ ((i : Interface) × IsUp s a u.id i × (i.address ≡ u.address))

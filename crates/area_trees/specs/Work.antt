@@ -4,7 +4,7 @@ use Rattle.ospf_types.specs.declared.entry.Vertex.{Vertex}
 use Rattle.ospf_types.specs.declared.entry.Vertex.TheVariants.{Router}
 use Rattle.ospf_types.specs.declared.hop.NextHop.{NextHop}
 use Rattle.ospf_types.specs.Distances.{Links, IsDistance, IsHop}
-use Rattle.vertex_graph.specs.Link.{Link}
+use Rattle.vertex_graph.specs.GraphLink.{GraphLink}
 use Rattle.spf.specs.Changes.{Among, AreExactChanges}
 use Rattle.spf.specs.VertexSet.{HasNoDoubles}
 use Rattle.spf.specs.Repairs.{AreOwed}
@@ -37,8 +37,8 @@ IsReachedOtherwise root before after had_root has_root v =
 -- vertices reached otherwise than before.
 -- The sets that are written are as many as the vertices that have other next hops.
 pub record IsWorkOf (root : ℕ) (before after : Links) (had_root has_root : Type 0) (taken hop_sets : ℕ) : Type 0 where
-  pub gone : List Link
-  pub come : List Link
+  pub gone : List GraphLink
+  pub come : List GraphLink
   pub exact : AreExactChanges before after gone come
   pub taken_most : (first second heads first_out second_out : List Vertex)
       → AreOwed root before after (Among gone) (Among come) had_root has_root first second heads first_out second_out

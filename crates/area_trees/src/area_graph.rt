@@ -7,7 +7,7 @@ ghost use Rattle.vertex_graph.specs.Graphs.{AreLinkChanges, HasEnds, max_routers
 ghost use Rattle.area_trees.specs.Areas.{IsGraphBut, IsGraphOf, IsStanding, IsStandingKey};
 ghost use Rattle.area_trees.specs.Areas.{vertex_of};
 
-use crate::networks::Networks;
+use crate::networks::NetworkLsas;
 use crate::vertices::{list_vertices, lsa_for_vertex, lsa_of};
 use lsa_codec::Checked;
 use lsdb::Database;
@@ -22,7 +22,7 @@ use vertex_graph::{Graph, LinkChanges, Up};
 /// The graph of an area. After an error it need not match any database.
 pub(crate) struct AreaGraph {
     graph: Graph,
-    networks: Networks,
+    networks: NetworkLsas,
     // The vertices of the last change, kept for their memory.
     vertices: Vec<Vertex>,
 }
@@ -61,7 +61,7 @@ impl AreaGraph {
     {
         AreaGraph {
             graph: Graph::new(alloc, root, hashing),
-            networks: Networks::new(alloc),
+            networks: NetworkLsas::new(alloc),
             vertices: Vec::new(alloc),
         }
     }

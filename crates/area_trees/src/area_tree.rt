@@ -26,7 +26,7 @@ use spf::{Touched, Tree};
 use std::alloc::Global;
 use std::hash::RandomState;
 use std::marker::Model;
-use vertex_graph::{Link, LinkChanges, Up};
+use vertex_graph::{GraphLink, LinkChanges, Up};
 use vertex_map::HintedVertex;
 
 /// The graph of an area and its shortest-path tree.
@@ -199,7 +199,7 @@ impl AreaTree {
 
     /// Returns the links from the vertex that both sides list (RFC 2328, 16.1 (2b)), without
     /// duplicates. The slice is empty if the graph does not have the vertex.
-    pub fn links_from(&self, vertex: Vertex) -> &[Link]
+    pub fn links_from(&self, vertex: Vertex) -> &[GraphLink]
         ensures exact { AreLinksFrom self.now.area.graph vertex result.now }
         ensures each_once { AllPairs (λ k l. k ≢ l) result.now }
     {
@@ -216,7 +216,7 @@ impl AreaTree {
         alloc: Global,
         vertex: Vertex,
         hop: NextHop,
-    ) -> Result<Vec<&Link>, Memory>
+    ) -> Result<Vec<&GraphLink>, Memory>
         requires { IsTreeOfSome self.now }
         ensures { IfOk result (λ links. IsPathOver self.now.area.graph vertex hop (links_at links.items)) }
     {

@@ -5,13 +5,13 @@ ghost use Rattle.ospf_types.specs.Distances.{FirstOnly};
 ghost use Rattle.spf.specs.HandedOn.{IsLeastLink};
 ghost use Rattle.spf.specs.TreeValues.{IsTreeOf, listed_hops};
 ghost use Rattle.vertex_graph.specs.Labels.{addresses_of};
-ghost use Rattle.area_trees.specs.LeastPaths.{HasHop, IsLast, IsBefore, IsHandedBy, IsHopIfSome};
+ghost use Rattle.area_trees.specs.LeastPaths.{HasHop, IsLast, IsLeastLinkFrom, IsHandedBy, IsHopIfSome};
 ghost use Rattle.area_trees.specs.LeastPaths.{IsNotBefore};
 
 use ospf_types::entry::Vertex;
 use ospf_types::hop::NextHop;
 use spf::Tree;
-use vertex_graph::{Graph, Link};
+use vertex_graph::{Graph, GraphLink};
 
 /// A graph and its tree.
 #[derive(Clone, Copy)]
@@ -23,7 +23,7 @@ pub(crate) struct TreeOf<'g, 't> {
 /// The last link of a path, and the path before it.
 #[derive(Clone, Copy)]
 pub(crate) struct LastLink<'g> {
-    pub(crate) link: &'g Link,
+    pub(crate) link: &'g GraphLink,
     pub(crate) before: Before,
 }
 
@@ -60,8 +60,8 @@ impl<'g> TreeOf<'g, '_> {
     }
 
     // Returns the path before the link, if the link's head gets this next hop over the link.
-    fn before(self, link: &Link, hop: NextHop) -> Option<Before>
-        ensures some { IfSome result (IsBefore self.entry.graph.now self.entry.tree.now link.now hop) }
+    fn before(self, link: &GraphLink, hop: NextHop) -> Option<Before>
+        ensures some { IfSome result (IsLeastLinkFrom self.entry.graph.now self.entry.tree.now link.now hop) }
         ensures none { IfNone result (IsNotBefore self.entry.graph.now self.entry.tree.now link.now hop) }
     {
         if !self.is_least(link) {
@@ -76,7 +76,7 @@ impl<'g> TreeOf<'g, '_> {
 
     // Returns true if the link is a least link: the head is as far from the root as the tail and
     // the link's cost.
-    fn is_least(self, link: &Link) -> bool
+    fn is_least(self, link: &GraphLink) -> bool
         ensures { IsTrue result ↔ IsLeastLink (map.get self.entry.tree.now.distances) link.now }
     {
         match self.tree.distance(link.from.vertex()) {
@@ -89,7 +89,7 @@ impl<'g> TreeOf<'g, '_> {
     }
 
     // Returns the next hop of the link's tail that becomes this next hop over the link.
-    fn handed_on(self, link: &Link, hop: NextHop) -> Option<NextHop>
+    fn handed_on(self, link: &GraphLink, hop: NextHop) -> Option<NextHop>
         ensures some { IfSome result (λ tail. IsHandedBy self.entry.tree.now link.now hop tail) }
         ensures none { IfNone result ((tail : NextHop) → IsHandedBy self.entry.tree.now link.now hop tail → ⊥) }
     {
@@ -113,7 +113,7 @@ impl<'g> TreeOf<'g, '_> {
 }
 
 // Returns true if the path that consists of this link has the next hop.
-fn is_first(link: &Link, hop: NextHop) -> bool
+fn is_first(link: &GraphLink, hop: NextHop) -> bool
     ensures { IsTrue result ↔ FirstOnly link.now.to link.now.label hop }
 {
     match (link.to.vertex(), hop) {
@@ -127,7 +127,7 @@ fn is_first(link: &Link, hop: NextHop) -> bool
 
 // Returns true if the link's label has the address: the router at its head has it on the network at
 // its tail.
-fn has_address(link: &Link, address: u32) -> bool
+fn has_address(link: &GraphLink, address: u32) -> bool
     ensures { IsTrue result ↔ Contains (addresses_of link.now.label) address }
 {
     link.label.addresses().contains(&address)

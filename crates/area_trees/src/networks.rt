@@ -1,7 +1,7 @@
 //! The usable network-LSAs of an area, in the order of Link State ID.
 ghost use Rattle.std.specs.Prelude.{◌≡◌, ◌<◌, ◌^◌, ℕ, IfSome, IfNone, OnOk, Contains};
-ghost use Rattle.area_trees.specs.Areas.{AreNetworksBut, AreNetworksOf, FollowsKey, IsGreatest};
-ghost use Rattle.area_trees.specs.Areas.{KeepsOthers};
+ghost use Rattle.area_trees.specs.Areas.{AreNetworksBut, AreNetworksOf, FollowsKey, IsGreatestRouter};
+ghost use Rattle.area_trees.specs.Areas.{KeepsOtherNetworks};
 
 use crate::vertices::is_usable;
 use lsdb::Database;
@@ -30,18 +30,18 @@ impl NetworkLsa {
 
 /// The usable network-LSAs of an area. If several have one Link State ID, the one with the greatest
 /// Advertising Router describes the network.
-pub(crate) struct Networks {
+pub(crate) struct NetworkLsas {
     lsas: BTreeSet<NetworkLsa>,
 }
 
 // proof: a value is dropped by one call, not part by part at each exit of a function.
-impl Drop for Networks {
+impl Drop for NetworkLsas {
     fn drop(self) {
-        let Networks { lsas: _lsas } = self;
+        let NetworkLsas { lsas: _lsas } = self;
     }
 }
 
-impl Model for Networks {
+impl Model for NetworkLsas {
     ghost use Rattle.std.specs.Prelude.{List, ℕ, ◌<◌, ◌^◌, map};
     ghost use Rattle.std.specs.List.{All};
 
@@ -52,18 +52,18 @@ impl Model for Networks {
     ghost invariant = { λ n. All (λ l. l.router < 2 ^ 32) n.lsas.keys };
 }
 
-impl Networks {
-    pub(crate) fn new(alloc: Global) -> Networks
+impl NetworkLsas {
+    pub(crate) fn new(alloc: Global) -> NetworkLsas
         ensures { (id router : ℕ) → Contains result (id, router) → ⊥ }
     {
-        Networks {
+        NetworkLsas {
             lsas: BTreeSet::new(alloc),
         }
     }
 
     /// Returns the greatest Advertising Router of the usable network-LSAs with this Link State ID.
     pub(crate) fn greatest(&self, id: u32) -> Option<u32>
-        ensures some { IfSome result (IsGreatest self.now id) }
+        ensures some { IfSome result (IsGreatestRouter self.now id) }
         ensures none { IfNone result ((router : ℕ) → Contains self.now (id, router) → ⊥) }
     {
         let first = NetworkLsa { id, router: 0 };
@@ -89,7 +89,7 @@ impl Networks {
     // Updates the index with the present LSA under the key.
     fn follow_key(&mut self, database: &Database, key: Key) -> Result<(), Memory>
         ensures own { OnOk result (FollowsKey database.now.lsas key self.new) }
-        ensures others { OnOk result (KeepsOthers key self.old self.new) }
+        ensures others { OnOk result (KeepsOtherNetworks key self.old self.new) }
     {
         if key.kind != NETWORK_LSA {
             return Ok(());

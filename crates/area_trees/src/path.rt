@@ -9,7 +9,7 @@ use ospf_types::hop::NextHop;
 use ospf_types::memory::Memory;
 use spf::Tree;
 use std::alloc::Global;
-use vertex_graph::{Graph, Link};
+use vertex_graph::{Graph, GraphLink};
 
 /// Returns the links of a shortest path from the root to the vertex, in order, over which the
 /// vertex gets this next hop (RFC 2328, 16.1 and 16.1.1). The list is empty if the vertex does not
@@ -23,7 +23,7 @@ pub fn links_of_path<'a>(
     tree: &Tree,
     to: Vertex,
     hop: NextHop,
-) -> Result<Vec<&'a Link>, Memory>
+) -> Result<Vec<&'a GraphLink>, Memory>
     requires { IsTreeOf graph.now tree.now }
     ensures { IfOk result (λ links. IsPathOver graph.now to hop (links_at links.items)) }
 {

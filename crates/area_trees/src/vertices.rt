@@ -8,7 +8,7 @@ ghost use Rattle.area_trees.specs.Areas.{vertex_of as vertex_of_key, AddsVertexO
 ghost use Rattle.area_trees.specs.Areas.{AreVerticesOf, IsStanding, IsStandingKey, IsUsed};
 ghost use Rattle.area_trees.specs.Areas.{StandFor};
 
-use crate::networks::Networks;
+use crate::networks::NetworkLsas;
 use lsa_codec::Checked;
 use lsdb::Database;
 use ospf_types::entry::Vertex;
@@ -69,7 +69,7 @@ pub fn vertex_of(key: Key) -> Option<Vertex>
 pub(crate) fn lsa_for_vertex<'a>(
     alloc: Global,
     database: &'a Database,
-    networks: &Networks,
+    networks: &NetworkLsas,
     vertices: &[Vertex],
 ) -> Result<Vec<Handed<'a>>, Memory>
     requires { AreNetworksOf database.now.lsas networks.now }
@@ -87,7 +87,7 @@ pub(crate) fn lsa_for_vertex<'a>(
 /// RFC 2328, 16.1 (2) (b): an LSA at MaxAge is ignored.
 pub(crate) fn lsa_of<'a>(
     database: &'a Database,
-    networks: &Networks,
+    networks: &NetworkLsas,
     vertex: Vertex,
 ) -> Option<&'a Checked>
     requires { AreNetworksOf database.now.lsas networks.now }

@@ -17,7 +17,7 @@ use Rattle.ospf_types.specs.Intra.{AreaCost}
 use Rattle.ospf_types.proofs.Elements.{no_element, first_element, later_element, first_or_later}
 use Rattle.lsdb.specs.Databases.{Database}
 use Rattle.area_trees.specs.Areas.{AreaTreeValue, IsAreaTree, body_at}
-use Rattle.intra.specs.Indexes.{IndexValue, IsIndexOf}
+use Rattle.intra.specs.Indexes.{IndexValue, IsAreaIndexOf}
 use Rattle.intra.specs.Inputs.{AreaValue, InputsValue}
 use Rattle.intra.specs.Intras.{AreaIntraValue, IntraValue, IsAreaIntra, AreAreaIntras, IsIntraOf}
 use Rattle.intra.specs.Offers.{HasOffer, IsNearest, AreaOffers, KeyedOffers, OffersOf}
@@ -40,7 +40,7 @@ use Rattle.route_layers.proofs.Standing.{standing_alike, alike_tree}
 -- ---- an area with another database that is used alike
 
 module _ (d e : Database) (alike : (key : Key) → body_at e key ≡ body_at d key) where
-  index_alike : (i : IndexValue) → IsIndexOf d i → IsIndexOf e i
+  index_alike : (i : IndexValue) → IsAreaIndexOf d i → IsAreaIndexOf e i
   index_alike i is = record { index = is.index; offered = λ v. let at = is.offered v in (at.0, standing_alike d e alike v at.0 at.1, at.2) }
 
   kept_alike : (root id : ℕ) (t : AreaTreeValue) (i : AreaIntraValue) → IsAreaIntra root (record { id = id; lsas = d; tree = t }) i → IsAreaIntra root (record { id = id; lsas = e; tree = t }) i

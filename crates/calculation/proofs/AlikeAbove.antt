@@ -32,7 +32,7 @@ use Rattle.inter.specs.Inters.{InterValue, IsEntryFor, IsInterOf}
 use Rattle.inter.specs.Offers.{OffersBy, OffersOf}
 use Rattle.external.specs.Inputs.{ExternalInputsValue}
 use Rattle.external.specs.Externals.{ExternalValue, IsEntryFor as IsExternalFor, IsForwardIn, IsExternalOf}
-use Rattle.external.specs.Forwards.{ForwardValue, WayValue, IsMatchOf, WayOffers, LeadsBy}
+use Rattle.external.specs.Forwards.{ForwardValue, WayValue, IsMatchOf, WayOffers, LeadsByMatch}
 use Rattle.external.specs.Offers.{OffersBy as ExternalOffersBy}
 use Rattle.event_state.specs.States.{State, LooksAlike, database_of, inputs_of}
 use Rattle.route_layers.specs.Trees.{lsas_in}
@@ -71,8 +71,8 @@ module _ (d e : Database) (alike : (key : Key) → body_at e key ≡ body_at d k
     match_alike address None is = is
     match_alike address (Some p) is = record { within = is.within; contains = is.contains; matches = is.matches; longest = is.longest }
 
-    leads_alike : (address : ℕ) (p : Option Prefix) (way : Option WayValue) → ((class cost : ℕ) (h : NextHop) → WayOffers way class cost h ↔ LeadsBy (externals_with d) address p class cost h)
-        → (class cost : ℕ) (h : NextHop) → WayOffers way class cost h ↔ LeadsBy (externals_with e) address p class cost h
+    leads_alike : (address : ℕ) (p : Option Prefix) (way : Option WayValue) → ((class cost : ℕ) (h : NextHop) → WayOffers way class cost h ↔ LeadsByMatch (externals_with d) address p class cost h)
+        → (class cost : ℕ) (h : NextHop) → WayOffers way class cost h ↔ LeadsByMatch (externals_with e) address p class cost h
     leads_alike address None way is = is
     leads_alike address (Some p) way is = is
 

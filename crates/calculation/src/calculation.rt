@@ -23,7 +23,7 @@ ghost use Rattle.summaries.specs.Carrying.{IsCarriedOut, IsReady, MakesChangesFr
 ghost use Rattle.summaries.specs.DueSummaries.{DueSummariesValue, lists_of};
 ghost use Rattle.route_table.specs.declared.table.Item.{Item as ItemValue};
 ghost use Rattle.event_state.specs.Held.{AreFit};
-ghost use Rattle.event_state.specs.States.{AreApart, State as StateValue, inputs_of};
+ghost use Rattle.event_state.specs.States.{AreAreasApart, State as StateValue, inputs_of};
 ghost use Rattle.calculation.specs.Calculations.{CalculationValue, IsCalculationOf, IsItemOf};
 ghost use Rattle.calculation.specs.Calculations.{IsNewItemOf, IsTableOf, AreItemsKept, entry_at};
 ghost use Rattle.calculation.specs.Calculations.{entry_else};
@@ -138,7 +138,7 @@ impl Calculation {
         hashing: RandomState,
     ) -> Result<(Calculation, Touched), Memory>
         requires few { state.now.limits.area_lsas ≤ max_routers }
-        requires apart { AreApart state.now.config.areas }
+        requires apart { AreAreasApart state.now.config.areas }
         ensures right { IfOk result (λ built. IsCalculationOf state.now built.0) }
         ensures work { IfOk result (λ built. IsWorkOfTrees built.0.trees built.1) }
     {
@@ -478,7 +478,7 @@ fn follow_intra(
     trees: &[AreaTree],
     dirty: &Dirty,
 ) -> Result<Vec<Dest>, Memory>
-    requires apart { AreApart state.now.config.areas }
+    requires apart { AreAreasApart state.now.config.areas }
     requires trees { AreTreesOf state.now state.now.config.areas trees.now }
     requires before { (before : InputsValue) × IsIntraOf before intra.old
         × InputsDifferAmong dirty.now.keys.items dirty.now.vertices.items
@@ -529,7 +529,7 @@ fn build_intra(
     trees: &[AreaTree],
     hashing: RandomState,
 ) -> Result<Intra, Memory>
-    requires apart { AreApart state.now.config.areas }
+    requires apart { AreAreasApart state.now.config.areas }
     requires trees { AreTreesOf state.now state.now.config.areas trees.now }
     ensures kept { IfOk result (IsIntraOf (inputs_with state.now trees.now)) }
     ensures routed { IfOk result (IsRightFor (inputs_of state.now)) }

@@ -18,33 +18,33 @@ use Rattle.capture_recording.specs.declared.fault.CapturingFault.{CapturingFault
 use Rattle.capture_recording.specs.declared.fault.CapturingFault.TheVariants.{Capture, Read, Line, Config, Unsaid, Write, Closed, Memory}
 use Rattle.capture_recording.specs.declared.gathered.Gathered.{Gathered}
 use Rattle.capture_recording.specs.declared.going.Ended.{Ended}
-use Rattle.capture_recording.specs.declared.going.Kept.{Kept}
+use Rattle.capture_recording.specs.declared.going.PackedCapture.{PackedCapture}
 use Rattle.capture_recording.specs.Ending.{fault_lacking, result_of, unless_silent}
-use Rattle.capture_recording.specs.Finishing.{IsBegun, IsBehind, IsLacking, IsWhollyWritten, router_of, unknown_if}
+use Rattle.capture_recording.specs.Finishing.{IsCaptureBegun, IsBehind, IsLacking, IsWhollyWritten, router_of, unknown_if}
 use Rattle.capture_recording.specs.Folds.{areas_of, captured_of, counts_of}
 use Rattle.capture_recording.specs.Gathering.{AreGathered, config_of}
 use Rattle.capture_recording.specs.Going.{GoesThrough}
 use Rattle.capture_recording.specs.Outputs.{FaultOutcome, IsFront, RuledOutcome, IsRecordedUpTo, counts_text, unknown_of}
-use Rattle.capture_recording.specs.Said.{AppendsUpTo, HasSaid, WritesPart}
-use Rattle.capture_recording.specs.Steps.{Step}
+use Rattle.capture_recording.specs.Said.{AppendsUpTo, HasSaid, WritesSaidPart}
+use Rattle.capture_recording.specs.Steps.{PacketStep}
 use Rattle.capture_recording.specs.Texts.{notes_of}
 use Rattle.capture_recording.proofs.Outcomes.{of_none, of_taken, outcome_part, outcome_recorded, outcome_lacking}
 use Rattle.capture_recording.proofs.Said.{up_to_all, up_to_behind, up_to_more, part_behind, part_more}
 
 -- ---- what is said at the end
 
-unknown_is : (beginning : Preamble) (steps : List Step) → unknown_if (config_of (router_of beginning) steps) (areas_of steps) ≡ unknown_of beginning steps
+unknown_is : (beginning : Preamble) (steps : List PacketStep) → unknown_if (config_of (router_of beginning) steps) (areas_of steps) ≡ unknown_of beginning steps
 unknown_is (Given bytes) steps = refl
 unknown_is (Router router) steps = refl
 
-module _ (rules : Rules) (router : Option ℕ) (steps : List Step) (g : Gathered) (are : AreGathered rules router steps g) where
+module _ (rules : Rules) (router : Option ℕ) (steps : List PacketStep) (g : Gathered) (are : AreGathered rules router steps g) where
   counts_are : counts_line g.counts (length g.areas) ≡ counts_text steps
   counts_are = ap (λ c. counts_line c (length g.areas)) are.counts ∙ ap (λ a. counts_line (counts_of steps) (length a)) are.areas
 
   unknown_are : unknown_if (config_of router steps) g.areas ≡ unknown_if (config_of router steps) (areas_of steps)
   unknown_are = ap (unknown_if (config_of router steps)) are.areas
 
-ends_are : (rules : Rules) (beginning : Preamble) (steps : List Step) (g : Gathered) → AreGathered rules (router_of beginning) steps g
+ends_are : (rules : Rules) (beginning : Preamble) (steps : List PacketStep) (g : Gathered) → AreGathered rules (router_of beginning) steps g
     → unknown_if (config_of (router_of beginning) steps) g.areas ++ counts_line g.counts (length g.areas) ≡ unknown_of beginning steps ++ counts_text steps
 ends_are rules beginning steps g are =
     ap (λ l. l ++ counts_line g.counts (length g.areas)) (unknown_are rules (router_of beginning) steps g are ∙ unknown_is beginning steps)
@@ -52,7 +52,7 @@ ends_are rules beginning steps g are =
 
 -- ---- a front was written
 
-module _ (rules : Rules) (beginning : Preamble) (before after old now told_before told : Option (List ℕ)) (ended : Ended) (is : IsBegun rules beginning before after old now told_before told ended) where
+module _ (rules : Rules) (beginning : Preamble) (before after old now told_before told : Option (List ℕ)) (ended : Ended) (is : IsCaptureBegun rules beginning before after old now told_before told ended) where
   -- the lines that are left could not be written
   pub lines_unwritten : (new : Option (List ℕ)) (fault : CapturingFault) → (fault ≡ Write) ⊎ (fault ≡ Closed) → AppendsPart now new (string_bytes ended.session.lines)
       → FaultOutcome rules beginning before after old new told_before told fault
@@ -97,7 +97,7 @@ module _ (rules : Rules) (beginning : Preamble) (before after old new told_befor
 
 -- ---- the front is not written yet
 
-pub front_unwritten : (rules : Rules) (beginning : Preamble) (before after told_before told old new : Option (List ℕ)) (kept : Kept) (front : List ℕ) → IsBehind rules beginning before after told_before told kept front
+pub front_unwritten : (rules : Rules) (beginning : Preamble) (before after told_before told old new : Option (List ℕ)) (kept : PackedCapture) (front : List ℕ) → IsBehind rules beginning before after told_before told kept front
     → (fault : CapturingFault) → (fault ≡ Write) ⊎ (fault ≡ Closed) → AppendsPart old new front → FaultOutcome rules beginning before after old new told_before told fault
 front_unwritten rules beginning before after told_before told old new kept front is fault kind part =
     outcome_part rules beginning before after old new told_before told fault kind
@@ -106,9 +106,9 @@ front_unwritten rules beginning before after told_before told old new kept front
 
 -- ---- the front was written, and the lines are not yet
 
-module _ (rules : Rules) (beginning : Preamble) (before after told_before told old mid : Option (List ℕ)) (kept : Kept) (front : List ℕ)
+module _ (rules : Rules) (beginning : Preamble) (before after told_before told old mid : Option (List ℕ)) (kept : PackedCapture) (front : List ℕ)
     (is : IsBehind rules beginning before after told_before told kept front) (begun : Appends old mid front) where
-  pub packed_begun : (now : Option (List ℕ)) → Appends mid now kept.packed → IsBegun rules beginning before after old now told_before told kept.ended
+  pub packed_begun : (now : Option (List ℕ)) → Appends mid now kept.packed → IsCaptureBegun rules beginning before after old now told_before told kept.ended
   packed_begun now written = record {
     written = kept.packed;
     through = is.through;
@@ -143,7 +143,7 @@ module _ (rules : Rules) (beginning : Preamble) (before after told_before told o
     ),
   )
 
-  pub packed_unwritten : (new : Option (List ℕ)) (fault : CapturingFault) → WritesPart mid new kept.packed fault → FaultOutcome rules beginning before after old new told_before told fault
+  pub packed_unwritten : (new : Option (List ℕ)) (fault : CapturingFault) → WritesSaidPart mid new kept.packed fault → FaultOutcome rules beginning before after old new told_before told fault
   packed_unwritten new (Capture kind place) part = absurd part
   packed_unwritten new Read part = absurd part
   packed_unwritten new (Line fault) part = absurd part
@@ -177,7 +177,7 @@ lacking_said rules router before after told_before told now old ended packed fau
 
 -- ---- what is known of the router
 
-module _ (rules : Rules) (router : ℕ) (before after told_before told : Option (List ℕ)) (kept : Kept) (through : GoesThrough rules (Some router) before told_before after told kept.ended kept.packed) where
+module _ (rules : Rules) (router : ℕ) (before after told_before told : Option (List ℕ)) (kept : PackedCapture) (through : GoesThrough rules (Some router) before told_before after told kept.ended kept.packed) where
   its_areas : kept.ended.session.gathered.areas ≡ areas_of through.recorded.steps
   its_areas = through.recorded.gathered.areas
 
@@ -198,7 +198,7 @@ module _ (rules : Rules) (router : ℕ) (before after told_before told : Option 
 
 -- ---- a front that is given
 
-module _ (rules : Rules) (beginning : Preamble) (front : List ℕ) (is : (steps : List Step) → IsFront beginning steps front) where
+module _ (rules : Rules) (beginning : Preamble) (front : List ℕ) (is : (steps : List PacketStep) → IsFront beginning steps front) where
   -- the front could not be written
   pub given_unwritten : (before old new told : Option (List ℕ)) (fault : CapturingFault) → (fault ≡ Write) ⊎ (fault ≡ Closed) → AppendsPart old new front → FaultOutcome rules beginning before before old new told told fault
   given_unwritten before old new told fault kind part =
@@ -206,7 +206,7 @@ module _ (rules : Rules) (beginning : Preamble) (front : List ℕ) (is : (steps 
       (of_none rules before _ (record { front = front; is = is []; written = part_more old new front [] part }, up_to_all told told [] (appends_none told)))
 
   pub given_begun : (before after old mid now told_before told : Option (List ℕ)) (ended : Ended) (written : List ℕ) → Appends old mid front → Appends mid now written
-      → GoesThrough rules (router_of beginning) before told_before after told ended written → IsBegun rules beginning before after old now told_before told ended
+      → GoesThrough rules (router_of beginning) before told_before after told ended written → IsCaptureBegun rules beginning before after old now told_before told ended
   given_begun before after old mid now told_before told ended written first more through = record {
     written = written;
     through = through;

@@ -18,9 +18,9 @@ use Rattle.capture_recording.specs.Ending.{first_position, IsEnding, result_of, 
 use Rattle.capture_recording.specs.FirstPackets.{FirstPackets}
 use Rattle.capture_recording.specs.Gathering.{past_of}
 use Rattle.capture_recording.specs.Going.{IsRecordedTo}
-use Rattle.capture_recording.specs.Outputs.{FaultOutcome, IsFront, IsRecorded, IsRecordedPart, Lacks, RuledOutcome}
+use Rattle.capture_recording.specs.Outputs.{FaultOutcome, IsFront, IsCaptureRecorded, IsRecordedPart, Lacks, RuledOutcome}
 use Rattle.capture_recording.specs.Said.{AppendsUpTo, HasSaid}
-use Rattle.capture_recording.specs.Steps.{Step, AreStepsTo, begun}
+use Rattle.capture_recording.specs.Steps.{PacketStep, AreStepsTo, begun}
 use Rattle.capture_recording.specs.Streaming.{IsGatheredUpTo, AreLinesPart, AreLinesUpTo, StreamsPart}
 use Rattle.capture_recording.specs.Texts.{notes_of}
 use Rattle.capture_recording.proofs.Recorded.{stays}
@@ -29,7 +29,7 @@ use Rattle.capture_recording.proofs.Said.{up_to_all, up_to_more, up_to_behind, p
 -- ---- the packets so far
 
 -- this holds of no packet
-pub of_none : (rules : Rules) (before : Option (List ℕ)) (P : Position → List Step → List ℕ → Type 0) → P first_position [] [] → FirstPackets rules before before P
+pub of_none : (rules : Rules) (before : Option (List ℕ)) (P : Position → List PacketStep → List ℕ → Type 0) → P first_position [] [] → FirstPackets rules before before P
 unfolding AreStepsTo
 of_none rules before P holds = record {
   steps = [];
@@ -43,7 +43,7 @@ of_none rules before P holds = record {
 
 -- this holds of those that were taken
 pub of_taken : (rules : Rules) (router : Option ℕ) (before told_before : Option (List ℕ)) (at : Position) (left told : Option (List ℕ)) (session : Session) (written : List ℕ)
-    (is : IsRecordedTo rules router before told_before at left told session written) (P : Position → List Step → List ℕ → Type 0)
+    (is : IsRecordedTo rules router before told_before at left told session written) (P : Position → List PacketStep → List ℕ → Type 0)
     → P at is.steps (written ++ string_bytes session.lines) → FirstPackets rules before left P
 of_taken rules router before told_before at left told session written is P holds = record {
   steps = is.steps;
@@ -56,7 +56,7 @@ of_taken rules router before told_before at left told session written is P holds
 }
 
 -- the first packets have another property too
-pub of_same : (rules : Rules) (before left : Option (List ℕ)) (P Q : Position → List Step → List ℕ → Type 0) → ((at : Position) (steps : List Step) (lines : List ℕ) → P at steps lines → Q at steps lines)
+pub of_same : (rules : Rules) (before left : Option (List ℕ)) (P Q : Position → List PacketStep → List ℕ → Type 0) → ((at : Position) (steps : List PacketStep) (lines : List ℕ) → P at steps lines → Q at steps lines)
     → FirstPackets rules before left P → FirstPackets rules before left Q
 of_same rules before left P Q so is = record { steps = is.steps; at = is.at; goes = is.goes; are = is.are; lines = is.lines; are_lines = is.are_lines; holds = so is.at is.steps is.lines is.holds }
 
@@ -106,7 +106,7 @@ module _ (rules : Rules) (beginning : Preamble) (before after old new told_befor
   outcome_part fault (inr is) part = subst (FaultOutcome rules beginning before after old new told_before told) (sym is) part
 
   -- the front was written before
-  pub outcome_streamed : (mid : Option (List ℕ)) (front : List ℕ) → ((steps : List Step) → IsFront beginning steps front) → Appends old mid front → (fault : CapturingFault)
+  pub outcome_streamed : (mid : Option (List ℕ)) (front : List ℕ) → ((steps : List PacketStep) → IsFront beginning steps front) → Appends old mid front → (fault : CapturingFault)
       → StreamsPart rules before after mid new told_before told fault → FaultOutcome rules beginning before after old new told_before told fault
   outcome_streamed mid front is written (Capture kind place) part = absurd part
   outcome_streamed mid front is written Read part = absurd part
@@ -124,7 +124,7 @@ module _ (rules : Rules) (beginning : Preamble) (before after old new told_befor
   )
 
   -- all is recorded, and said if nothing could not be
-  pub outcome_recorded : (ending : Ending) (is_silent : Bool) → IsRecorded rules beginning before after old new (λ at. IsEnding ending at after) (HasSaid told_before told is_silent)
+  pub outcome_recorded : (ending : Ending) (is_silent : Bool) → IsCaptureRecorded rules beginning before after old new (λ at. IsEnding ending at after) (HasSaid told_before told is_silent)
       → RuledOutcome rules beginning before after old new told_before told (unless_silent is_silent (result_of ending))
   outcome_recorded ending true is = inl (of_same rules before after _ _ (λ at steps lines p. ((ending, p.0), p.1, p.2.part refl)) is)
   outcome_recorded Whole false is = of_same rules before after _ _ (λ at steps lines p. (p.0, p.1, p.2.whole refl)) is

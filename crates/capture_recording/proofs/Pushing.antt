@@ -5,10 +5,10 @@ use Rattle.std.proofs.lemmas.List.{append_assoc, append-nil, take-append-drop, t
 use Rattle.std.proofs.lemmas.List.Elements.{All-rest}
 use Rattle.std.proofs.lemmas.List.Concat.{flat_map-append}
 use Rattle.hex.specs.Hex.{encode_lower}
-use Rattle.capture_recording.specs.declared.piece.Part.{Part}
-use Rattle.capture_recording.specs.declared.piece.Part.TheVariants.{Text, Seconds}
+use Rattle.capture_recording.specs.declared.piece.TextPiece.{TextPiece}
+use Rattle.capture_recording.specs.declared.piece.TextPiece.TheVariants.{Text, Seconds}
 use Rattle.capture_recording.specs.declared.piece.Piece.{Piece}
-use Rattle.capture_recording.specs.Packed.{part, piece_text, part_text, text_of, second_line, second_lines, IsWithin, IsPartWithin, AreWithin}
+use Rattle.capture_recording.specs.Packed.{part, piece_text, part_text, text_of, second_line, second_lines, IsPieceWithin, IsPartWithin, ArePiecesWithin}
 
 -- the rest is still to come
 pub record IsPushed (old now text rest : List ℕ) : Type 0 where
@@ -22,20 +22,20 @@ part_stays bytes more start count within =
     ap (take count) (drop-append-le start bytes more (omega arith)) ∙ take-append-le count (drop start bytes) more (omega arith)
 
 -- a piece has the text that it had, whatever is appended
-piece_stays : (bytes more : List ℕ) (p : Piece) → IsWithin bytes p → piece_text (bytes ++ more) p ≡ piece_text bytes p
+piece_stays : (bytes more : List ℕ) (p : Piece) → IsPieceWithin bytes p → piece_text (bytes ++ more) p ≡ piece_text bytes p
 piece_stays bytes more p is =
     ap₂ (λ (plain digits : List ℕ). plain ++ encode_lower digits) (part_stays bytes more p.plain_start p.plain is.plain) (part_stays bytes more p.digits_start p.pairs is.digits)
 
-one_stays : (bytes more : List ℕ) (p : Part) → IsPartWithin bytes p → part_text (bytes ++ more) p ≡ part_text bytes p
+one_stays : (bytes more : List ℕ) (p : TextPiece) → IsPartWithin bytes p → part_text (bytes ++ more) p ≡ part_text bytes p
 one_stays bytes more (Text piece) is = piece_stays bytes more piece is
 one_stays bytes more (Seconds count) is = refl
 
-text_stays : (bytes more : List ℕ) (ps : List Part) → AreWithin bytes ps → text_of (bytes ++ more) ps ≡ text_of bytes ps
+text_stays : (bytes more : List ℕ) (ps : List TextPiece) → ArePiecesWithin bytes ps → text_of (bytes ++ more) ps ≡ text_of bytes ps
 text_stays bytes more [] are = refl
 text_stays bytes more (p ∷ ps) are =
     ap₂ (λ (xs ys : List ℕ). xs ++ ys) (one_stays bytes more p (are 0 p (omega arith))) (text_stays bytes more ps (All-rest (IsPartWithin bytes) p ps (p ∷ ps) refl are))
 
-pub text_more : (bytes more : List ℕ) (ps : List Part) (p : Part) (text : List ℕ) → AreWithin bytes ps → part_text (bytes ++ more) p ≡ text → text_of (bytes ++ more) (ps ++ p ∷ []) ≡ text_of bytes ps ++ text
+pub text_more : (bytes more : List ℕ) (ps : List TextPiece) (p : TextPiece) (text : List ℕ) → ArePiecesWithin bytes ps → part_text (bytes ++ more) p ≡ text → text_of (bytes ++ more) (ps ++ p ∷ []) ≡ text_of bytes ps ++ text
 text_more bytes more ps p text are is =
     flat_map-append (part_text (bytes ++ more)) ps (p ∷ [])
     ∙ ap₂ (λ (xs ys : List ℕ). xs ++ ys) (text_stays bytes more ps are) (append-nil (part_text (bytes ++ more) p) ∙ is)

@@ -14,9 +14,9 @@ use Rattle.capture_recording.specs.declared.ending.Ending.{Ending}
 use Rattle.capture_recording.specs.declared.session.Session.{Session}
 use Rattle.capture_recording.specs.Ending.{first_position}
 use Rattle.capture_recording.specs.Gathering.{IsFirstSession}
-use Rattle.capture_recording.specs.Going.{IsRecordedTo, GoesThrough, HandsNext, TakesNext, EndsNow}
+use Rattle.capture_recording.specs.Going.{IsRecordedTo, GoesThrough, HandsNext, TakesNextPacket, EndsNow}
 use Rattle.capture_recording.specs.Said.{HasSaid}
-use Rattle.capture_recording.specs.Steps.{Step, packets_of}
+use Rattle.capture_recording.specs.Steps.{PacketStep, packets_of}
 use Rattle.capture_recording.specs.Texts.{AreLines, events_of, notes_of, step_events, step_notes}
 use Rattle.capture_recording.proofs.Stepping.{gathered_first, gathered_more, flat_map_more}
 use Rattle.capture_recording.proofs.Said.{said_nothing}
@@ -44,19 +44,19 @@ recorded_first rules router before told at session first begins = record {
 -- ---- one more packet
 
 -- the lines of one more packet
-lines_more : (written old new : List ℕ) (steps : List Step) (step : Step) → AreLines steps (written ++ old) → AreAppended old new (step_events step) → AreLines (steps ++ step ∷ []) (written ++ new)
+lines_more : (written old new : List ℕ) (steps : List PacketStep) (step : PacketStep) → AreLines steps (written ++ old) → AreAppended old new (step_events step) → AreLines (steps ++ step ∷ []) (written ++ new)
 lines_more written old new steps step are more =
     let behind : AreAppended (written ++ old) (written ++ new) (step_events step) =
     record { text = ap (λ l. written ++ l) more.text ∙ sym (append_assoc written old _); each = more.each } in
     subst (AreAppended [] (written ++ new)) (sym (flat_map_more step_events steps step))
     (appended_more [] (written ++ old) (written ++ new) (events_of steps) (step_events step) are behind)
 
-packets_more : (steps : List Step) (step : Step) → packets_of (steps ++ step ∷ []) ≡ packets_of steps ++ step.packet ∷ []
+packets_more : (steps : List PacketStep) (step : PacketStep) → packets_of (steps ++ step ∷ []) ≡ packets_of steps ++ step.packet ∷ []
 packets_more steps step = map-append (λ s. s.packet) steps (step ∷ [])
 
 module _ (rules : Rules) (router : Option ℕ) (before told_before : Option (List ℕ)) (at to : Position) (left after told_at told : Option (List ℕ)) (old new : Session) (written : List ℕ)
     (is : IsRecordedTo rules router before told_before at left told_at old written) where
-  pub recorded_more : TakesNext at left to after old new told_at told → IsRecordedTo rules router before told_before to after told new written
+  pub recorded_more : TakesNextPacket at left to after old new told_at told → IsRecordedTo rules router before told_before to after told new written
   recorded_more takes = record {
     steps = is.steps ++ takes.step ∷ [];
     goes = subst (GoesOn first_position before to after) (sym (packets_more is.steps takes.step)) (both_ways first_position at to before left after (packets_of is.steps) (takes.step.packet ∷ []) is.goes takes.goes);
@@ -98,7 +98,7 @@ recorded_written rules router before told_before at left told session written fr
 -- ---- what the next step came to
 
 module _ (from to : Position) (before after told_before told : Option (List ℕ)) (old new : Session) (found : Option Ending) (hands : HandsNext from before to after old new told_before told found) where
-  pub took : found ≡ None → TakesNext from before to after old new told_before told
+  pub took : found ≡ None → TakesNextPacket from before to after old new told_before told
   took none = subst (HandsNext from before to after old new told_before told) none hands
 
   pub ended : (ending : Ending) → found ≡ Some ending → EndsNow from before to after old new told_before told ending

@@ -2,13 +2,13 @@
 use Rattle.std.proofs.Common.{◌≡◌, ◌∙◌, ◌++◌, List, [], ℕ, Option, None, Some, inl, inr, refl, ap, sym, subst, append-nil}
 use Rattle.std.specs.Prelude.{◌⊎◌, option_map, String, string_bytes}
 use Rattle.packets.specs.declared.datagram_fault.DatagramFault.{DatagramFault}
-use Rattle.captures.specs.Runs.{Shown}
+use Rattle.captures.specs.Runs.{ShownPacket}
 use Rattle.captured_config.specs.Facts.{facts_of}
 use Rattle.captured_lsas.specs.declared.heard.Heard.{Heard}
 use Rattle.captured_lsas.specs.declared.heard.Heard.TheVariants.{Other, Fault, Part, Whole}
 use Rattle.captured_lsas.specs.declared.heard.Payload.{Payload}
 use Rattle.captured_lsas.specs.Hearing.{IsHeard}
-use Rattle.captured_lsas.specs.Packets.{IsTaken, with_packet}
+use Rattle.captured_lsas.specs.Packets.{IsPacketTaken, with_packet}
 use Rattle.captured_lsas.specs.Payloads.{bytes_of}
 use Rattle.capture_recording.specs.Counts.{with_heard, with_taken}
 use Rattle.capture_recording.proofs.Gaining.{appended_none}
@@ -24,7 +24,7 @@ same_option : {A : Type 0} (o : Option A) → option_map (λ (x : A). x) o ≡ o
 same_option None = refl
 same_option (Some x) = refl
 
-module _ (old : Session) (g : Gathered) (packet : Shown) (heard : Heard) (hears : IsHeard packet.link packet.bytes old.gathered.listener g.listener heard)
+module _ (old : Session) (g : Gathered) (packet : ShownPacket) (heard : Heard) (hears : IsHeard packet.link packet.bytes old.gathered.listener g.listener heard)
     (counted : g.counts ≡ with_heard old.gathered.counts heard) (others : HearsOnly old.gathered g) where
   -- nothing is taken of it
   untaken : (text : String _) → IsTakenOf old.gathered.recorder g.recorder packet.time heard None → string_bytes text ≡ string_bytes old.notes.text ++ heard_notes packet.time heard None
@@ -81,8 +81,8 @@ module _ (old : Session) (g : Gathered) (packet : Shown) (heard : Heard) (hears 
     notes = t.notes ∙ ap (λ h. string_bytes old.notes.text ++ heard_notes packet.time h (Some t.taken)) (sym is);
     silent = t.silent;
   } where
-    its_taken : IsTaken old.gathered.recorder packet.time (bytes_of payload) t.taken
-    its_taken = subst (λ p. IsTaken p packet.time (bytes_of payload) t.taken) others.recorder (subst (λ b. IsTaken g.recorder packet.time b t.taken) same t.is)
+    its_taken : IsPacketTaken old.gathered.recorder packet.time (bytes_of payload) t.taken
+    its_taken = subst (λ p. IsPacketTaken p packet.time (bytes_of payload) t.taken) others.recorder (subst (λ b. IsPacketTaken g.recorder packet.time b t.taken) same t.is)
 
     its_progress : new.gathered.recorder ≡ with_packet old.gathered.recorder packet.time (bytes_of payload)
     its_progress = t.recorder ∙ ap (with_packet g.recorder packet.time) same ∙ ap (λ p. with_packet p packet.time (bytes_of payload)) others.recorder

@@ -1,7 +1,7 @@
 -- The end of a capture, and its result.
 use Rattle.std.specs.Prelude.{ℕ, Bool, true, false, List, [], Option, Result, Ok, Err}
 use Rattle.captures.specs.Reading.{unread}
-use Rattle.captures.specs.Positions.{Position, IsWhole, Stops}
+use Rattle.captures.specs.Positions.{Position, IsAtEnding, Stops}
 use Rattle.captures.specs.declared.capture_error.CaptureError.TheVariants as error
 use Rattle.ospf_types.specs.declared.fault.ConfigFault.{ConfigFault}
 use Rattle.capture_recording.specs.declared.ending.Ending.{Ending}
@@ -14,7 +14,7 @@ abbrev pub first_position : Position
 first_position = record { state = unread; ahead = 0; pending = []; place = 0 }
 
 abbrev pub IsEnding : Ending → Position → Option (List ℕ) → Type 0
-IsEnding Whole at left = IsWhole at left
+IsEnding Whole at left = IsAtEnding at left
 IsEnding (Fault kind place) at left = Stops (error.Fault kind place) at left
 IsEnding Unread at left = Stops error.Read at left
 

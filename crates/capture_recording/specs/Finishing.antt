@@ -12,9 +12,9 @@ use Rattle.ospf_types.specs.declared.fault.ConfigFault.{ConfigFault}
 use Rattle.capture_recording.specs.declared.capturing.Preamble.{Preamble}
 use Rattle.capture_recording.specs.declared.capturing.Preamble.TheVariants.{Given, Router}
 use Rattle.capture_recording.specs.declared.going.Ended.{Ended}
-use Rattle.capture_recording.specs.declared.going.Kept.{Kept}
+use Rattle.capture_recording.specs.declared.going.PackedCapture.{PackedCapture}
 use Rattle.capture_recording.specs.Going.{GoesThrough}
-use Rattle.capture_recording.specs.Outputs.{HasConfigFault, IsFront, IsWritten}
+use Rattle.capture_recording.specs.Outputs.{HasConfigFault, IsFront, IsRecordingWritten}
 
 -- the router that the recording begins with
 abbrev pub router_of : Preamble → Option ℕ
@@ -22,7 +22,7 @@ router_of (Given bytes) = None
 router_of (Router router) = Some router
 
 -- a capture was read, and its preamble and some of the lines were written
-pub record IsBegun (rules : Rules) (beginning : Preamble) (before after old now told_before told : Option (List ℕ)) (ended : Ended) : Type 0 where
+pub record IsCaptureBegun (rules : Rules) (beginning : Preamble) (before after old now told_before told : Option (List ℕ)) (ended : Ended) : Type 0 where
   pub written : List ℕ
   pub through : GoesThrough rules (router_of beginning) before told_before after told ended written
   pub front : List ℕ
@@ -30,7 +30,7 @@ pub record IsBegun (rules : Rules) (beginning : Preamble) (before after old now 
   pub begun : Appends old now (front ++ written)
 
 -- a capture was read, and this has to come before its lines
-pub record IsBehind (rules : Rules) (beginning : Preamble) (before after told_before told : Option (List ℕ)) (kept : Kept) (front : List ℕ) : Type 0 where
+pub record IsBehind (rules : Rules) (beginning : Preamble) (before after told_before told : Option (List ℕ)) (kept : PackedCapture) (front : List ℕ) : Type 0 where
   pub through : GoesThrough rules (router_of beginning) before told_before after told kept.ended kept.packed
   pub is : IsFront beginning through.recorded.steps front
 
@@ -43,7 +43,7 @@ pub record IsLacking (rules : Rules) (router : ℕ) (before after told_before to
 pub record IsWhollyWritten (rules : Rules) (beginning : Preamble) (before after old new told_before told : Option (List ℕ)) (ended : Ended) : Type 0 where
   pub written : List ℕ
   pub through : GoesThrough rules (router_of beginning) before told_before after told ended written
-  pub all : IsWritten beginning old new through.recorded.steps (written ++ string_bytes ended.session.lines)
+  pub all : IsRecordingWritten beginning old new through.recorded.steps (written ++ string_bytes ended.session.lines)
 
 -- ---- what is known of the router
 

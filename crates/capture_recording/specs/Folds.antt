@@ -9,7 +9,7 @@ use Rattle.capture_recording.specs.declared.counts.Counts.{Counts}
 use Rattle.capture_recording.specs.Counts.{with_heard, with_taken}
 use Rattle.captured_config.specs.Areas.{with_area}
 use Rattle.captured_config.specs.Lsas.{Captured, with_lsa}
-use Rattle.capture_recording.specs.Steps.{Step}
+use Rattle.capture_recording.specs.Steps.{PacketStep}
 
 -- ---- how much was found
 
@@ -20,10 +20,10 @@ abbrev pub with_some_counted : Counts → Option Taken → Counts
 with_some_counted c None = c
 with_some_counted c (Some taken) = with_taken c taken
 
-abbrev pub with_step_counted : Counts → Step → Counts
+abbrev pub with_step_counted : Counts → PacketStep → Counts
 with_step_counted c step = with_some_counted (with_heard c step.heard) step.taken
 
-abbrev pub counts_of : List Step → Counts
+abbrev pub counts_of : List PacketStep → Counts
 counts_of steps = fold with_step_counted none_counted steps
 
 -- ---- which areas
@@ -37,11 +37,11 @@ abbrev pub with_some_area : List ℕ → Option Taken → List ℕ
 with_some_area areas None = areas
 with_some_area areas (Some taken) = with_taken_area areas taken
 
-abbrev pub with_step_area : List ℕ → Step → List ℕ
+abbrev pub with_step_area : List ℕ → PacketStep → List ℕ
 with_step_area areas step = with_some_area areas step.taken
 
 -- without duplicates, in the order in which they were first seen
-abbrev pub areas_of : List Step → List ℕ
+abbrev pub areas_of : List PacketStep → List ℕ
 areas_of steps = fold with_step_area [] steps
 
 -- ---- what is known of a router
@@ -62,9 +62,9 @@ abbrev pub with_some_lsas : Captured → Option Taken → Captured
 with_some_lsas c None = c
 with_some_lsas c (Some taken) = with_taken_lsas c taken
 
-abbrev pub with_step_lsas : Captured → Step → Captured
+abbrev pub with_step_lsas : Captured → PacketStep → Captured
 with_step_lsas c step = with_some_lsas c step.taken
 
 -- the router with the Router ID, by the LSAs of the capture
-abbrev pub captured_of : (router : ℕ) → List Step → Captured
+abbrev pub captured_of : (router : ℕ) → List PacketStep → Captured
 captured_of router steps = fold with_step_lsas (record { router = router; lsas = [] }) steps

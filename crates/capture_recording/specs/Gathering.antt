@@ -1,25 +1,25 @@
 -- The changes of the gathered results by one packet.
 use Rattle.std.specs.Prelude.{ℕ, ◌≡◌, ◌++◌, false, List, [], Option, Some, option_map, string_bytes}
-use Rattle.captures.specs.Runs.{Shown}
+use Rattle.captures.specs.Runs.{ShownPacket}
 use Rattle.captured_config.specs.Facts.{Facts, facts_of}
 use Rattle.captured_config.specs.Lsas.{Captured}
 use Rattle.capture_recording.specs.Rules.{Rules}
 use Rattle.captured_lsas.specs.declared.taken.Taken.{Taken}
-use Rattle.captured_lsas.specs.Packets.{IsTaken, with_packet}
+use Rattle.captured_lsas.specs.Packets.{IsPacketTaken, with_packet}
 use Rattle.captured_lsas.specs.Progress.{start}
 use Rattle.capture_recording.specs.Counts.{with_taken}
 use Rattle.capture_recording.specs.Events.{GainsEvents, taken_events}
 use Rattle.capture_recording.specs.Notes.{taken_text}
 use Rattle.capture_recording.specs.declared.gathered.Gathered.{Gathered}
 use Rattle.capture_recording.specs.declared.session.Session.{Session}
-use Rattle.capture_recording.specs.Steps.{Step, Past, IsStep, AreStepsTo, begun}
+use Rattle.capture_recording.specs.Steps.{PacketStep, Past, IsStep, AreStepsTo, begun}
 use Rattle.capture_recording.specs.Texts.{step_events, step_notes}
 use Rattle.capture_recording.specs.Folds.{none_counted, with_step_counted, with_taken_area, with_step_area, with_taken_lsas, with_step_lsas, counts_of, areas_of, captured_of}
 
 -- ---- at first
 
 -- the facts about the router, if they are wanted
-abbrev pub config_of : Option ℕ → List Step → Option Captured
+abbrev pub config_of : Option ℕ → List PacketStep → Option Captured
 config_of router steps = option_map (λ r. captured_of r steps) router
 
 -- the facts that are kept of it
@@ -55,7 +55,7 @@ pub record NotesOnly (old new : Gathered) : Type 0 where
 -- a payload is taken
 pub record TakesPayload (old new : Session) (time : Option ℕ) (sender : ℕ) (payload : List ℕ) : Type 0 where
   pub taken : Taken
-  pub is : IsTaken old.gathered.recorder time payload taken
+  pub is : IsPacketTaken old.gathered.recorder time payload taken
   pub recorder : new.gathered.recorder ≡ with_packet old.gathered.recorder time payload
   pub listener : new.gathered.listener ≡ old.gathered.listener
   pub counts : new.gathered.counts ≡ with_taken old.gathered.counts taken
@@ -66,17 +66,17 @@ pub record TakesPayload (old new : Session) (time : Option ℕ) (sender : ℕ) (
   pub silent : new.notes.is_silent ≡ old.notes.is_silent
 
 -- the results of a packet are kept
-pub record Gathers (old : Gathered) (step : Step) (new : Gathered) : Type 0 where
+pub record GathersPacket (old : Gathered) (step : PacketStep) (new : Gathered) : Type 0 where
   pub is : IsStep (past_of old) step (past_of new)
   pub counts : new.counts ≡ with_step_counted old.counts step
   pub areas : new.areas ≡ with_step_area old.areas step
   pub config : (known : Option Captured) → AreFactsOf known old.config → AreFactsOf (option_map (λ c. with_step_lsas c step) known) new.config
 
 -- a packet is taken
-pub record TakesPacket (old new : Session) (packet : Shown) : Type 0 where
-  pub step : Step
+pub record TakesPacket (old new : Session) (packet : ShownPacket) : Type 0 where
+  pub step : PacketStep
   pub of : step.packet ≡ packet
-  pub gathers : Gathers old.gathered step new.gathered
+  pub gathers : GathersPacket old.gathered step new.gathered
   pub lines : GainsEvents old.lines new.lines (step_events step)
   pub notes : string_bytes new.notes.text ≡ string_bytes old.notes.text ++ step_notes step
   pub silent : new.notes.is_silent ≡ old.notes.is_silent
@@ -84,7 +84,7 @@ pub record TakesPacket (old new : Session) (packet : Shown) : Type 0 where
 -- ---- the first packets
 
 -- the results of the packets are kept
-pub record AreGathered (rules : Rules) (router : Option ℕ) (steps : List Step) (g : Gathered) : Type 0 where
+pub record AreGathered (rules : Rules) (router : Option ℕ) (steps : List PacketStep) (g : Gathered) : Type 0 where
   pub are : AreStepsTo (begun rules) steps (past_of g)
   pub counts : g.counts ≡ counts_of steps
   pub areas : g.areas ≡ areas_of steps

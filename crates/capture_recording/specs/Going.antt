@@ -7,21 +7,21 @@ use Rattle.capture_recording.specs.declared.ending.Ending.{Ending}
 use Rattle.capture_recording.specs.declared.going.Ended.{Ended}
 use Rattle.capture_recording.specs.declared.session.Session.{Session}
 use Rattle.capture_recording.specs.Ending.{first_position, IsEnding}
-use Rattle.capture_recording.specs.Gathering.{AreGathered, Gathers}
+use Rattle.capture_recording.specs.Gathering.{AreGathered, GathersPacket}
 use Rattle.capture_recording.specs.Said.{HasSaid}
-use Rattle.capture_recording.specs.Steps.{Step, packets_of}
+use Rattle.capture_recording.specs.Steps.{PacketStep, packets_of}
 use Rattle.capture_recording.specs.Texts.{AreLines, notes_of, step_events, step_notes}
 
 -- If the preamble is given, no line is held back while no byte of the next packet is at hand: a
 -- read of the input may wait.
-abbrev pub IsDue : Position → Session → Type 0
-IsDue at session = session.gathered.config ≡ None → at.pending ≡ [] → string_bytes session.lines ≡ []
+abbrev pub IsLineDue : Position → Session → Type 0
+IsLineDue at session = session.gathered.config ≡ None → at.pending ≡ [] → string_bytes session.lines ≡ []
 
 -- the next packet is read and taken
-pub record TakesNext (from : Position) (before : Option (List ℕ)) (to : Position) (after : Option (List ℕ)) (old new : Session) (told_before told : Option (List ℕ)) : Type 0 where
-  pub step : Step
+pub record TakesNextPacket (from : Position) (before : Option (List ℕ)) (to : Position) (after : Option (List ℕ)) (old new : Session) (told_before told : Option (List ℕ)) : Type 0 where
+  pub step : PacketStep
   pub goes : GoesOn from before to after (step.packet ∷ [])
-  pub gathers : Gathers old.gathered step new.gathered
+  pub gathers : GathersPacket old.gathered step new.gathered
   pub lines : GainsEvents old.lines new.lines (step_events step)
   pub none : string_bytes new.notes.text ≡ []
   pub said : string_bytes old.notes.text ≡ [] → (first : Option (List ℕ)) (text : List ℕ) → HasSaid first told_before old.notes.is_silent text
@@ -36,12 +36,12 @@ pub record EndsNow (from : Position) (before : Option (List ℕ)) (to : Position
 
 -- the next packet is read and taken, or there is none
 abbrev pub HandsNext : (from : Position) (before : Option (List ℕ)) (to : Position) (after : Option (List ℕ)) (old new : Session) (told_before told : Option (List ℕ)) → Option Ending → Type 0
-HandsNext from before to after old new told_before told None = TakesNext from before to after old new told_before told
+HandsNext from before to after old new told_before told None = TakesNextPacket from before to after old new told_before told
 HandsNext from before to after old new told_before told (Some ending) = EndsNow from before to after old new told_before told ending
 
 -- The first packets of an input were taken. Some of their lines were written, the others are kept.
 pub record IsRecordedTo (rules : Rules) (router : Option ℕ) (before told_before : Option (List ℕ)) (to : Position) (after told : Option (List ℕ)) (session : Session) (written : List ℕ) : Type 0 where
-  pub steps : List Step
+  pub steps : List PacketStep
   pub goes : GoesOn first_position before to after (packets_of steps)
   pub gathered : AreGathered rules router steps session.gathered
   pub lines : AreLines steps (written ++ string_bytes session.lines)

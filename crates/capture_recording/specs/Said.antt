@@ -31,12 +31,12 @@ pub record Packs (old new : List ℕ) (lines left : List ℕ) : Type 0 where
   pub packed : new ≡ old ++ front
 
 -- the reason why not all of the text was written, and the part that was
-abbrev pub WritesPart : (old new : Option (List ℕ)) → (text : List ℕ) → CapturingFault → Type 0
-WritesPart old new text (Capture kind place) = ⊥
-WritesPart old new text Read = ⊥
-WritesPart old new text (Line fault) = ⊥
-WritesPart old new text (Config fault) = ⊥
-WritesPart old new text Unsaid = ⊥
-WritesPart old new text Write = AppendsPart old new text
-WritesPart old new text Closed = AppendsPart old new text
-WritesPart old new text Memory = AppendsUpTo old new text
+abbrev pub WritesSaidPart : (old new : Option (List ℕ)) → (text : List ℕ) → CapturingFault → Type 0
+WritesSaidPart old new text (Capture kind place) = ⊥
+WritesSaidPart old new text Read = ⊥
+WritesSaidPart old new text (Line fault) = ⊥
+WritesSaidPart old new text (Config fault) = ⊥
+WritesSaidPart old new text Unsaid = ⊥
+WritesSaidPart old new text Write = AppendsPart old new text
+WritesSaidPart old new text Closed = AppendsPart old new text
+WritesSaidPart old new text Memory = AppendsUpTo old new text

@@ -7,7 +7,7 @@ use Rattle.captured_lsas.specs.declared.heard.Heard.TheVariants.{Other, Fault, P
 use Rattle.captured_lsas.specs.declared.taken.Taken.{Taken}
 use Rattle.capture_recording.specs.Events.{taken_events, AreAppended}
 use Rattle.capture_recording.specs.Notes.{datagram_note, taken_text}
-use Rattle.capture_recording.specs.Steps.{Step}
+use Rattle.capture_recording.specs.Steps.{PacketStep}
 
 -- ---- the events of the recording
 
@@ -15,15 +15,15 @@ abbrev pub some_events : Option Taken → List Event
 some_events None = []
 some_events (Some taken) = taken_events taken
 
-abbrev pub step_events : Step → List Event
+abbrev pub step_events : PacketStep → List Event
 step_events step = some_events step.taken
 
 -- those of each packet, in their order
-abbrev pub events_of : List Step → List Event
+abbrev pub events_of : List PacketStep → List Event
 events_of steps = flat_map step_events steps
 
 -- the text has the lines of their events, and no more
-abbrev pub AreLines : List Step → List ℕ → Type 0
+abbrev pub AreLines : List PacketStep → List ℕ → Type 0
 AreLines steps lines = AreAppended [] lines (events_of steps)
 
 -- ---- the notes
@@ -38,9 +38,9 @@ heard_notes when (Fault fault) taken = datagram_note when fault
 heard_notes when Part taken = []
 heard_notes when (Whole sender payload) taken = taken_notes when sender taken
 
-abbrev pub step_notes : Step → List ℕ
+abbrev pub step_notes : PacketStep → List ℕ
 step_notes step = heard_notes step.packet.time step.heard step.taken
 
 -- those of each packet, in their order
-abbrev pub notes_of : List Step → List ℕ
+abbrev pub notes_of : List PacketStep → List ℕ
 notes_of steps = flat_map step_notes steps

@@ -2,7 +2,7 @@
 ghost use Rattle.std.specs.Prelude.{◌≡◌, IfOk};
 ghost use Rattle.recording.specs.Recordings.{IsText};
 ghost use Rattle.capture_recording.specs.declared.capturing.Preamble.TheVariants.{Given, Router};
-ghost use Rattle.capture_recording.specs.Outputs.{areas_in, IsOnly, IsRecordingText, Outcome};
+ghost use Rattle.capture_recording.specs.Outputs.{areas_in, IsOnlyText, IsRecordingText, CaptureOutcome};
 ghost use Rattle.capture_recording.specs.Outputs.{RuledOutcome};
 
 use crate::fault::CapturingFault;
@@ -66,7 +66,7 @@ pub fn record_capture<R: io::Read, W: io::Write, F: io::Write>(
     out: &mut W,
     faults: &mut F,
 ) -> Result<(), CapturingFault>
-    ensures { Outcome capturing.entry.options capturing.entry.beginning
+    ensures { CaptureOutcome capturing.entry.options capturing.entry.beginning
         (R.remaining input.old) (R.remaining input.new) (W.contents out.old) (W.contents out.new)
         (F.contents faults.old) (F.contents faults.new) result }
 {
@@ -90,7 +90,7 @@ fn record_given<R: io::Read, W: io::Write, F: io::Write>(
     out: &mut W,
     faults: &mut F,
 ) -> Result<(), CapturingFault>
-    ensures { Outcome start.options (Given front.entry)
+    ensures { CaptureOutcome start.options (Given front.entry)
         (R.remaining input.old) (R.remaining input.new) (W.contents out.old) (W.contents out.new)
         (F.contents faults.old) (F.contents faults.new) result }
 {
@@ -110,8 +110,8 @@ fn record_known<R: io::Read, W: io::Write, F: io::Write>(
     out: &mut W,
     faults: &mut F,
 ) -> Result<(), CapturingFault>
-    ensures { IsText front.now recording.now → IsOnly front.now recording.now
-        → Outcome start.options (Given front.entry)
+    ensures { IsText front.now recording.now → IsOnlyText front.now recording.now
+        → CaptureOutcome start.options (Given front.entry)
         (R.remaining input.old) (R.remaining input.new) (W.contents out.old) (W.contents out.new)
         (F.contents faults.old) (F.contents faults.new) result }
 {

@@ -11,14 +11,14 @@ ghost use Rattle.recording.specs.Recordings.{IsText};
 ghost use Rattle.capture_recording.specs.declared.capturing.Preamble.{Preamble};
 ghost use Rattle.capture_recording.specs.declared.capturing.Preamble.TheVariants.{Router};
 ghost use Rattle.capture_recording.specs.Going.{GoesThrough};
-ghost use Rattle.capture_recording.specs.Finishing.{IsBegun, IsBehind, IsLacking, IsNoFront};
+ghost use Rattle.capture_recording.specs.Finishing.{IsCaptureBegun, IsBehind, IsLacking, IsNoFront};
 ghost use Rattle.capture_recording.specs.Finishing.{IsWhollyWritten, unknown_if};
 ghost use Rattle.capture_recording.specs.Gathering.{AreFactsOf};
 ghost use Rattle.capture_recording.specs.Outputs.{RuledOutcome};
 
 use crate::fault::CapturingFault;
 use crate::gathered::Gathered;
-use crate::going::{Ended, Kept};
+use crate::going::{Ended, PackedCapture};
 use crate::put_counts;
 use crate::writing::write_out;
 use captured_config::PreambleFault;
@@ -27,7 +27,7 @@ use ospf_types::memory::Memory;
 use std::alloc::Global;
 use std::io;
 
-impl Kept {
+impl PackedCapture {
     /// Writes the preamble that the capture shows for the router, and then the lines.
     pub(crate) fn finish_router<W: io::Write, F: io::Write>(
         self,
@@ -96,7 +96,7 @@ impl Ended {
     ) -> Result<(), CapturingFault>
         ensures { (rules : Rules) (beginning : Preamble)
             (before after first told : Option (List ℕ))
-            → IsBegun rules beginning before after first (W.contents out.old)
+            → IsCaptureBegun rules beginning before after first (W.contents out.old)
             told (F.contents faults.old) self
             → RuledOutcome rules beginning before after first (W.contents out.new)
             told (F.contents faults.new) result }

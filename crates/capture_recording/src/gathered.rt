@@ -13,7 +13,7 @@ use crate::Counts;
 use crate::start::Start;
 use captured_config::{CapturedConfig, SeenAreas};
 use captured_lsas::{Heard, Listener, Recorded, Recorder, Taken};
-use captures::Packet;
+use captures::CapturedPacket;
 use ospf_types::memory::Memory;
 use std::alloc::Global;
 
@@ -63,7 +63,7 @@ impl Gathered {
     pub(crate) fn hear<'a>(
         &mut self,
         alloc: Global,
-        packet: &Packet<'a>,
+        packet: &CapturedPacket<'a>,
     ) -> Result<Heard<'a>, Memory>
         ensures heard { IfOk result (IsHeard packet.now.link packet.now.bytes.now
             self.old.listener self.new.listener) }

@@ -8,7 +8,7 @@ use crate::ending::Ending;
 use crate::fault::CapturingFault;
 use crate::packed_text::PackedText;
 use crate::session::Session;
-use crate::source::Source;
+use crate::source::CaptureSource;
 use crate::start::Start;
 use crate::writing::{pack_many, write_due};
 use ospf_types::memory::Memory;
@@ -25,7 +25,7 @@ pub(crate) struct Ended {
 /// A capture that was read, with the lines that were packed. The lines of the session come after
 /// them.
 #[derive(Drop)]
-pub(crate) struct Kept {
+pub(crate) struct PackedCapture {
     pub(crate) ended: Ended,
     pub(crate) packed: PackedText,
 }
@@ -37,7 +37,7 @@ pub(crate) fn gather<R: io::Read, F: io::Write>(
     router: u32,
     input: &mut R,
     faults: &mut F,
-) -> Result<Kept, Memory>
+) -> Result<PackedCapture, Memory>
     ensures ok { IfOk result (λ kept. GoesThrough start (Some router)
         (R.remaining input.old) (F.contents faults.old)
         (R.remaining input.new) (F.contents faults.new) kept.ended kept.packed) }
@@ -45,14 +45,14 @@ pub(crate) fn gather<R: io::Read, F: io::Write>(
         (F.contents faults.old) (F.contents faults.new)) }
 {
     let mut session = Session::new(alloc, start, Some(router));
-    let mut source = Source::new(alloc)?;
+    let mut source = CaptureSource::new(alloc)?;
     let mut packed = PackedText::new(alloc);
     for _ in 0..u64::MAX {
         match source.hand_next(alloc, input, &mut session, faults)? {
             None => pack_many(&mut session.lines, &mut packed)?,
             Some(ending) => {
                 let ended = Ended { session, ending };
-                return Ok(Kept { ended, packed });
+                return Ok(PackedCapture { ended, packed });
             }
         }
     }
@@ -78,7 +78,7 @@ pub(crate) fn stream<R: io::Read, W: io::Write, F: io::Write>(
         (F.contents faults.old) (F.contents faults.new)) }
 {
     let mut session = Session::new(alloc, start, None);
-    let mut source = Source::new(alloc)?;
+    let mut source = CaptureSource::new(alloc)?;
     for _ in 0..u64::MAX {
         match source.hand_next(alloc, input, &mut session, faults)? {
             None => write_due(&mut session.lines, source.reader.has_pending(), out)?,

@@ -4,9 +4,9 @@
 ghost use Rattle.std.specs.Prelude.{◌≡◌, ◌≤◌, ◌<◌, ◌%◌, ◌++◌, [], length, take, ℕ, List, IfOk};
 ghost use Rattle.std.specs.Prelude.{IfSome, OnOk, OnErr};
 ghost use Rattle.capture_recording.specs.Digits.{AreDigits};
-ghost use Rattle.capture_recording.specs.Packed.{second_lines, AreWithin, IsWithin};
+ghost use Rattle.capture_recording.specs.Packed.{second_lines, ArePiecesWithin, IsPieceWithin};
 
-use crate::piece::{Part, Piece};
+use crate::piece::{Piece, TextPiece};
 use crate::pieces::append_piece;
 use crate::runs::{run_of, seconds_in};
 use std::alloc::{AllocError, Global};
@@ -21,7 +21,7 @@ use std::marker::Model;
 pub(crate) struct PackedText {
     pub(crate) alloc: Global,
     pub(crate) bytes: Vec<u8>,
-    pub(crate) parts: Vec<Part>,
+    pub(crate) parts: Vec<TextPiece>,
 }
 
 // proof: a value is dropped by one call, not part by part at each exit of a function.
@@ -38,13 +38,13 @@ impl Drop for PackedText {
 /// Contracts see the text.
 impl Model for PackedText {
     ghost use Rattle.std.specs.Prelude.{ℕ, List};
-    ghost use Rattle.capture_recording.specs.Packed.{text_of, AreWithin};
+    ghost use Rattle.capture_recording.specs.Packed.{text_of, ArePiecesWithin};
 
     ghost Value = { List ℕ };
 
     ghost view = { λ p. text_of p.bytes.items p.parts.items };
 
-    ghost invariant = { λ p. AreWithin p.bytes.items p.parts.items };
+    ghost invariant = { λ p. ArePiecesWithin p.bytes.items p.parts.items };
 }
 
 impl PackedText {
@@ -91,7 +91,7 @@ impl PackedText {
         ensures pushed { OnOk result (self.new ≡ self.old ++ second_lines seconds) }
         ensures unchanged { OnErr result (self.new ≡ self.old) }
     {
-        self.parts.push(Part::Seconds(seconds))?;
+        self.parts.push(TextPiece::Seconds(seconds))?;
         Ok(())
     }
 
@@ -120,7 +120,7 @@ impl PackedText {
         let start = self.bytes.len();
         let last = last_piece(self.parts.as_slice());
         match append_piece(&mut self.bytes, last, plain, digits) {
-            Ok(piece) => match self.parts.push(Part::Text(piece)) {
+            Ok(piece) => match self.parts.push(TextPiece::Text(piece)) {
                 Ok(()) => Ok(()),
                 Err(_) => {
                     self.bytes.truncate(start);
@@ -136,11 +136,11 @@ impl PackedText {
 }
 
 // Returns the last part, if it is characters and digits.
-fn last_piece(parts: &[Part]) -> Option<Piece>
-    ensures { (bytes : List ℕ) → AreWithin bytes parts.now → IfSome result (IsWithin bytes) }
+fn last_piece(parts: &[TextPiece]) -> Option<Piece>
+    ensures { (bytes : List ℕ) → ArePiecesWithin bytes parts.now → IfSome result (IsPieceWithin bytes) }
 {
     match parts.last() {
-        Some(Part::Text(piece)) => Some(*piece),
+        Some(TextPiece::Text(piece)) => Some(*piece),
         _ => None,
     }
 }

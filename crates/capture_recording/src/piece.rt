@@ -2,7 +2,7 @@
 
 /// A part of a packed text.
 #[derive(Clone, Copy)]
-pub(crate) enum Part {
+pub(crate) enum TextPiece {
     /// Characters, and then digits.
     Text(Piece),
     /// A number of `second` lines.

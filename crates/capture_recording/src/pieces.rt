@@ -4,7 +4,7 @@ ghost use Rattle.std.specs.Prelude.{◌≡◌, ◌≤◌, ◌<◌, ◌+◌, ◌/
 ghost use Rattle.std.specs.Prelude.{true, slice_index};
 ghost use Rattle.hex.specs.Hex.{encode_lower, lower_digits};
 ghost use Rattle.capture_recording.specs.Digits.{is_digit, AreDigits};
-ghost use Rattle.capture_recording.specs.Packed.{Gains, IsWithin, IsPiece, IsPart};
+ghost use Rattle.capture_recording.specs.Packed.{Gains, IsPieceWithin, IsPiece, IsPieceAt};
 
 use crate::piece::Piece;
 use std::alloc::AllocError;
@@ -17,7 +17,7 @@ pub(crate) fn append_piece(
     plain: &[u8],
     digits: &[u8],
 ) -> Result<Piece, AllocError>
-    requires last { IfSome last (IsWithin bytes.old.items) }
+    requires last { IfSome last (IsPieceWithin bytes.old.items) }
     requires plain { length plain.now ≤ 65535 }
     requires few { length digits.now ≤ 131070 }
     requires even { length digits.now % 2 ≡ 0 }
@@ -41,9 +41,9 @@ pub(crate) fn append_piece(
 
 // Appends the characters, unless the last piece has the same ones. Returns their index.
 fn append_plain(bytes: &mut Vec<u8>, last: Option<Piece>, plain: &[u8]) -> Result<usize, AllocError>
-    requires last { IfSome last (IsWithin bytes.old.items) }
+    requires last { IfSome last (IsPieceWithin bytes.old.items) }
     ensures gains { Gains bytes.old.items bytes.new.items }
-    ensures stands { IfOk result (λ start. IsPart bytes.new.items start plain.now) }
+    ensures stands { IfOk result (λ start. IsPieceAt bytes.new.items start plain.now) }
 {
     if let Some(last) = last {
         let (start, length) = (last.plain_start as usize, last.plain as usize);

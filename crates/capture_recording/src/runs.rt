@@ -15,7 +15,7 @@ const MOST_SECONDS: usize = 9_000;
 
 /// The start of a text: characters, and then digits.
 #[derive(Clone, Copy)]
-pub(crate) struct Run {
+pub(crate) struct TextRun {
     /// The number of characters.
     pub(crate) plain: usize,
     /// The number of digits, which is even.
@@ -23,7 +23,7 @@ pub(crate) struct Run {
 }
 
 /// Returns the run at the start of a text that is not empty.
-pub(crate) fn run_of(text: &[u8]) -> Run
+pub(crate) fn run_of(text: &[u8]) -> TextRun
     requires { 0 < length text.now }
     ensures within { result.plain + result.digits ≤ length text.now }
     ensures some { 0 < result.plain + result.digits }
@@ -35,12 +35,12 @@ pub(crate) fn run_of(text: &[u8]) -> Run
     let plain = plain_in(text);
     let digits = digits_in(&text[plain..]);
     if plain + digits == 0 {
-        return Run {
+        return TextRun {
             plain: 1,
             digits: 0,
         };
     }
-    Run { plain, digits }
+    TextRun { plain, digits }
 }
 
 /// Returns the number of `second` lines at the start of the text, up to `MOST_SECONDS`.

@@ -8,7 +8,7 @@ use crate::notes::Notes;
 use crate::start::Start;
 use crate::{put_fault_note, put_notes, put_taken};
 use captured_lsas::Heard;
-use captures::Packet;
+use captures::CapturedPacket;
 use ospf_types::memory::Memory;
 use std::alloc::Global;
 
@@ -45,7 +45,7 @@ impl Session {
 
     /// Takes a captured packet. Appends what is recorded of it to the lines, and its faults to the
     /// notes.
-    pub(crate) fn take(&mut self, alloc: Global, packet: &Packet<'_>) -> Result<(), Memory>
+    pub(crate) fn take(&mut self, alloc: Global, packet: &CapturedPacket<'_>) -> Result<(), Memory>
         ensures { OnOk result (TakesPacket self.old self.new (shown_packet packet.now)) }
     {
         let time = packet.time;

@@ -1,38 +1,38 @@
 //! The source of the packets.
 ghost use Rattle.std.specs.Prelude.{◌≡◌, IfOk, OnErr};
 ghost use Rattle.capture_recording.specs.Ending.{first_position};
-ghost use Rattle.capture_recording.specs.Going.{HandsNext, IsDue};
+ghost use Rattle.capture_recording.specs.Going.{HandsNext, IsLineDue};
 
 use crate::ending::Ending;
 use crate::session::Session;
-use captures::{CaptureError, Packet, PacketReader};
+use captures::{CaptureError, CapturedPacket, PacketReader};
 use ospf_types::memory::Memory;
 use std::alloc::Global;
 use std::io;
 
 /// A capture that is read.
-pub(crate) struct Source {
+pub(crate) struct CaptureSource {
     pub(crate) reader: PacketReader,
     /// The bytes of the last packet.
     pub(crate) bytes: Vec<u8>,
 }
 
 // proof: a value is dropped by one call, not part by part at each exit of a function.
-impl Drop for Source {
+impl Drop for CaptureSource {
     fn drop(self) {
-        let Source {
+        let CaptureSource {
             reader: _reader,
             bytes: _bytes,
         } = self;
     }
 }
 
-impl Source {
+impl CaptureSource {
     /// Creates a source of which nothing was read.
-    pub(crate) fn new(alloc: Global) -> Result<Source, Memory>
+    pub(crate) fn new(alloc: Global) -> Result<CaptureSource, Memory>
         ensures { IfOk result (λ source. source.reader ≡ first_position) }
     {
-        Ok(Source {
+        Ok(CaptureSource {
             reader: PacketReader::new(alloc)?,
             bytes: Vec::new(alloc),
         })
@@ -48,7 +48,7 @@ impl Source {
         faults: &mut F,
     ) -> Result<Option<Ending>, Memory>
         // No line is held back if the input has to be read for the next packet.
-        requires due { IsDue self.old.reader session.old }
+        requires due { IsLineDue self.old.reader session.old }
         ensures ok { IfOk result (HandsNext self.old.reader (R.remaining input.old)
             self.new.reader (R.remaining input.new)
             session.old session.new (F.contents faults.old) (F.contents faults.new)) }
@@ -56,7 +56,7 @@ impl Source {
     {
         match self.reader.next(input, &mut self.bytes) {
             Ok(Some(head)) => {
-                let packet = Packet {
+                let packet = CapturedPacket {
                     time: head.time,
                     link: head.link,
                     wire_length: head.wire_length,

@@ -2,12 +2,12 @@
 ghost use Rattle.std.specs.Prelude.{◌≡◌, ◌++◌, OnOk, IfErr};
 ghost use Rattle.std.specs.Io.KnownBytes.{Appends};
 ghost use Rattle.capture_recording.specs.Packed.{part_text, piece_text, second_lines, text_of};
-ghost use Rattle.capture_recording.specs.Packed.{IsPartWithin, IsWithin, AreWithin};
-ghost use Rattle.capture_recording.specs.Said.{WritesPart};
+ghost use Rattle.capture_recording.specs.Packed.{IsPartWithin, IsPieceWithin, ArePiecesWithin};
+ghost use Rattle.capture_recording.specs.Said.{WritesSaidPart};
 
 use crate::fault::CapturingFault;
 use crate::packed_text::PackedText;
-use crate::piece::{Part, Piece};
+use crate::piece::{Piece, TextPiece};
 use crate::writing::{write_many, write_out};
 use ospf_types::memory::Memory;
 use std::alloc::Global;
@@ -17,7 +17,7 @@ impl PackedText {
     /// Writes the text, in large pieces.
     pub(crate) fn write_to<W: io::Write>(&self, out: &mut W) -> Result<(), CapturingFault>
         ensures ok { OnOk result (Appends (W.contents out.old) (W.contents out.new) self.now) }
-        ensures err { IfErr result (WritesPart (W.contents out.old) (W.contents out.new) self.now) }
+        ensures err { IfErr result (WritesSaidPart (W.contents out.old) (W.contents out.new) self.now) }
     {
         write_parts(
             self.alloc,
@@ -32,13 +32,13 @@ impl PackedText {
 fn write_parts<W: io::Write>(
     alloc: Global,
     bytes: &[u8],
-    parts: &[Part],
+    parts: &[TextPiece],
     out: &mut W,
 ) -> Result<(), CapturingFault>
-    requires { AreWithin bytes.now parts.now }
+    requires { ArePiecesWithin bytes.now parts.now }
     ensures ok { OnOk result (Appends (W.contents out.old) (W.contents out.new)
         (text_of bytes.now parts.now)) }
-    ensures err { IfErr result (WritesPart (W.contents out.old) (W.contents out.new)
+    ensures err { IfErr result (WritesSaidPart (W.contents out.old) (W.contents out.new)
         (text_of bytes.now parts.now)) }
 {
     let mut text = Vec::new(alloc);
@@ -56,13 +56,13 @@ fn write_parts<W: io::Write>(
 }
 
 // Appends the text of the part.
-fn put_part(alloc: Global, bytes: &[u8], part: &Part, text: &mut Vec<u8>) -> Result<(), Memory>
+fn put_part(alloc: Global, bytes: &[u8], part: &TextPiece, text: &mut Vec<u8>) -> Result<(), Memory>
     requires { IsPartWithin bytes.now part.now }
     ensures { OnOk result (text.new.items ≡ text.old.items ++ part_text bytes.now part.now) }
 {
     match part {
-        Part::Text(piece) => put_piece(alloc, bytes, piece, text),
-        Part::Seconds(count) => put_seconds(*count, text),
+        TextPiece::Text(piece) => put_piece(alloc, bytes, piece, text),
+        TextPiece::Seconds(count) => put_seconds(*count, text),
     }
 }
 
@@ -78,7 +78,7 @@ fn put_seconds(count: u16, text: &mut Vec<u8>) -> Result<(), Memory>
 
 // Appends the text of the piece.
 fn put_piece(alloc: Global, bytes: &[u8], piece: &Piece, text: &mut Vec<u8>) -> Result<(), Memory>
-    requires { IsWithin bytes.now piece.now }
+    requires { IsPieceWithin bytes.now piece.now }
     ensures { OnOk result (text.new.items ≡ text.old.items ++ piece_text bytes.now piece.now) }
 {
     let (plain, digits) = (piece.plain_start as usize, piece.digits_start as usize);

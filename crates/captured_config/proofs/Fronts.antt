@@ -13,7 +13,7 @@ use Rattle.event_state.specs.BaseFaults.{unfit_of, has_overfull_area}
 use Rattle.event_state.specs.Steps.{standard_limits}
 use Rattle.recording.specs.declared.version.Version.TheVariants.{One}
 use Rattle.recording.specs.Forms.{IsForm}
-use Rattle.recording.specs.Recordings.{RecordingValue, IsText, IsBaseOrdered, AreByNetworks, HasKind, HasWholeLsa, IsLineIn, IsWhole, form_of, forms_of, front_forms, text_of}
+use Rattle.recording.specs.Recordings.{RecordingValue, IsText, IsBaseOrdered, AreByNetworks, HasKind, HasWholeLsa, IsLineIn, IsLsaOfBytes, form_of, forms_of, front_forms, text_of}
 use Rattle.recording.proofs.BaseSound.{ordered_sound}
 use Rattle.recording.proofs.Pieces.{Appended, appended_more}
 use Rattle.captured_config.specs.Areas.{ascending}
@@ -87,7 +87,7 @@ is_text c ids interfaces sorted sound forms =
     record {
       spelled = refl;
       forms = forms;
-      held = All-nil (λ x. IsWhole x.1);
+      held = All-nil (λ x. IsLsaOfBytes x.1);
       lsas = all_whole interfaces;
       kept = record {
         spelled = record { compat = λ v. refl; serial = λ v. refl; interfaces = λ v. refl; lsas = λ v. refl };

@@ -8,7 +8,7 @@ use Rattle.std.proofs.lemmas.List.Elements.{filter_map-append}
 use Rattle.ospf_types.specs.Lsa.{Lsa}
 use Rattle.ospf_types.specs.declared.config.AreaConfig.{AreaConfig}
 use Rattle.ospf_types.specs.declared.lsa.Link.{Link}
-use Rattle.captured_config.specs.declared.fact.Told.{Told}
+use Rattle.captured_config.specs.declared.fact.LsaFacts.{LsaFacts}
 use Rattle.captured_config.specs.declared.found.Found.{Found}
 use Rattle.captured_config.specs.Lsas.{AreaLsa, Captured, has_router_lsa, is_counted, is_own_router_lsa, links_from, links_in, links_within, lsa_in, with_lsa}
 use Rattle.captured_config.specs.StubAreas.{default_cost, default_metric, has_other_summary, is_cost_unknown, is_stub_area}
@@ -61,7 +61,7 @@ no_choice true cost = refl
 no_choice false cost = refl
 
 -- an LSA without facts is not kept, and passes no test
-module _ (t : Told) (silent : tells t ≡ false) (area : ℕ) where
+module _ (t : LsaFacts) (silent : tells t ≡ false) (area : ℕ) where
   not_own : tells_own area t ≡ false
   not_own = and_none (t.area == area) t.is_own (left t.is_own _ silent)
 
@@ -82,7 +82,7 @@ module _ (t : Told) (silent : tells t ≡ false) (area : ℕ) where
       ap (λ (o : Option ℕ). option_or (cond (t.area == area) o None) cost) (no_value t.default (left (is_some t.default) _ not_second)) ∙ no_choice (t.area == area) cost
 
 module _ (router : ℕ) where
-  any_told : (p : Told → Bool) → ((t : Told) → tells t ≡ false → p t ≡ false) → (xs : List AreaLsa) → list_any p (filter_map (told_from router) xs) ≡ list_any (λ x. p (told_of router x)) xs
+  any_told : (p : LsaFacts → Bool) → ((t : LsaFacts) → tells t ≡ false → p t ≡ false) → (xs : List AreaLsa) → list_any p (filter_map (told_from router) xs) ≡ list_any (λ x. p (told_of router x)) xs
   any_told p none [] = refl
   any_told p none (x ∷ xs) =
       let t = told_of router x in

@@ -4,7 +4,7 @@ use Rattle.std.specs.List.{cons_option, flat_map, filter_map}
 use Rattle.ospf_types.specs.declared.lsa.Link.{Link}
 use Rattle.captured_config.specs.declared.fact.OwnLink.{OwnLink}
 use Rattle.captured_config.specs.declared.fact.LinkBack.{LinkBack}
-use Rattle.captured_config.specs.declared.fact.Told.{Told}
+use Rattle.captured_config.specs.declared.fact.LsaFacts.{LsaFacts}
 use Rattle.captured_config.specs.Lsas.{AreaLsa, Captured, is_own_router_lsa, lacks_externals, links_within}
 use Rattle.captured_config.specs.StubAreas.{default_route, other_network}
 use Rattle.captured_config.specs.Interfaces.{is_point_to_point}
@@ -14,7 +14,7 @@ use Rattle.captured_config.specs.Interfaces.{is_point_to_point}
 pub record FactLists : Type 0 where
   pub own : List OwnLink
   pub back : List LinkBack
-  pub told : List Told
+  pub told : List LsaFacts
 
 pub record Facts : Type 0 where
   pub router : ℕ
@@ -40,7 +40,7 @@ abbrev pub back_from : (router : ℕ) → AreaLsa → List LinkBack
 back_from router x = if x.lsa.header.kind == 1 then filter_map (link_back_at router x.area x.lsa.header.router) (links_within x.lsa) else []
 
 -- its other facts
-abbrev pub told_of : (router : ℕ) → AreaLsa → Told
+abbrev pub told_of : (router : ℕ) → AreaLsa → LsaFacts
 told_of router x = record {
   area = x.area;
   is_own = is_own_router_lsa router x.lsa;
@@ -50,10 +50,10 @@ told_of router x = record {
 }
 
 -- true if it has any fact
-abbrev pub tells : Told → Bool
+abbrev pub tells : LsaFacts → Bool
 tells t = t.is_own || (t.lacks_externals || (is_some t.default || t.has_other_summary))
 
-abbrev pub told_from : (router : ℕ) → AreaLsa → Option Told
+abbrev pub told_from : (router : ℕ) → AreaLsa → Option LsaFacts
 told_from router x = if tells (told_of router x) then Some (told_of router x) else None
 
 -- ---- of all
@@ -61,7 +61,7 @@ told_from router x = if tells (told_of router x) then Some (told_of router x) el
 abbrev pub no_facts : FactLists
 no_facts = record { own = []; back = []; told = [] }
 
-abbrev pub with_lists : FactLists → List OwnLink → List LinkBack → Option Told → FactLists
+abbrev pub with_lists : FactLists → List OwnLink → List LinkBack → Option LsaFacts → FactLists
 with_lists f own back told = record { own = f.own ++ own; back = f.back ++ back; told = f.told ++ cons_option told [] }
 
 -- and of one more LSA

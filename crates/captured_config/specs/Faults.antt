@@ -13,11 +13,11 @@ front_fault_text (fault.Config f) = config_fault_text f
 front_fault_text fault.Memory = memory_text
 
 -- the configuration has this fault, or memory ran out
-abbrev pub IsFaultIn : Config → PreambleFault → Type 0
-IsFaultIn config (fault.Config f) = config_fault_of config ≡ Some f
-IsFaultIn config fault.Memory = Unit {0}
+abbrev pub IsConfigFaultIn : Config → PreambleFault → Type 0
+IsConfigFaultIn config (fault.Config f) = config_fault_of config ≡ Some f
+IsConfigFaultIn config fault.Memory = Unit {0}
 
 -- if the configuration has a fault, the text is unchanged
-abbrev pub IsRefused : {Z : Type 0} → Config → (old new : String Z) → PreambleFault → Type 0
-IsRefused {Z} config old new (fault.Config f) = (config_fault_of config ≡ Some f) × (string_bytes new ≡ string_bytes old)
-IsRefused {Z} config old new fault.Memory = Unit {0}
+abbrev pub IsPreambleRefused : {Z : Type 0} → Config → (old new : String Z) → PreambleFault → Type 0
+IsPreambleRefused {Z} config old new (fault.Config f) = (config_fault_of config ≡ Some f) × (string_bytes new ≡ string_bytes old)
+IsPreambleRefused {Z} config old new fault.Memory = Unit {0}

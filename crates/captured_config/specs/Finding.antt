@@ -8,7 +8,7 @@ use Rattle.ospf_types.specs.declared.config.Stub.{Stub}
 use Rattle.ospf_types.specs.declared.lsa.Link.{Link}
 use Rattle.captured_config.specs.declared.fact.OwnLink.{OwnLink}
 use Rattle.captured_config.specs.declared.fact.LinkBack.{LinkBack}
-use Rattle.captured_config.specs.declared.fact.Told.{Told}
+use Rattle.captured_config.specs.declared.fact.LsaFacts.{LsaFacts}
 use Rattle.captured_config.specs.declared.found.Found.{Found}
 use Rattle.captured_config.specs.Facts.{FactLists, Facts}
 use Rattle.captured_config.specs.Interfaces.{is_point_to_point, joins, none_found, with_own}
@@ -45,31 +45,31 @@ interfaces_by f ids = fold (with_interfaces_by f) none_found ids
 
 -- ---- areas
 
-abbrev pub tells_own : (area : ℕ) → Told → Bool
+abbrev pub tells_own : (area : ℕ) → LsaFacts → Bool
 tells_own area t = (t.area == area) && t.is_own
 
-abbrev pub tells_no_externals : (area : ℕ) → Told → Bool
+abbrev pub tells_no_externals : (area : ℕ) → LsaFacts → Bool
 tells_no_externals area t = (t.area == area) && t.lacks_externals
 
-abbrev pub tells_other : (area : ℕ) → Told → Bool
+abbrev pub tells_other : (area : ℕ) → LsaFacts → Bool
 tells_other area t = (t.area == area) && t.has_other_summary
 
-abbrev pub tells_default : (area : ℕ) → Told → Option ℕ
+abbrev pub tells_default : (area : ℕ) → LsaFacts → Option ℕ
 tells_default area t = if t.area == area then t.default else None
 
-abbrev pub is_stub_area_by : (area : ℕ) → List Told → Bool
+abbrev pub is_stub_area_by : (area : ℕ) → List LsaFacts → Bool
 is_stub_area_by area told = not (area == 0) && list_any (tells_no_externals area) told
 
-abbrev pub default_cost_by : (area : ℕ) → List Told → Option ℕ
+abbrev pub default_cost_by : (area : ℕ) → List LsaFacts → Option ℕ
 default_cost_by area told = fold (λ cost t. option_or (tells_default area t) cost) None told
 
-abbrev pub stub_by : (area : ℕ) → List Told → Option Stub
+abbrev pub stub_by : (area : ℕ) → List LsaFacts → Option Stub
 stub_by area told = stub_with (is_stub_area_by area told) (default_cost_by area told) (list_any (tells_other area) told)
 
-abbrev pub is_cost_unknown_by : (area : ℕ) → List Told → Bool
+abbrev pub is_cost_unknown_by : (area : ℕ) → List LsaFacts → Bool
 is_cost_unknown_by area told = is_stub_area_by area told && is_none (default_cost_by area told)
 
-abbrev pub area_by : List Told → (area : ℕ) → AreaConfig
+abbrev pub area_by : List LsaFacts → (area : ℕ) → AreaConfig
 area_by told area = record { id = area; stub = stub_by area told; ranges = [] }
 
 abbrev pub config_by : Facts → (ids : List ℕ) → Config

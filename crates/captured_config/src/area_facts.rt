@@ -7,7 +7,7 @@ ghost use Rattle.captured_config.specs.Finding.{tells_default as tells_default_o
 ghost use Rattle.captured_config.specs.Finding.{tells_no_externals as tells_no_externals_test};
 ghost use Rattle.captured_config.specs.Finding.{tells_other, tells_own};
 
-use crate::fact::Told;
+use crate::fact::LsaFacts;
 use ospf_types::address::BACKBONE;
 use ospf_types::config::Stub;
 
@@ -20,7 +20,7 @@ pub(crate) struct AreaFacts<'a> {
     /// Area ID.
     pub(crate) area: u32,
     /// The facts of the LSAs of all areas.
-    pub(crate) told: &'a [Told],
+    pub(crate) told: &'a [LsaFacts],
 }
 
 impl<'a> AreaFacts<'a> {
@@ -93,7 +93,7 @@ impl<'a> AreaFacts<'a> {
     }
 }
 
-fn default_told(area: u32, told: Told) -> Option<u32>
+fn default_told(area: u32, told: LsaFacts) -> Option<u32>
     ensures { result ≡ tells_default_of area told }
 {
     if told.area != area {

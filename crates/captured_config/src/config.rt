@@ -5,7 +5,7 @@ ghost use Rattle.captured_config.specs.Lsas.{Captured, with_lsa};
 ghost use Rattle.captured_config.specs.Facts.{AreFacts, facts_of};
 ghost use Rattle.captured_config.specs.Finding.{area_by, config_by, interfaces_by};
 ghost use Rattle.captured_config.specs.Configs.{has_wrong_count as has_wrong_count_test};
-ghost use Rattle.captured_config.specs.Faults.{IsFaultIn};
+ghost use Rattle.captured_config.specs.Faults.{IsConfigFaultIn};
 
 use crate::area_facts::AreaFacts;
 use crate::facts::FactLists;
@@ -75,7 +75,7 @@ impl CapturedConfig {
     pub(crate) fn config(&self, alloc: Global, ids: &[u32]) -> Result<Config, PreambleFault>
         ensures config { IfOk result (λ config. config ≡ config_by self.now ids.now) }
         ensures sound { OnOk result (config_fault_of (config_by self.now ids.now) ≡ None) }
-        ensures fault { IfErr result (IsFaultIn (config_by self.now ids.now)) }
+        ensures fault { IfErr result (IsConfigFaultIn (config_by self.now ids.now)) }
     {
         // A capture may name very many areas: their number is checked before any of them.
         if has_wrong_count(ids) {

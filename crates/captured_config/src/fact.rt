@@ -23,7 +23,7 @@ pub(crate) struct LinkBack {
 
 /// The facts that an LSA gives, its links aside.
 #[derive(Clone, Copy)]
-pub(crate) struct Told {
+pub(crate) struct LsaFacts {
     /// Area ID.
     pub(crate) area: u32,
     /// True if it is a router-LSA of the router.

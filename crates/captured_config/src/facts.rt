@@ -4,7 +4,7 @@ ghost use Rattle.std.specs.List.{cons_option};
 ghost use Rattle.captured_config.specs.Facts.{no_facts, with_facts, with_lists};
 ghost use Rattle.captured_config.specs.Lsas.{lsa_in};
 
-use crate::fact::{LinkBack, OwnLink, Told};
+use crate::fact::{LinkBack, LsaFacts, OwnLink};
 use crate::telling::{links_back_of, own_links_of, told_from};
 use lsa_codec::Checked;
 use ospf_types::memory::Memory;
@@ -16,7 +16,7 @@ use std::marker::Model;
 pub(crate) struct FactLists {
     own: Vec<OwnLink>,
     back: Vec<LinkBack>,
-    told: Vec<Told>,
+    told: Vec<LsaFacts>,
 }
 
 /// Contracts see the lists.
@@ -55,7 +55,7 @@ impl FactLists {
     }
 
     /// Returns the other facts of the LSAs, of all areas.
-    pub(crate) fn told(&self) -> &[Told]
+    pub(crate) fn told(&self) -> &[LsaFacts]
         ensures { result.now ≡ self.now.told }
     {
         self.told.as_slice()
@@ -82,7 +82,7 @@ impl FactLists {
         &mut self,
         mut own: Vec<OwnLink>,
         mut back: Vec<LinkBack>,
-        told: Option<Told>,
+        told: Option<LsaFacts>,
     ) -> Result<(), Memory>
         ensures ok { OnOk result (self.new ≡ with_lists self.old own.items back.items told) }
         ensures err { OnErr result (self.new ≡ self.old) }
@@ -96,7 +96,7 @@ impl FactLists {
     }
 }
 
-fn put_told(told: Option<Told>, all: &mut Vec<Told>) -> Result<(), Memory>
+fn put_told(told: Option<LsaFacts>, all: &mut Vec<LsaFacts>) -> Result<(), Memory>
     ensures ok { OnOk result (all.new.items ≡ all.old.items ++ cons_option told []) }
     ensures err { OnErr result (all.new.items ≡ all.old.items) }
 {

@@ -7,7 +7,7 @@ ghost use Rattle.captured_config.specs.Configs.{config_of};
 ghost use Rattle.captured_config.specs.Facts.{AreFacts};
 ghost use Rattle.captured_config.specs.Finding.{config_by};
 ghost use Rattle.captured_config.specs.Lsas.{Captured};
-ghost use Rattle.captured_config.specs.Faults.{IsRefused};
+ghost use Rattle.captured_config.specs.Faults.{IsPreambleRefused};
 ghost use Rattle.captured_config.specs.Fronts.{HasText, captured_recording, interface_event};
 ghost use Rattle.captured_config.specs.Fronts.{interface_forms, recording_by, recording_with};
 
@@ -41,7 +41,7 @@ impl CapturedConfig {
         ensures recording { (c : Captured) → AreFacts c self.now → OnOk result
             (HasText (captured_recording c areas.now)) }
         ensures fault { (c : Captured) → AreFacts c self.now → IfErr result
-            (IsRefused (config_of c areas.now) text.old text.new) }
+            (IsPreambleRefused (config_of c areas.now) text.old text.new) }
     {
         let ids = areas.ascending(alloc)?;
         self.put_front_of(alloc, &ids, text)
@@ -58,7 +58,7 @@ impl CapturedConfig {
         ensures forms { OnOk result (All IsForm (forms_of (recording_by self.now ids.now))) }
         ensures sound { OnOk result (config_fault_of (config_by self.now ids.now) ≡ None) }
         ensures fault { IfErr result
-            (IsRefused (config_by self.now ids.now) text.old text.new) }
+            (IsPreambleRefused (config_by self.now ids.now) text.old text.new) }
     {
         let config = self.config(alloc, ids)?;
         let found = self.interfaces(alloc, ids)?;

@@ -15,7 +15,7 @@ ghost use Rattle.captured_config.specs.StubAreas.{default_route as default_route
 ghost use Rattle.captured_config.specs.StubAreas.{other_network as other_network_of};
 ghost use Rattle.captured_config.specs.StubAreas.{reachable as reachable_of};
 
-use crate::fact::{LinkBack, OwnLink, Told};
+use crate::fact::{LinkBack, LsaFacts, OwnLink};
 use crate::links::is_point_to_point;
 use lsa_codec::Checked;
 use ospf_types::lsa::{LS_INFINITY, Link, ROUTER_LSA, SUMMARY_LSA};
@@ -95,7 +95,7 @@ fn put_if_back(
 }
 
 /// Returns the facts that the LSA gives, its links aside, or `None` if it gives none.
-pub(crate) fn told_from(router: u32, area: u32, lsa: &Checked) -> Option<Told>
+pub(crate) fn told_from(router: u32, area: u32, lsa: &Checked) -> Option<LsaFacts>
     ensures { result ≡ told_from_lsa router (lsa_in area lsa.now) }
 {
     let told = told_of(router, area, lsa);
@@ -105,16 +105,16 @@ pub(crate) fn told_from(router: u32, area: u32, lsa: &Checked) -> Option<Told>
     Some(told)
 }
 
-fn tells(told: &Told) -> bool
+fn tells(told: &LsaFacts) -> bool
     ensures { result ≡ tells_anything told.now }
 {
     told.is_own || told.lacks_externals || told.default.is_some() || told.has_other_summary
 }
 
-fn told_of(router: u32, area: u32, lsa: &Checked) -> Told
+fn told_of(router: u32, area: u32, lsa: &Checked) -> LsaFacts
     ensures { result ≡ told_of_lsa router (lsa_in area lsa.now) }
 {
-    Told {
+    LsaFacts {
         area,
         is_own: is_own_router_lsa(router, lsa),
         lacks_externals: lacks_externals(lsa),

@@ -7,7 +7,7 @@ use Rattle.packets.specs.Reading.{IsDatagram}
 use Rattle.packets.specs.Kept.{Kept}
 use Rattle.captured_lsas.specs.declared.heard.Heard.{Heard}
 use Rattle.captured_lsas.specs.declared.heard.Heard.TheVariants.{Other, Fault, Part, Whole}
-use Rattle.captured_lsas.specs.Hearing.{CarriesOspf, Carried, CarriesNone, IsGiven, IsHeard}
+use Rattle.captured_lsas.specs.Hearing.{CarriesOspf, Carried, CarriesNone, IsPayloadGiven, IsHeard}
 
 nothing : (found : Option (Bor (List ℕ))) (bytes : List ℕ) → found ≡ None → option_map {T = Bor (List ℕ)} {U = List ℕ} (λ r. r.now) found ≡ Some bytes → ⊥
 nothing None bytes none some = cc
@@ -34,7 +34,7 @@ carried link frame found bytes P finds is holds = record {
 
 brings : (link : ℕ) (frame : List ℕ) (old new : List Kept) (found : Option (Bor (List ℕ))) (bytes : Bor (List ℕ)) (d : Datagram) (heard : Heard)
     → Finds found (CarriesOspf link frame) → found ≡ Some bytes → fault_of bytes.now ≡ None → IsDatagram bytes.now d
-    → IsGiven d old new heard → IsHeard link frame old new heard
+    → IsPayloadGiven d old new heard → IsHeard link frame old new heard
 brings link frame old new found bytes d Other finds is sound read given = absurd given
 brings link frame old new found bytes d (Fault fault) finds is sound read given = absurd given
 brings link frame old new found bytes d Part finds is sound read given =
@@ -44,6 +44,6 @@ brings link frame old new found bytes d (Whole sender payload) finds is sound re
 
 pub heard_of : {E : Type 0} (link : ℕ) (frame : List ℕ) (old new : List Kept) (found : Option (Bor (List ℕ))) (bytes : Bor (List ℕ)) (d : Datagram) (result : Result Heard E)
     → Finds found (CarriesOspf link frame) → found ≡ Some bytes → (fault_of bytes.now ≡ None) × IsDatagram bytes.now d
-    → IfOk result (IsGiven d old new) → IfOk result (IsHeard link frame old new)
+    → IfOk result (IsPayloadGiven d old new) → IfOk result (IsHeard link frame old new)
 heard_of link frame old new found bytes d (Ok heard) finds is read given = brings link frame old new found bytes d heard finds is read.0 read.1 given
 heard_of link frame old new found bytes d (Err e) finds is read given = tt

@@ -10,7 +10,7 @@ use Rattle.ospf_types.specs.declared.lsa.Newer.{Newer}
 use Rattle.ospf_types.specs.declared.lsa.Newer.TheVariants.{First, Second, Same}
 use Rattle.captured_lsas.specs.declared.name.LsaName.{LsaName}
 use Rattle.captured_lsas.specs.Newest.{Instance, Newest, same_name, is_first, is_max_age, begins_anew, is_installed, is_discarded, newest_after, newest_of, is_old, with_instance, IsDiscarded, IsDiscardedBy}
-use Rattle.captured_lsas.specs.Progress.{Progress}
+use Rattle.captured_lsas.specs.Progress.{CaptureProgress}
 use Rattle.captured_lsas.specs.Recording.{is_repeated, IsRepeated}
 use Rattle.captured_lsas.proofs.Names.{both, names_same, name_itself}
 
@@ -79,12 +79,12 @@ old_is : (h : Header) (o : Option Header) → IsDiscardedBy h o → is_discarded
 old_is h None d = absurd d
 old_is h (Some last) d = rw (discarded_is h last d) refl
 
-pub repeated : (p : Progress) (x : Instance) → is_repeated p x ≡ true → IsRepeated p x
+pub repeated : (p : CaptureProgress) (x : Instance) → is_repeated p x ≡ true → IsRepeated p x
 repeated p x is =
     let parts = both (not p.options.keeps_all) (is_old x p.newest) is in
     record { leaves_out = off p.options.keeps_all parts.0; old = old x.header (newest_of x.name p.newest) parts.1 }
 
-pub not_repeated : (p : Progress) (x : Instance) → is_repeated p x ≡ false → IsRepeated p x → ⊥
+pub not_repeated : (p : CaptureProgress) (x : Instance) → is_repeated p x ≡ false → IsRepeated p x → ⊥
 not_repeated p x is r =
     let so : is_repeated p x ≡ true = rw r.leaves_out (old_is x.header (newest_of x.name p.newest) r.old) in
     untrue (is_repeated p x) so is

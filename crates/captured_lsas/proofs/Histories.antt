@@ -11,15 +11,15 @@ use Rattle.lsa_codec.specs.Faults.{fault_of}
 use Rattle.lsa_codec.specs.declared.fault.WireFault.{WireFault}
 use Rattle.packets.specs.declared.fault.PacketFault.{PacketFault}
 use Rattle.packets.specs.Packets.{packet_fault_of, area_field}
-use Rattle.packets.specs.Updates.{Piece}
+use Rattle.packets.specs.Updates.{UpdatePiece}
 use Rattle.captured_lsas.specs.declared.options.Options.{Options}
 use Rattle.captured_lsas.specs.Newest.{Instance, Newest, same_name, is_installed, newest_after, newest_from, newest_of, with_instance}
-use Rattle.captured_lsas.specs.Progress.{Progress, start}
+use Rattle.captured_lsas.specs.Progress.{CaptureProgress, start}
 use Rattle.captured_lsas.specs.Seconds.{with_time}
 use Rattle.captured_lsas.specs.Recording.{has_lsa, instance_in, with_noted, with_strange, with_read_lsa}
 use Rattle.captured_lsas.specs.Updates.{with_piece, with_pieces}
 use Rattle.captured_lsas.specs.Packets.{pieces_of_packet, with_read_packet, unless_faulty, with_packet}
-use Rattle.captured_lsas.specs.History.{Captured, after_all, lsa_of_piece, lsas_of_pieces, lsas_of_payload, lsas_of, headers_of, IsNewestOf, IsNewest, HasHistory}
+use Rattle.captured_lsas.specs.History.{CapturedPayload, after_all, lsa_of_piece, lsas_of_pieces, lsas_of_payload, lsas_of, headers_of, IsNewestOf, IsNewest, HasHistory}
 use Rattle.captured_lsas.proofs.Discarding.{newest_put}
 use Rattle.captured_lsas.proofs.Timing.{timed}
 
@@ -87,16 +87,16 @@ begun_is (x ∷ xs) = (λ b. (x, first_element x xs), λ c. refl)
 -- ---- of packets
 
 -- from one progress to a later one, these LSAs were taken
-record Adds (p q : Progress) (lsas : List Instance) : Type 0 where
+record Adds (p q : CaptureProgress) (lsas : List Instance) : Type 0 where
   pub options_stay : q.options ≡ p.options
   pub areas_stay : q.areas ≡ p.areas
   pub newest : p.options.keeps_all ≡ false → q.newest ≡ all_noted p.newest lsas
   pub begun : q.has_begun ≡ begun_by p.has_begun lsas
 
-adds_none : (p : Progress) → Adds p p []
+adds_none : (p : CaptureProgress) → Adds p p []
 adds_none p = record { options_stay = refl; areas_stay = refl; newest = λ keep. refl; begun = refl }
 
-adds_then : (p q r : Progress) (xs ys : List Instance) → Adds p q xs → Adds q r ys → Adds p r (xs ++ ys)
+adds_then : (p q r : CaptureProgress) (xs ys : List Instance) → Adds p q xs → Adds q r ys → Adds p r (xs ++ ys)
 adds_then p q r xs ys a b = record {
   options_stay = b.options_stay ∙ a.options_stay;
   areas_stay = b.areas_stay ∙ a.areas_stay;
@@ -105,7 +105,7 @@ adds_then p q r xs ys a b = record {
   begun = b.begun ∙ ap (λ (was : Bool). begun_by was ys) a.begun ∙ begun_then p.has_begun xs ys;
 }
 
-lsa_by : (p : Progress) (area : ℕ) (bytes : List ℕ) (has : Bool)
+lsa_by : (p : CaptureProgress) (area : ℕ) (bytes : List ℕ) (has : Bool)
     → Adds p (cond has (with_noted p (instance_in area bytes)) (with_strange p area)) (cond has (instance_in area bytes ∷ []) [])
 lsa_by p area bytes true = record {
   options_stay = refl;
@@ -115,15 +115,15 @@ lsa_by p area bytes true = record {
 }
 lsa_by p area bytes false = record { options_stay = refl; areas_stay = refl; newest = λ keep. refl; begun = refl }
 
-bytes_by : (p : Progress) (area : ℕ) (bytes : List ℕ) (o : Option WireFault) → Adds p (cond (is_none o) (with_read_lsa p area bytes) p) (cond (is_none o) (cond (has_lsa p.areas area bytes) (instance_in area bytes ∷ []) []) [])
+bytes_by : (p : CaptureProgress) (area : ℕ) (bytes : List ℕ) (o : Option WireFault) → Adds p (cond (is_none o) (with_read_lsa p area bytes) p) (cond (is_none o) (cond (has_lsa p.areas area bytes) (instance_in area bytes ∷ []) []) [])
 bytes_by p area bytes None = lsa_by p area bytes (has_lsa p.areas area bytes)
 bytes_by p area bytes (Some fault) = adds_none p
 
-piece_adds : (p : Progress) (area : ℕ) (piece : Piece) → Adds p (with_piece p area piece) (lsa_of_piece p.areas area piece)
+piece_adds : (p : CaptureProgress) (area : ℕ) (piece : UpdatePiece) → Adds p (with_piece p area piece) (lsa_of_piece p.areas area piece)
 piece_adds p area (Ok bytes) = bytes_by p area bytes (fault_of bytes)
 piece_adds p area (Err fault) = adds_none p
 
-pieces_add : (p : Progress) (area : ℕ) (pieces : List Piece) → Adds p (with_pieces p area pieces) (lsas_of_pieces p.areas area pieces)
+pieces_add : (p : CaptureProgress) (area : ℕ) (pieces : List UpdatePiece) → Adds p (with_pieces p area pieces) (lsas_of_pieces p.areas area pieces)
 unfolding with_pieces
 pieces_add p area [] = adds_none p
 pieces_add p area (x ∷ xs) =
@@ -132,14 +132,14 @@ pieces_add p area (x ∷ xs) =
     adds_then p q (with_pieces q area xs) (lsa_of_piece p.areas area x) (lsas_of_pieces p.areas area xs) first
     (subst (λ (areas : Option (List ℕ)). Adds q (with_pieces q area xs) (lsas_of_pieces areas area xs)) first.areas_stay (pieces_add q area xs))
 
-packet_by : (p : Progress) (time : Option ℕ) (payload : List ℕ) (o : Option PacketFault)
+packet_by : (p : CaptureProgress) (time : Option ℕ) (payload : List ℕ) (o : Option PacketFault)
     → Adds p (unless_faulty o p (with_read_packet p time payload)) (cond (is_none o) (lsas_of_pieces p.areas (area_field payload) (pieces_of_packet payload)) [])
 packet_by p time payload None =
     let a = pieces_add (with_time p time) (area_field payload) (pieces_of_packet payload) in
     record { options_stay = a.options_stay; areas_stay = a.areas_stay; newest = a.newest; begun = a.begun }
 packet_by p time payload (Some fault) = adds_none p
 
-all_add : (p : Progress) (packets : List Captured) → Adds p (after_all p packets) (lsas_of p.areas packets)
+all_add : (p : CaptureProgress) (packets : List CapturedPayload) → Adds p (after_all p packets) (lsas_of p.areas packets)
 unfolding after_all
 all_add p [] = adds_none p
 all_add p (x ∷ xs) =

@@ -8,7 +8,7 @@ use Rattle.packets.specs.Layout.{fault_of}
 use Rattle.packets.specs.Reading.{IsDatagram}
 use Rattle.packets.specs.Kept.{Kept, key_of}
 use Rattle.packets.specs.Parts.{part_of}
-use Rattle.packets.specs.Taking.{IsTaken, kept_with, payload_with}
+use Rattle.packets.specs.Taking.{IsFragmentTaken, kept_with, payload_with}
 use Rattle.captured_lsas.specs.declared.heard.Heard.{Heard}
 use Rattle.captured_lsas.specs.declared.heard.Heard.TheVariants.{Other, Fault, Part, Whole}
 use Rattle.captured_lsas.specs.Payloads.{bytes_of}
@@ -42,13 +42,13 @@ kept_after d kept = if is_whole d then kept else kept_with d kept
 
 -- for a fragment: the payload is whole exactly if all fragments so far make it whole
 abbrev pub IsMade : Datagram → (old new : List Kept) → Option (List ℕ) → Type 0
-IsMade d old new payload = is_whole d ≡ false → IsTaken (key_of d) (part_of d) old new payload
+IsMade d old new payload = is_whole d ≡ false → IsFragmentTaken (key_of d) (part_of d) old new payload
 
-abbrev pub IsGiven : Datagram → (old new : List Kept) → Heard → Type 0
-IsGiven d old new Other = ⊥
-IsGiven d old new (Fault fault) = ⊥
-IsGiven d old new Part = (payload_after d old ≡ None) × (new ≡ kept_after d old) × IsMade d old new None
-IsGiven d old new (Whole sender payload) = (payload_after d old ≡ Some (bytes_of payload)) × (sender ≡ d.source) × (new ≡ kept_after d old) × IsMade d old new (Some (bytes_of payload))
+abbrev pub IsPayloadGiven : Datagram → (old new : List Kept) → Heard → Type 0
+IsPayloadGiven d old new Other = ⊥
+IsPayloadGiven d old new (Fault fault) = ⊥
+IsPayloadGiven d old new Part = (payload_after d old ≡ None) × (new ≡ kept_after d old) × IsMade d old new None
+IsPayloadGiven d old new (Whole sender payload) = (payload_after d old ≡ Some (bytes_of payload)) × (sender ≡ d.source) × (new ≡ kept_after d old) × IsMade d old new (Some (bytes_of payload))
 
 -- ---- what a captured packet brings
 
@@ -63,10 +63,10 @@ pub record Brings (old new : List Kept) (heard : Heard) (bytes : List ℕ) : Typ
   pub datagram : Datagram
   pub read : IsDatagram bytes datagram
   pub without_fault : fault_of bytes ≡ None
-  pub given : IsGiven datagram old new heard
+  pub given : IsPayloadGiven datagram old new heard
 
 -- the bytes are no datagram
-pub record IsFaulty (old new : List Kept) (fault : DatagramFault) (bytes : List ℕ) : Type 0 where
+pub record IsDatagramFaulty (old new : List Kept) (fault : DatagramFault) (bytes : List ℕ) : Type 0 where
   pub first : fault_of bytes ≡ Some fault
   pub unchanged : new ≡ old
 
@@ -77,6 +77,6 @@ pub record CarriesNone (link : ℕ) (frame : List ℕ) (old new : List Kept) : T
 
 abbrev pub IsHeard : ℕ → List ℕ → (old new : List Kept) → Heard → Type 0
 IsHeard link frame old new Other = CarriesNone link frame old new
-IsHeard link frame old new (Fault fault) = Carried link frame (IsFaulty old new fault)
+IsHeard link frame old new (Fault fault) = Carried link frame (IsDatagramFaulty old new fault)
 IsHeard link frame old new Part = Carried link frame (Brings old new Part)
 IsHeard link frame old new (Whole sender payload) = Carried link frame (Brings old new (Whole sender payload))

@@ -12,8 +12,8 @@ use Rattle.captured_lsas.specs.declared.name.LsaName.{LsaName}
 use Rattle.captured_lsas.specs.declared.recorded.Recorded.{Recorded}
 use Rattle.captured_lsas.specs.declared.recorded.Recorded.TheVariants.{Install, Repeated, OtherArea, Fault, Cut}
 use Rattle.captured_lsas.specs.Newest.{Instance, Newest, is_max_age, is_old, with_instance, IsOld}
-use Rattle.captured_lsas.specs.Progress.{Progress}
-use Rattle.captured_lsas.specs.Reading.{IsRead}
+use Rattle.captured_lsas.specs.Progress.{CaptureProgress}
+use Rattle.captured_lsas.specs.Reading.{IsLsaInBytes}
 
 -- the AS for LS type 5, or else the area of the packet (RFC 2328, 13)
 abbrev pub scope_of : ℕ → List ℕ → Scope
@@ -39,18 +39,18 @@ abbrev pub has_lsa : (areas : Option (List ℕ)) → (area : ℕ) → List ℕ �
 has_lsa areas area lsa = has_scope areas (scope_of area lsa)
 
 -- a router that has what was given would discard it, and it is left out
-abbrev pub is_repeated : Progress → Instance → Bool
+abbrev pub is_repeated : CaptureProgress → Instance → Bool
 is_repeated p one = not p.options.keeps_all && is_old one p.newest
 
-pub record IsRepeated (p : Progress) (one : Instance) : Type 0 where
+pub record IsRepeated (p : CaptureProgress) (one : Instance) : Type 0 where
   pub leaves_out : p.options.keeps_all ≡ false
   pub old : IsOld p.newest one
 
 -- if all are kept, none have to be noted
-abbrev pub noted : Progress → Instance → Newest
+abbrev pub noted : CaptureProgress → Instance → Newest
 noted p one = if p.options.keeps_all then p.newest else with_instance one p.newest
 
-abbrev pub with_noted : Progress → Instance → Progress
+abbrev pub with_noted : CaptureProgress → Instance → CaptureProgress
 with_noted p one = record p { has_begun = true; newest = noted p one }
 
 -- the same area
@@ -58,30 +58,30 @@ abbrev pub same_area : ℕ → ℕ → Bool
 same_area a b = a == b
 
 -- an LSA of an area that the recording does not have
-abbrev pub with_strange : Progress → ℕ → Progress
+abbrev pub with_strange : CaptureProgress → ℕ → CaptureProgress
 with_strange p area = record p { strange = insert_key same_area p.strange area }
 
-abbrev pub with_read_lsa : Progress → ℕ → List ℕ → Progress
+abbrev pub with_read_lsa : CaptureProgress → ℕ → List ℕ → CaptureProgress
 with_read_lsa p area lsa = if has_lsa p.areas area lsa then with_noted p (instance_in area lsa) else with_strange p area
 
 -- bytes with a fault change nothing
-abbrev pub with_lsa : Progress → ℕ → List ℕ → Progress
+abbrev pub with_lsa : CaptureProgress → ℕ → List ℕ → CaptureProgress
 with_lsa p area lsa = if is_none (fault_of lsa) then with_read_lsa p area lsa else p
 
 -- ---- what is recorded of an LSA
 
 -- the result for an LSA that was read, and whose database the recording has
-abbrev pub IsGiven : Progress → ℕ → List ℕ → Lsa → Recorded → Type 0
-IsGiven p area bytes read (Install scope lsa purges) =
+abbrev pub IsLsaGiven : CaptureProgress → ℕ → List ℕ → Lsa → Recorded → Type 0
+IsLsaGiven p area bytes read (Install scope lsa purges) =
     (IsRepeated p (instance_in area bytes) → ⊥) × (scope ≡ scope_of area bytes) × (lsa ≡ read) × (purges ≡ is_max_age (header_of bytes))
-IsGiven p area bytes read Repeated = IsRepeated p (instance_in area bytes)
-IsGiven p area bytes read (OtherArea of is_first) = ⊥
-IsGiven p area bytes read (Fault fault) = ⊥
-IsGiven p area bytes read (Cut fault) = ⊥
+IsLsaGiven p area bytes read Repeated = IsRepeated p (instance_in area bytes)
+IsLsaGiven p area bytes read (OtherArea of is_first) = ⊥
+IsLsaGiven p area bytes read (Fault fault) = ⊥
+IsLsaGiven p area bytes read (Cut fault) = ⊥
 
 -- the result for an LSA whose database it does not have: the area, and if it is the first one of
 -- the area
-abbrev pub IsStrange : Progress → ℕ → Recorded → Type 0
+abbrev pub IsStrange : CaptureProgress → ℕ → Recorded → Type 0
 IsStrange p area (Install scope lsa purges) = ⊥
 IsStrange p area Repeated = ⊥
 IsStrange p area (OtherArea of is_first) = (of ≡ area) × (is_first ≡ not (list_any (same_area area) p.strange))
@@ -93,17 +93,17 @@ ByScope true given strange = given
 ByScope false given strange = strange
 
 -- the result for an LSA that was read
-abbrev pub IsInstalled : Progress → ℕ → List ℕ → Lsa → Recorded → Type 0
-IsInstalled p area bytes read recorded = ByScope (has_lsa p.areas area bytes) (IsGiven p area bytes read recorded) (IsStrange p area recorded)
+abbrev pub IsInstalled : CaptureProgress → ℕ → List ℕ → Lsa → Recorded → Type 0
+IsInstalled p area bytes read recorded = ByScope (has_lsa p.areas area bytes) (IsLsaGiven p area bytes read recorded) (IsStrange p area recorded)
 
 -- bytes that spell an LSA, of which this is recorded
-pub record IsSpelled (p : Progress) (area : ℕ) (bytes : List ℕ) (recorded : Recorded) : Type 0 where
+pub record IsSpelled (p : CaptureProgress) (area : ℕ) (bytes : List ℕ) (recorded : Recorded) : Type 0 where
   pub lsa : Lsa
-  pub read : IsRead bytes lsa
+  pub read : IsLsaInBytes bytes lsa
   pub installed : IsInstalled p area bytes lsa recorded
 
 -- bytes are recorded so
-abbrev pub IsRecorded : Progress → ℕ → List ℕ → Recorded → Type 0
+abbrev pub IsRecorded : CaptureProgress → ℕ → List ℕ → Recorded → Type 0
 IsRecorded p area bytes (Install scope lsa purges) = IsSpelled p area bytes (Install scope lsa purges)
 IsRecorded p area bytes Repeated = IsSpelled p area bytes Repeated
 IsRecorded p area bytes (OtherArea of is_first) = IsSpelled p area bytes (OtherArea of is_first)

@@ -3,10 +3,10 @@
 ghost use Rattle.std.specs.Prelude.{◌≡◌, [], IfOk, OnErr};
 ghost use Rattle.packets.specs.Frames.{Finds};
 ghost use Rattle.captured_lsas.specs.Hearing.{is_of_other_protocol as is_of_other_protocol_test};
-ghost use Rattle.captured_lsas.specs.Hearing.{CarriesOspf, IsHeard, IsGiven};
+ghost use Rattle.captured_lsas.specs.Hearing.{CarriesOspf, IsHeard, IsPayloadGiven};
 
 use crate::heard::{Heard, Payload};
-use captures::Packet;
+use captures::CapturedPacket;
 use ospf_types::memory::Memory;
 use packets::{Datagram, Fragments, LinkType, read_datagram};
 use std::alloc::Global;
@@ -47,7 +47,11 @@ impl Listener {
     /// # Errors
     ///
     /// Returns `Memory` if memory runs out. The listener is then unchanged.
-    pub fn hear<'a>(&mut self, alloc: Global, packet: &Packet<'a>) -> Result<Heard<'a>, Memory>
+    pub fn hear<'a>(
+        &mut self,
+        alloc: Global,
+        packet: &CapturedPacket<'a>,
+    ) -> Result<Heard<'a>, Memory>
         ensures heard { IfOk result (IsHeard packet.now.link packet.now.bytes.now self.old self.new) }
         // If memory runs out, nothing changes.
         ensures unchanged { OnErr result (self.new ≡ self.old) }
@@ -63,7 +67,7 @@ impl Listener {
 
     // Takes a datagram of OSPF.
     fn take<'a>(&mut self, alloc: Global, datagram: &Datagram<'a>) -> Result<Heard<'a>, Memory>
-        ensures given { IfOk result (IsGiven datagram.now self.old self.new) }
+        ensures given { IfOk result (IsPayloadGiven datagram.now self.old self.new) }
         ensures unchanged { OnErr result (self.new ≡ self.old) }
     {
         let sender = datagram.source;
@@ -82,7 +86,7 @@ impl Listener {
 }
 
 // Returns the IPv4 packet of OSPF that a captured packet carries.
-fn ospf_in<'a>(packet: &Packet<'a>) -> Option<&'a [u8]>
+fn ospf_in<'a>(packet: &CapturedPacket<'a>) -> Option<&'a [u8]>
     ensures { Finds result (CarriesOspf packet.now.link packet.now.bytes.now) }
 {
     let bytes = LinkType::of_number(packet.link)?.ipv4_of(packet.bytes)?;

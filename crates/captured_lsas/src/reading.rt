@@ -8,10 +8,10 @@ use ospf_types::memory::Memory;
 use std::alloc::Global;
 
 /// The LSA in some bytes, or the reason why they are not a valid LSA.
-pub(crate) type Reading = Result<Checked, WireFault>;
+pub(crate) type LsaReading = Result<Checked, WireFault>;
 
 /// Reads an LSA.
-pub(crate) fn read_lsa(alloc: Global, bytes: &[u8]) -> Result<Reading, Memory>
+pub(crate) fn read_lsa(alloc: Global, bytes: &[u8]) -> Result<LsaReading, Memory>
     ensures { IfOk result (IsReading bytes.now) }
 {
     match read(alloc, bytes) {

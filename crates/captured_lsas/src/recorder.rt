@@ -5,16 +5,16 @@ ghost use Rattle.captured_lsas.specs.Seconds.{passed as passed_test};
 ghost use Rattle.captured_lsas.specs.Seconds.{is_without_seconds as is_without_seconds_test};
 ghost use Rattle.captured_lsas.specs.Seconds.{seconds_back, seconds_due, waiting_at, with_time};
 ghost use Rattle.captured_lsas.specs.Progress.{start};
-ghost use Rattle.captured_lsas.specs.Reading.{IsRead};
+ghost use Rattle.captured_lsas.specs.Reading.{IsLsaInBytes};
 ghost use Rattle.captured_lsas.specs.Recording.{has_scope as has_scope_test, is_repeated};
-ghost use Rattle.captured_lsas.specs.Recording.{instance_in, scope_of as scope_of_test, IsGiven};
+ghost use Rattle.captured_lsas.specs.Recording.{instance_in, scope_of as scope_of_test, IsLsaGiven};
 ghost use Rattle.captured_lsas.specs.Recording.{IsInstalled, IsRecorded, IsStrange, with_lsa};
 ghost use Rattle.captured_lsas.specs.Recording.{with_noted, with_read_lsa, with_strange};
 ghost use Rattle.packets.specs.Updates.{lent};
 ghost use Rattle.captured_lsas.specs.Updates.{pieces_in, pieces_for, with_piece, with_pieces};
-ghost use Rattle.captured_lsas.specs.Updates.{StopsIn, IsPieceRecorded, AreRecorded};
+ghost use Rattle.captured_lsas.specs.Updates.{StopsInUpdate, IsPieceRecorded, AreRecorded};
 ghost use Rattle.captured_lsas.specs.History.{HasHistory};
-ghost use Rattle.captured_lsas.specs.Packets.{IsTaken, IsOfPacket, with_packet, StopsWithin};
+ghost use Rattle.captured_lsas.specs.Packets.{IsPacketTaken, IsOfPacket, with_packet, StopsWithin};
 
 use crate::name::LsaName;
 use crate::newest::{NewestLsas, is_max_age};
@@ -69,9 +69,9 @@ impl Drop for Recorder {
 /// Contracts see these fields.
 impl Model for Recorder {
     ghost use Rattle.std.specs.Prelude.{option_map};
-    ghost use Rattle.captured_lsas.specs.Progress.{Progress};
+    ghost use Rattle.captured_lsas.specs.Progress.{CaptureProgress};
 
-    ghost Value = { Progress };
+    ghost Value = { CaptureProgress };
 
     ghost view = { λ r. record { options = r.options; areas = option_map (λ v. v.items) r.areas; last_time = r.last_time; waiting = r.waiting; has_begun = r.has_begun; newest = r.newest; strange = r.strange.keys } };
 }
@@ -126,7 +126,7 @@ impl Recorder {
         time: Option<u64>,
         payload: &[u8],
     ) -> Result<Taken, Memory>
-        ensures taken { IfOk result (IsTaken self.old time payload.now) }
+        ensures taken { IfOk result (IsPacketTaken self.old time payload.now) }
         ensures noted { OnOk result (self.new ≡ with_packet self.old time payload.now) }
         // If memory runs out, the time and some of the LSAs were taken.
         ensures stopped { OnErr result (StopsWithin self.old self.new time payload.now) }
@@ -146,7 +146,7 @@ impl Recorder {
     ) -> Result<Taken, Memory>
         ensures taken { IfOk result (IsOfPacket self.old time packet.now) }
         ensures noted { OnOk result (self.new ≡ with_pieces (with_time self.old time) packet.now.area (pieces_for packet.now.kind packet.now.body.now)) }
-        ensures stopped { OnErr result (StopsIn (with_time self.old time) self.new packet.now.area (pieces_for packet.now.kind packet.now.body.now)) }
+        ensures stopped { OnErr result (StopsInUpdate (with_time self.old time) self.new packet.now.area (pieces_for packet.now.kind packet.now.body.now)) }
     {
         let back = self.seconds_back(time);
         let seconds = self.take_time(time);
@@ -165,7 +165,7 @@ impl Recorder {
     fn take_body(&mut self, alloc: Global, packet: &Packet<'_>) -> Result<Vec<Recorded>, Memory>
         ensures recorded { IfOk result (λ all. AreRecorded self.old packet.now.area (pieces_for packet.now.kind packet.now.body.now) all.items) }
         ensures noted { OnOk result (self.new ≡ with_pieces self.old packet.now.area (pieces_for packet.now.kind packet.now.body.now)) }
-        ensures stopped { OnErr result (StopsIn self.old self.new packet.now.area (pieces_for packet.now.kind packet.now.body.now)) }
+        ensures stopped { OnErr result (StopsInUpdate self.old self.new packet.now.area (pieces_for packet.now.kind packet.now.body.now)) }
     {
         match packet.kind {
             PacketKind::LinkStateUpdate => self.take_update(alloc, packet.area, packet.body),
@@ -182,7 +182,7 @@ impl Recorder {
     ) -> Result<Vec<Recorded>, Memory>
         ensures recorded { IfOk result (λ all. AreRecorded self.old area (pieces_in body.now) all.items) }
         ensures noted { OnOk result (self.new ≡ with_pieces self.old area (pieces_in body.now)) }
-        ensures stopped { OnErr result (StopsIn self.old self.new area (pieces_in body.now)) }
+        ensures stopped { OnErr result (StopsInUpdate self.old self.new area (pieces_in body.now)) }
     {
         match update_lsas(body) {
             Ok(lsas) => self.take_pieces(alloc, area, lsas),
@@ -199,7 +199,7 @@ impl Recorder {
     ) -> Result<Vec<Recorded>, Memory>
         ensures recorded { IfOk result (λ all. AreRecorded self.old area lsas.entry all.items) }
         ensures noted { OnOk result (self.new ≡ with_pieces self.old area lsas.entry) }
-        ensures stopped { OnErr result (StopsIn self.old self.new area lsas.entry) }
+        ensures stopped { OnErr result (StopsInUpdate self.old self.new area lsas.entry) }
     {
         let mut all = Vec::new(alloc);
         for piece in lsas {
@@ -280,7 +280,7 @@ impl Recorder {
 
     // Takes an LSA that was read from the bytes.
     fn take_read(&mut self, area: u32, bytes: &[u8], lsa: Checked) -> Result<Recorded, Memory>
-        requires { IsRead bytes.now lsa }
+        requires { IsLsaInBytes bytes.now lsa }
         ensures recorded { IfOk result (IsInstalled self.old area bytes.now lsa) }
         ensures noted { OnOk result (self.new ≡ with_read_lsa self.old area bytes.now) }
         ensures unchanged { OnErr result (self.new ≡ self.old) }
@@ -294,8 +294,8 @@ impl Recorder {
 
     // Takes an LSA whose database the recording has.
     fn take_known(&mut self, area: u32, bytes: &[u8], lsa: Checked) -> Result<Recorded, Memory>
-        requires { IsRead bytes.now lsa }
-        ensures recorded { IfOk result (IsGiven self.old area bytes.now lsa) }
+        requires { IsLsaInBytes bytes.now lsa }
+        ensures recorded { IfOk result (IsLsaGiven self.old area bytes.now lsa) }
         ensures noted { OnOk result (self.new ≡ with_noted self.old (instance_in area bytes.now)) }
         ensures unchanged { OnErr result (self.new ≡ self.old) }
     {

@@ -11,17 +11,17 @@ use Rattle.captures.specs.Interfaces.{interface_front}
 use Rattle.captures.specs.Opening.{header_front, is_section, opening_front}
 use Rattle.captures.specs.Packets.{is_too_long, timed_at, timed_in, timed_of, simple_in, simple_of, simple_captured, units_in}
 use Rattle.captures.specs.Pcap.{magic_of, packet_front, file_front, captured_field}
-use Rattle.captures.specs.Reading.{State, front_of, front_in}
+use Rattle.captures.specs.Reading.{CaptureState, front_of, front_in}
 use Rattle.captures.specs.Numbers.{number_at}
 use Rattle.captures.specs.Times.{time_of}
-use Rattle.captures.specs.Runs.{Shown, shown_of}
+use Rattle.captures.specs.Runs.{ShownPacket, shown_of}
 use Rattle.captures.specs.Steps.{and_then}
 
 -- the packet of an item does not depend on the bytes that follow
-pub record IsShownBy {F : Type 0} (show : F → List ℕ → List Shown) (bytes : List ℕ) (r : Result F FaultKind) : Type 0 where
+pub record IsShownBy {F : Type 0} (show : F → List ℕ → List ShownPacket) (bytes : List ℕ) (r : Result F FaultKind) : Type 0 where
   pub same : MatchResult r (λ front. (more : List ℕ) → show front (bytes ++ more) ≡ show front bytes) (λ _. Unit {0})
 
-module _ {F : Type 0} (show : F → List ℕ → List Shown) (bytes : List ℕ) where
+module _ {F : Type 0} (show : F → List ℕ → List ShownPacket) (bytes : List ℕ) where
   by_test : (test : Bool) (x y : Result F FaultKind) → IsShownBy show bytes x → (test ≡ false → IsShownBy show bytes y) → IsShownBy show bytes (if test then x else y)
   by_test true x y shown other = shown
   by_test false x y shown other = other refl
@@ -115,7 +115,7 @@ opening_shown bytes =
     by_test shown_of bytes (nat_lt (length bytes) 4) _ _ (record { same = λ more. refl }) (λ _.
     by_test shown_of bytes (is_section bytes) _ _ (search (block_shown)) (λ _. header_shown (magic_of bytes) bytes))
 
-pub front_shown : (s : State) (bytes : List ℕ) → IsShownBy shown_of bytes (front_of s bytes)
+pub front_shown : (s : CaptureState) (bytes : List ℕ) → IsShownBy shown_of bytes (front_of s bytes)
 front_shown s bytes = by_format s.format s.interfaces where
   by_format : (format interfaces : _) → IsShownBy shown_of bytes (front_in format interfaces bytes)
   by_format format interfaces = grind (arith, opening_shown bytes, (λ (file : _). packet_shown file bytes), (λ (order : _). block_shown order interfaces bytes))

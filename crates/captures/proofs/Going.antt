@@ -5,12 +5,12 @@ use Rattle.std.specs.Io.KnownBytes.{Consumes, Keeps}
 use Rattle.std.proofs.KnownBytes.{Consumes-nil, Consumes-trans, Consumes-kept}
 use Rattle.std.proofs.Math.Seq.{drop-append_seam}
 use Rattle.std.proofs.lemmas.Bool.{le-ltb, lt-ltb, ltb-false, ltb-true}
-use Rattle.captures.specs.Reading.{State, front_of, state_behind}
-use Rattle.captures.specs.Runs.{Shown, CutOff, Run, ends_by, with_front, go_on, go_past, run, size_of, shown_of}
-use Rattle.captures.specs.Positions.{Position, IsRun, run_behind, GoesOn, further}
+use Rattle.captures.specs.Reading.{CaptureState, front_of, state_behind}
+use Rattle.captures.specs.Runs.{ShownPacket, CutOff, PacketRun, ends_by, with_front, go_on, go_past, run, size_of, shown_of}
+use Rattle.captures.specs.Positions.{Position, IsPacketRun, run_behind, GoesOn, further}
 
 -- bytes are read of the input
-pub reads_more : (s : State) (ahead : ℕ) (old new : List ℕ) (place : ℕ) (before after : Option (List ℕ)) (read : List ℕ) → Consumes before after read → new ≡ old ++ read → place < 2 ^ 64
+pub reads_more : (s : CaptureState) (ahead : ℕ) (old new : List ℕ) (place : ℕ) (before after : Option (List ℕ)) (read : List ℕ) → Consumes before after read → new ≡ old ++ read → place < 2 ^ 64
     → GoesOn (record { state = s; ahead = ahead; pending = old; place = place }) before (record { state = s; ahead = ahead; pending = new; place = place }) after []
 reads_more s ahead old new place before after read taken grown small = record {
   read = read;
@@ -22,13 +22,13 @@ reads_more s ahead old new place before after read taken grown small = record {
 }
 
 -- none are read
-pub reads_none : (s : State) (ahead : ℕ) (old new : List ℕ) (place : ℕ) (before after : Option (List ℕ)) → Keeps before after → new ≡ old → place < 2 ^ 64
+pub reads_none : (s : CaptureState) (ahead : ℕ) (old new : List ℕ) (place : ℕ) (before after : Option (List ℕ)) → Keeps before after → new ≡ old → place < 2 ^ 64
     → GoesOn (record { state = s; ahead = ahead; pending = old; place = place }) before (record { state = s; ahead = ahead; pending = new; place = place }) after []
 reads_none s ahead old new place before after kept same small =
     reads_more s ahead old new place before after [] (Consumes-kept before before after [] (Consumes-nil before) kept) (same ∙ sym (append-nil old)) small
 
 -- one way after another
-pub both_ways : (p q s : Position) (before between after : Option (List ℕ)) (first second : List Shown) → GoesOn p before q between first → GoesOn q between s after second
+pub both_ways : (p q s : Position) (before between after : Option (List ℕ)) (first second : List ShownPacket) → GoesOn p before q between first → GoesOn q between s after second
     → GoesOn p before s after (first ++ second)
 both_ways p q s before between after first second one two = record {
   read = one.read ++ two.read;
@@ -40,15 +40,15 @@ both_ways p q s before between after first second one two = record {
   run = λ more r next.
       let rest : two.past ++ (s.pending ++ more) ≡ q.pending ++ (two.read ++ more) =
       sym (append_assoc two.past s.pending more) ∙ ap (λ l. l ++ more) two.whole ∙ append_assoc q.pending two.read more in
-      let mid = one.run (two.read ++ more) (with_front second r) (subst (λ l. IsRun q l (with_front second r)) rest (two.run more r next)) in
+      let mid = one.run (two.read ++ more) (with_front second r) (subst (λ l. IsPacketRun q l (with_front second r)) rest (two.run more r next)) in
       let all : one.past ++ (q.pending ++ (two.read ++ more)) ≡ (one.past ++ two.past) ++ (s.pending ++ more) =
       ap (λ l. one.past ++ l) (sym rest) ∙ sym (append_assoc one.past two.past (s.pending ++ more)) in
-      subst (λ shown. IsRun p ((one.past ++ two.past) ++ (s.pending ++ more)) (record { packets = shown; end = r.end })) (sym (append_assoc first second r.packets))
-      (subst (λ l. IsRun p l (with_front first (with_front second r))) all mid);
+      subst (λ shown. IsPacketRun p ((one.past ++ two.past) ++ (s.pending ++ more)) (record { packets = shown; end = r.end })) (sym (append_assoc first second r.packets))
+      (subst (λ l. IsPacketRun p l (with_front first (with_front second r))) all mid);
 }
 
 -- from the position that is seen
-pub from : {p q s : Position} {before after : Option (List ℕ)} {packets : List Shown} → p ≡ q → GoesOn p before s after packets → GoesOn q before s after packets
+pub from : {p q s : Position} {before after : Option (List ℕ)} {packets : List ShownPacket} → p ≡ q → GoesOn p before s after packets → GoesOn q before s after packets
 from {p} {q} {s} {before} {after} {packets} same goes = subst (λ o. GoesOn o before s after packets) same goes
 
 -- with other bytes
@@ -60,7 +60,7 @@ shown_as {p} {s} {before} {after} {time} {link} {wire_length} {xs} {ys} same goe
 
 -- ---- bytes that are ahead
 
-behind_passed : (s : State) (ahead count : ℕ) (front rest : List ℕ) (limit : ℕ) → count ≤ ahead → length front ≡ count
+behind_passed : (s : CaptureState) (ahead count : ℕ) (front rest : List ℕ) (limit : ℕ) → count ≤ ahead → length front ≡ count
     → run_behind ahead limit s (front ++ rest) ≡ run_behind (ahead - count) limit s rest
 behind_passed s ahead count front rest limit near long =
     let left : drop ahead (front ++ rest) ≡ drop (ahead - count) rest = drop_front ahead count front rest near long in
@@ -80,7 +80,7 @@ behind_passed s ahead count front rest limit near long =
           let more : nat_lt (length (front ++ rest)) ahead ≡ false = le-ltb _ _ (omega (arith, length-append front rest, long, ltb-false _ _ e)) in
           rw (more, e, left) refl
 
-pub passes : (s : State) (ahead count : ℕ) (old new : List ℕ) (place to : ℕ) (left : Option (List ℕ)) → to ≡ further place count → count ≤ ahead → count ≤ length old → new ≡ drop count old
+pub passes : (s : CaptureState) (ahead count : ℕ) (old new : List ℕ) (place to : ℕ) (left : Option (List ℕ)) → to ≡ further place count → count ≤ ahead → count ≤ length old → new ≡ drop count old
     → GoesOn (record { state = s; ahead = ahead; pending = old; place = place }) left (record { state = s; ahead = ahead - count; pending = new; place = to }) left []
 passes s ahead count old new place to left is near fits passed =
     let long : length (take count old) ≡ count = omega (arith, length-take count old) in
@@ -98,9 +98,9 @@ passes s ahead count old new place to left is near fits passed =
 
 -- ---- a part
 
-module _ (s : State) (all : List ℕ) where
+module _ (s : CaptureState) (all : List ℕ) where
   -- the run from a part on
-  pub part_run : (front : _) (r : Run) → front_of s all ≡ Ok front → 0 < size_of front → ((next : State → List ℕ → Run) → go_on (Ok front) s all next ≡ go_past front s all next)
+  pub part_run : (front : _) (r : PacketRun) → front_of s all ≡ Ok front → 0 < size_of front → ((next : CaptureState → List ℕ → PacketRun) → go_on (Ok front) s all next ≡ go_past front s all next)
       → (length all < size_of front → shown_of front all ≡ [])
       → ((limit : ℕ) → length (drop (size_of front) all) < limit → run_behind (size_of front) limit (state_behind front s) all ≡ r)
       → (limit : ℕ) → length all < limit → run limit s all ≡ with_front (shown_of front all) r

@@ -4,13 +4,13 @@ use Rattle.std.specs.Prelude.{nat_lt, if◌then◌else◌}
 use Rattle.std.specs.List.{flat_map, AllByRecursion}
 use Rattle.std.proofs.Math.Seq.{drop-append_seam, take-append_seam}
 use Rattle.std.proofs.lemmas.Bool.{le-ltb}
-use Rattle.captures.specs.declared.front.Format.TheVariants as Format
+use Rattle.captures.specs.declared.front.CaptureFormat.TheVariants as Format
 use Rattle.captures.specs.declared.order.Order.{Order}
 use Rattle.captures.specs.declared.order.Order.TheVariants.{Big, Little}
 use Rattle.captures.specs.declared.pcap.PcapFile.{PcapFile}
 use Rattle.captures.specs.Pcap.{nanoseconds_of}
-use Rattle.captures.specs.Reading.{State, unread}
-use Rattle.captures.specs.Runs.{Shown, Whole, CutOff, ends_by, with_front, go_on, run, pcap_bytes, shown_as, ReadsFiles}
+use Rattle.captures.specs.Reading.{CaptureState, unread}
+use Rattle.captures.specs.Runs.{ShownPacket, Whole, CutOff, ends_by, with_front, go_on, run, pcap_bytes, shown_as, ReadsFiles}
 use Rattle.captures.specs.Writing.{number_bytes, magic_number, FileHeader, file_bytes, FilePacket, IsLegalFilePacket, file_packet_bytes}
 use Rattle.captures.proofs.Written.{header_written, packet_written}
 use Rattle.captures.proofs.WrittenFrames.{length-number_bytes}
@@ -52,7 +52,7 @@ past own rest size long = ap (λ n. drop n (own ++ rest)) (sym long) ∙ drop-ap
 
 -- ---- the packets
 
-abbrev in_file : PcapFile → State
+abbrev in_file : PcapFile → CaptureState
 in_file file = record { format = Format.Pcap file; interfaces = [] }
 
 packet_run : (n : ℕ) (file : PcapFile) (p : FilePacket) (rest : List ℕ) → IsLegalFilePacket p
@@ -64,7 +64,7 @@ packet_run n file p rest legal =
     let long = length-file_packet_bytes order p in
     let front = packet_written (in_file file) (own ++ rest) file p rest refl legal refl in
     let fits : nat_lt (length (own ++ rest)) (16 + length p.bytes) ≡ false = le-ltb _ _ (omega (arith, length-append own rest, long)) in
-    let shown : List ℕ → List Shown = λ b. record { time = Some (nanoseconds_of file.magic.fraction p.seconds p.fraction); link = file.link; wire_length = p.wire_length; bytes = b } ∷ [] in
+    let shown : List ℕ → List ShownPacket = λ b. record { time = Some (nanoseconds_of file.magic.fraction p.seconds p.fraction); link = file.link; wire_length = p.wire_length; bytes = b } ∷ [] in
     ap (λ r. go_on r (in_file file) (own ++ rest) (λ t left. run n t left)) front
     ∙ ap (λ b. if b then ends_by CutOff else with_front (shown (take (length p.bytes) (drop 16 (own ++ rest)))) (run n (in_file file) (drop (16 + length p.bytes) (own ++ rest)))) fits
     ∙ ap (λ (b : List ℕ). with_front (shown b) (run n (in_file file) (drop (16 + length p.bytes) (own ++ rest)))) (captured_bytes order p rest)

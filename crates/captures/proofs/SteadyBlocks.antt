@@ -7,9 +7,9 @@ use Rattle.captures.specs.declared.fault.FaultKind.{FaultKind}
 use Rattle.captures.specs.declared.frame.BlockKind.{BlockKind}
 use Rattle.captures.specs.declared.frame.BlockKind.TheVariants.{Section, Interface, Obsolete, Simple, Enhanced, Other}
 use Rattle.captures.specs.declared.frame.Frame.{Frame}
-use Rattle.captures.specs.declared.front.Format.{Format}
+use Rattle.captures.specs.declared.front.CaptureFormat.{CaptureFormat}
 use Rattle.captures.specs.declared.front.Front.{Front}
-use Rattle.captures.specs.declared.interface.Interface.{Interface as Port}
+use Rattle.captures.specs.declared.interface.CaptureInterface.{CaptureInterface as Port}
 use Rattle.captures.specs.declared.order.Order.{Order}
 use Rattle.captures.specs.declared.order.Order.TheVariants.{Big, Little}
 use Rattle.captures.specs.declared.pcap.Magic.{Magic}
@@ -19,7 +19,7 @@ use Rattle.captures.specs.Fronts.{IsSettledBy}
 use Rattle.captures.specs.Numbers.{number_at}
 use Rattle.captures.specs.Opening.{opening_front, header_front, is_section}
 use Rattle.captures.specs.Pcap.{magic_of}
-use Rattle.captures.specs.Reading.{State, front_of, front_in}
+use Rattle.captures.specs.Reading.{CaptureState, front_of, front_in}
 use Rattle.captures.specs.Steps.{and_then}
 use Rattle.captures.proofs.Steady.{number_at-append, after_short, file_steady, packet_steady}
 
@@ -131,10 +131,10 @@ opening_steady bytes more settled =
     ∙ either_steady (is_section bytes) (length (bytes ++ more)) _ _ _ _ (block_steady Big [] bytes more) (header_steady (magic_of bytes) bytes more) whole
     ) settled
 
-format_steady : (format : Format) (interfaces : List Port) (bytes more : List ℕ) → IsSettledBy (length (bytes ++ more)) (front_in format interfaces bytes) → front_in format interfaces (bytes ++ more) ≡ front_in format interfaces bytes
-format_steady Format.Unread interfaces bytes more settled = opening_steady bytes more settled
-format_steady (Format.Pcap file) interfaces bytes more settled = packet_steady file bytes more settled
-format_steady (Format.Section order) interfaces bytes more settled = block_steady order interfaces bytes more settled
+format_steady : (format : CaptureFormat) (interfaces : List Port) (bytes more : List ℕ) → IsSettledBy (length (bytes ++ more)) (front_in format interfaces bytes) → front_in format interfaces (bytes ++ more) ≡ front_in format interfaces bytes
+format_steady CaptureFormat.Unread interfaces bytes more settled = opening_steady bytes more settled
+format_steady (CaptureFormat.Pcap file) interfaces bytes more settled = packet_steady file bytes more settled
+format_steady (CaptureFormat.Section order) interfaces bytes more settled = block_steady order interfaces bytes more settled
 
-pub front_steady : (s : State) (bytes more : List ℕ) → IsSettledBy (length (bytes ++ more)) (front_of s bytes) → front_of s (bytes ++ more) ≡ front_of s bytes
+pub front_steady : (s : CaptureState) (bytes more : List ℕ) → IsSettledBy (length (bytes ++ more)) (front_of s bytes) → front_of s (bytes ++ more) ≡ front_of s bytes
 front_steady s bytes more settled = format_steady s.format s.interfaces bytes more settled

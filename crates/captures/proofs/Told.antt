@@ -7,14 +7,14 @@ use Rattle.byteorder.specs.Numbers.{big_from-lt, little_from-lt}
 use Rattle.captures.specs.declared.fault.FaultKind.{FaultKind}
 use Rattle.captures.specs.declared.front.Front.{Front}
 use Rattle.captures.specs.declared.front.Front.TheVariants.{Short}
-use Rattle.captures.specs.declared.front.Format.{Format}
+use Rattle.captures.specs.declared.front.CaptureFormat.{CaptureFormat}
 use Rattle.captures.specs.declared.front.TheConstants.{MOST_CAPTURED}
 use Rattle.captures.specs.declared.order.Order.{Order}
 use Rattle.captures.specs.declared.order.Order.TheVariants.{Big, Little}
 use Rattle.captures.specs.Numbers.{number_of, number_at}
 use Rattle.captures.specs.Pcap.{packet_front, captured_field}
-use Rattle.captures.specs.Reading.{State, front_in}
-use Rattle.captures.specs.Told.{IsTold, WasFilePacket}
+use Rattle.captures.specs.Reading.{CaptureState, front_in}
+use Rattle.captures.specs.Told.{IsContent, WasFilePacket}
 use Rattle.captures.specs.Writing.{number_bytes, FilePacket, file_packet_bytes}
 
 abbrev pub IsBytes : List ℕ → Type 0
@@ -80,15 +80,15 @@ back_at order place bytes long fits =
 
 -- ---- tests, passed
 
-pub long_enough : (count needed : ℕ) (x : Result Front FaultKind) → IsTold (if nat_lt count needed then Ok (Short needed) else x) → (needed ≤ count) × IsTold x
+pub long_enough : (count needed : ℕ) (x : Result Front FaultKind) → IsContent (if nat_lt count needed then Ok (Short needed) else x) → (needed ≤ count) × IsContent x
 long_enough count needed x =
-    let by_test : (b : Bool) → nat_lt count needed ≡ b → IsTold (if b then Ok (Short needed) else x) → (needed ≤ count) × IsTold x = λ b. elim b as (λ v. nat_lt count needed ≡ v → IsTold (if v then Ok (Short needed) else x) → (needed ≤ count) × IsTold x) [
+    let by_test : (b : Bool) → nat_lt count needed ≡ b → IsContent (if b then Ok (Short needed) else x) → (needed ≤ count) × IsContent x = λ b. elim b as (λ v. nat_lt count needed ≡ v → IsContent (if v then Ok (Short needed) else x) → (needed ≤ count) × IsContent x) [
       | true ↦ λ e told. absurd told
       | false ↦ λ e told. (ltb-false _ _ e, told)
     ] in
     by_test (nat_lt count needed) refl
 
-pub no_fault : (test : Bool) (fault : FaultKind) (x : Result Front FaultKind) → IsTold (if test then Err fault else x) → (test ≡ false) × IsTold x
+pub no_fault : (test : Bool) (fault : FaultKind) (x : Result Front FaultKind) → IsContent (if test then Err fault else x) → (test ≡ false) × IsContent x
 no_fault true fault x told = absurd told
 no_fault false fault x told = (refl, told)
 
@@ -122,11 +122,11 @@ packet_back order bytes fits long =
     let flat = nested (number_bytes order 4 (number_at order 4 0 bytes)) (number_bytes order 4 (number_at order 4 4 bytes)) (number_bytes order 4 n) (number_bytes order 4 (number_at order 4 12 bytes)) (take n (drop 16 bytes)) (drop (16 + n) bytes) in
     (count, sym (ap (λ m. ((((number_bytes order 4 (number_at order 4 0 bytes) ++ number_bytes order 4 (number_at order 4 4 bytes)) ++ number_bytes order 4 m) ++ number_bytes order 4 (number_at order 4 12 bytes)) ++ take n (drop 16 bytes)) ++ drop (16 + n) bytes) count ∙ flat ∙ t0))
 
-pub packet_was : (s : State) (bytes : List ℕ) → IsBytes bytes → WasFilePacket s bytes
+pub packet_was : (s : CaptureState) (bytes : List ℕ) → IsBytes bytes → WasFilePacket s bytes
 unfolding packet_of
 packet_was s bytes fits file format told =
     let order = file.magic.order in
-    let there : IsTold (packet_front file bytes) = subst IsTold (ap (λ (f : Format). front_in f s.interfaces bytes) format) told in
+    let there : IsContent (packet_front file bytes) = subst IsContent (ap (λ (f : CaptureFormat). front_in f s.interfaces bytes) format) told in
     let first = long_enough (length bytes) 16 _ there in
     let second = no_fault (nat_lt MOST_CAPTURED (captured_field file bytes)) _ _ first.1 in
     let third = long_enough (length bytes) (16 + captured_field file bytes) _ second.1 in

@@ -9,17 +9,17 @@ use Rattle.captures.specs.declared.fault.FaultKind.{FaultKind}
 use Rattle.captures.specs.declared.frame.BlockKind.{BlockKind}
 use Rattle.captures.specs.declared.frame.BlockKind.TheVariants.{Section, Interface, Obsolete, Simple, Enhanced, Other}
 use Rattle.captures.specs.declared.frame.Frame.{Frame}
-use Rattle.captures.specs.declared.front.Format.{Format}
+use Rattle.captures.specs.declared.front.CaptureFormat.{CaptureFormat}
 use Rattle.captures.specs.declared.front.Front.{Front}
 use Rattle.captures.specs.declared.front.Front.TheVariants.{Header}
-use Rattle.captures.specs.declared.interface.Interface.{Interface as Port}
+use Rattle.captures.specs.declared.interface.CaptureInterface.{CaptureInterface as Port}
 use Rattle.captures.specs.declared.order.Order.{Order}
 use Rattle.captures.specs.Blocks.{block_front, framed_front, read_front, front_by_kind, content_front}
 use Rattle.captures.specs.Frames.{frame_by, order_of, section_order, kind_in, kind_of_number, is_wrong_length, least_length, most_length}
 use Rattle.captures.specs.Numbers.{number_at}
-use Rattle.captures.specs.Reading.{State, front_in}
+use Rattle.captures.specs.Reading.{CaptureState, front_in}
 use Rattle.captures.specs.Steps.{and_then}
-use Rattle.captures.specs.Told.{IsTold, IsBodyOf, WasBlock, WasWritten}
+use Rattle.captures.specs.Told.{IsContent, IsBlockBodyOf, WasBlock, WasWritten}
 use Rattle.captures.specs.Writing.{number_bytes}
 use Rattle.captures.specs.WritingBlocks.{block_bytes}
 use Rattle.captures.proofs.Told.{IsBytes, IsBytes-drop, back_at, long_enough, no_fault, in_front, packet_was}
@@ -39,7 +39,7 @@ pub record IsFramed (order : Order) (bytes : List ℕ) (size : ℕ) : Type 0 whe
 pub record IsReadBlock (kind : BlockKind) (order : Order) (interfaces : List Port) (bytes : List ℕ) (size : ℕ) : Type 0 where
   pub framed : IsFramed order bytes size
   pub fits : least_length kind ≤ size
-  pub content : IsTold (content_front kind order interfaces (take size bytes))
+  pub content : IsContent (content_front kind order interfaces (take size bytes))
 
 -- ---- what a length that is not wrong says
 
@@ -49,11 +49,11 @@ not_wrong true false true e = absurd cc
 not_wrong true true high e = absurd cc
 not_wrong false low high e = absurd cc
 
-frame_told : (kind : BlockKind) (order : Order) (size : ℕ) (f : Frame → Result Front FaultKind) → IsTold (and_then (frame_by kind order size) f)
-    → (is_wrong_length kind size ≡ false) × IsTold (f (record { kind = kind; order = order; length = size }))
+frame_told : (kind : BlockKind) (order : Order) (size : ℕ) (f : Frame → Result Front FaultKind) → IsContent (and_then (frame_by kind order size) f)
+    → (is_wrong_length kind size ≡ false) × IsContent (f (record { kind = kind; order = order; length = size }))
 frame_told kind order size f =
     let frame : Frame = record { kind = kind; order = order; length = size } in
-    let by_test : (b : Bool) → is_wrong_length kind size ≡ b → IsTold (and_then (let r : Result Frame FaultKind = if b then Err FaultKind.BlockLength else Ok frame in r) f) → (is_wrong_length kind size ≡ false) × IsTold (f frame) = λ b. elim b as (λ v. is_wrong_length kind size ≡ v → IsTold (and_then (let r : Result Frame FaultKind = if v then Err FaultKind.BlockLength else Ok frame in r) f) → (is_wrong_length kind size ≡ false) × IsTold (f frame)) [
+    let by_test : (b : Bool) → is_wrong_length kind size ≡ b → IsContent (and_then (let r : Result Frame FaultKind = if b then Err FaultKind.BlockLength else Ok frame in r) f) → (is_wrong_length kind size ≡ false) × IsContent (f frame) = λ b. elim b as (λ v. is_wrong_length kind size ≡ v → IsContent (and_then (let r : Result Frame FaultKind = if v then Err FaultKind.BlockLength else Ok frame in r) f) → (is_wrong_length kind size ≡ false) × IsContent (f frame)) [
       | true ↦ λ e told. absurd told
       | false ↦ λ e told. (e, told)
     ] in
@@ -66,14 +66,14 @@ not_other false e = absurd cc
 -- a block of a kind that is read
 kind_told : (kind : BlockKind) (order : Order) (interfaces : List Port) (bytes : List ℕ) → 12 ≤ least_length kind → most_length kind ≡ 1048576
     → ((size : ℕ) (x : Result Front FaultKind) → front_by_kind kind size x ≡ x)
-    → IsTold (and_then (frame_by kind order (number_at order 4 4 bytes)) (λ frame. framed_front frame interfaces bytes))
+    → IsContent (and_then (frame_by kind order (number_at order 4 4 bytes)) (λ frame. framed_front frame interfaces bytes))
     → IsReadBlock kind order interfaces bytes (number_at order 4 4 bytes)
 kind_told kind order interfaces bytes least most passes told =
     let size = number_at order 4 4 bytes in
     let frame : Frame = record { kind = kind; order = order; length = size } in
     let first = frame_told kind order size (λ f. framed_front f interfaces bytes) told in
     let fits = not_wrong (size % 4 == 0) (nat_lt size (least_length kind)) (nat_lt (most_length kind) size) first.0 in
-    let read : IsTold (read_front frame interfaces bytes) = subst IsTold (passes size (read_front frame interfaces bytes)) first.1 in
+    let read : IsContent (read_front frame interfaces bytes) = subst IsContent (passes size (read_front frame interfaces bytes)) first.1 in
     let whole = long_enough (length bytes) size _ read in
     let last = no_fault (not (number_at order 4 (size - 4) bytes == size)) _ _ whole.1 in
     let framed : IsFramed order bytes size = record {
@@ -86,11 +86,11 @@ kind_told kind order interfaces bytes least most passes told =
     } in
     record { framed = framed; fits = ltb-false size (least_length kind) fits.1; content = last.1 }
 
-header_not_told : (test : Bool) (fault : FaultKind) (format : Format) (size : ℕ) → IsTold (let r : Result Front FaultKind = if test then Err fault else Ok (Header format size) in r) → ⊥
+header_not_told : (test : Bool) (fault : FaultKind) (format : CaptureFormat) (size : ℕ) → IsContent (let r : Result Front FaultKind = if test then Err fault else Ok (Header format size) in r) → ⊥
 header_not_told true fault format size told = absurd told
 header_not_told false fault format size told = absurd told
 
-section_not_told : (own : Order) (interfaces : List Port) (bytes : List ℕ) → IsTold (and_then (frame_by Section own (number_at own 4 4 bytes)) (λ frame. framed_front frame interfaces bytes)) → ⊥
+section_not_told : (own : Order) (interfaces : List Port) (bytes : List ℕ) → IsContent (and_then (frame_by Section own (number_at own 4 4 bytes)) (λ frame. framed_front frame interfaces bytes)) → ⊥
 section_not_told own interfaces bytes told =
     let size = number_at own 4 4 bytes in
     let first = frame_told Section own size (λ f. framed_front f interfaces bytes) told in
@@ -99,16 +99,16 @@ section_not_told own interfaces bytes told =
     header_not_told (not (number_at own 2 12 (take size bytes) == 1)) _ _ _ last.1
 
 section_order_not_told : (r : Result Order FaultKind) (interfaces : List Port) (bytes : List ℕ)
-    → IsTold (and_then (and_then r (λ own. frame_by Section own (number_at own 4 4 bytes))) (λ frame. framed_front frame interfaces bytes)) → ⊥
+    → IsContent (and_then (and_then r (λ own. frame_by Section own (number_at own 4 4 bytes))) (λ frame. framed_front frame interfaces bytes)) → ⊥
 section_order_not_told (Ok own) interfaces bytes told = section_not_told own interfaces bytes told
 section_order_not_told (Err fault) interfaces bytes told = absurd told
 
-other_not_told : (order : Order) (interfaces : List Port) (bytes : List ℕ) → IsTold (and_then (frame_by Other order (number_at order 4 4 bytes)) (λ frame. framed_front frame interfaces bytes)) → ⊥
+other_not_told : (order : Order) (interfaces : List Port) (bytes : List ℕ) → IsContent (and_then (frame_by Other order (number_at order 4 4 bytes)) (λ frame. framed_front frame interfaces bytes)) → ⊥
 other_not_told order interfaces bytes told =
     (frame_told Other order (number_at order 4 4 bytes) (λ f. framed_front f interfaces bytes) told).1
 
 framed_by : (kind : BlockKind) (order : Order) (interfaces : List Port) (bytes : List ℕ)
-    → IsTold (and_then (and_then (order_of kind order bytes) (λ own. frame_by kind own (number_at own 4 4 bytes))) (λ frame. framed_front frame interfaces bytes))
+    → IsContent (and_then (and_then (order_of kind order bytes) (λ own. frame_by kind own (number_at own 4 4 bytes))) (λ frame. framed_front frame interfaces bytes))
     → IsReadBlock kind order interfaces bytes (number_at order 4 4 bytes)
 framed_by Section order interfaces bytes told = absurd (section_order_not_told (section_order bytes) interfaces bytes told)
 framed_by Interface order interfaces bytes told = kind_told Interface order interfaces bytes (omega arith) refl (λ size x. refl) told
@@ -174,7 +174,7 @@ number_of_kind type =
     either (type == 6) _ _ type (λ k. eqb-true _ _ k) (λ k. tt)))))
 
 body_by : (kind : BlockKind) (order : Order) (interfaces : List Port) (type : ℕ) (body : List ℕ) → IsNumberOf kind type → IsBytes body → least_length kind ≤ 12 + length body
-    → IsTold (content_front kind order interfaces (block_bytes order type body)) → IsBodyOf kind order type body
+    → IsContent (content_front kind order interfaces (block_bytes order type body)) → IsBlockBodyOf kind order type body
 body_by Section order interfaces type body number fits long told =
     header_not_told (not (number_at order 2 12 (block_bytes order type body) == 1)) _ _ _ told
 body_by Interface order interfaces type body number fits long told = (number, interface_was order body fits (omega (arith, long)))
@@ -199,10 +199,10 @@ own_block order bytes size fits framed =
     let count : size ≡ length block = omega (arith, back.0, length-block_bytes order (number_at order 4 0 bytes) (body_of size bytes)) in
     ap (take size) back.1 ∙ ap (λ n. take n (block ++ drop size bytes)) count ∙ take-append_seam block (drop size bytes)
 
-pub block_was : (s : State) (bytes : List ℕ) → IsBytes bytes → WasBlock s bytes
+pub block_was : (s : CaptureState) (bytes : List ℕ) → IsBytes bytes → WasBlock s bytes
 unfolding body_of
 block_was s bytes fits order format told =
-    let there : IsTold (block_front order s.interfaces bytes) = subst IsTold (ap (λ (f : Format). front_in f s.interfaces bytes) format) told in
+    let there : IsContent (block_front order s.interfaces bytes) = subst IsContent (ap (λ (f : CaptureFormat). front_in f s.interfaces bytes) format) told in
     let first = long_enough (length bytes) 12 _ there in
     let size = number_at order 4 4 bytes in
     let type = number_at order 4 0 bytes in
@@ -211,7 +211,7 @@ block_was s bytes fits order format told =
     let framed = block.framed in
     let back = block_back order bytes size fits framed in
     let body = body_of size bytes in
-    let content = subst (λ (b : List ℕ). IsTold (content_front kind order s.interfaces b)) (own_block order bytes size fits framed) block.content in
+    let content = subst (λ (b : List ℕ). IsContent (content_front kind order s.interfaces b)) (own_block order bytes size fits framed) block.content in
     let inner : IsBytes body = IsBytes-take (size - 12) (drop 8 bytes) (IsBytes-drop 8 bytes fits) in
     let long : least_length kind ≤ 12 + length body = omega (arith, block.fits, back.0) in (
       kind,
@@ -225,5 +225,5 @@ block_was s bytes fits order format told =
       back.1 ∙ ap (λ n. block_bytes order type body ++ drop n bytes) (sym back.0),
     )
 
-pub was_written : (s : State) (bytes : List ℕ) → IsBytes bytes → WasWritten s bytes
+pub was_written : (s : CaptureState) (bytes : List ℕ) → IsBytes bytes → WasWritten s bytes
 was_written s bytes fits = record { file_packet = packet_was s bytes fits; block = block_was s bytes fits }

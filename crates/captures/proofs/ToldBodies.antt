@@ -4,11 +4,11 @@ use Rattle.std.specs.Prelude.{nat_lt}
 use Rattle.std.proofs.lemmas.Bool.{ltb-false}
 use Rattle.std.proofs.lemmas.List.{take-append-drop}
 use Rattle.captures.specs.declared.front.TheConstants.{MOST_CAPTURED}
-use Rattle.captures.specs.declared.interface.Interface.{Interface}
+use Rattle.captures.specs.declared.interface.CaptureInterface.{CaptureInterface}
 use Rattle.captures.specs.declared.order.Order.{Order}
 use Rattle.captures.specs.Numbers.{number_at}
 use Rattle.captures.specs.Packets.{is_too_long, timed_of, simple_of, snapped}
-use Rattle.captures.specs.Told.{IsTold, IsInterfaceBody, IsEnhancedBody, IsObsoleteBody, IsSimpleBody}
+use Rattle.captures.specs.Told.{IsContent, IsInterfaceBody, IsEnhancedBody, IsObsoleteBody, IsSimpleBody}
 use Rattle.captures.specs.Writing.{number_bytes}
 use Rattle.captures.specs.WritingBlocks.{block_bytes, TimedPacket, IsLegalTimed, timed_body}
 use Rattle.captures.proofs.Told.{IsBytes, number_at-lt, back_at, half_back_at, no_fault, in_front}
@@ -25,7 +25,7 @@ not_long captured room e =
     let both = neither (nat_lt room captured) (nat_lt MOST_CAPTURED captured) e in
     (ltb-false room captured both.0, ltb-false MOST_CAPTURED captured both.1)
 
-timed_told : (order : Order) (found : Option Interface) (block : List ℕ) → IsTold (timed_of order found block) → is_too_long (number_at order 4 20 block) (length block - 32) ≡ false
+timed_told : (order : Order) (found : Option CaptureInterface) (block : List ℕ) → IsContent (timed_of order found block) → is_too_long (number_at order 4 20 block) (length block - 32) ≡ false
 timed_told order None block told = absurd told
 timed_told order (Some interface) block told = (no_fault (is_too_long (number_at order 4 20 block) (length block - 32)) _ _ told).0
 
@@ -86,7 +86,7 @@ timed_back order number body fits long =
     ∙ nested (number_bytes order 4 high) (number_bytes order 4 low) (number_bytes order 4 n) wire bytes behind
     ∙ t4
 
-pub enhanced_was : (order : Order) (type : ℕ) (found : Option Interface) (body : List ℕ) → IsBytes body → 20 ≤ length body → IsTold (timed_of order found (block_bytes order type body)) → IsEnhancedBody order body
+pub enhanced_was : (order : Order) (type : ℕ) (found : Option CaptureInterface) (body : List ℕ) → IsBytes body → 20 ≤ length body → IsContent (timed_of order found (block_bytes order type body)) → IsEnhancedBody order body
 unfolding timed_in_body
 enhanced_was order type found body fits long told =
     let room = timed_room order type body long (timed_told order found (block_bytes order type body) told) in
@@ -97,7 +97,7 @@ enhanced_was order type found body fits long told =
       sym (in_front (number_bytes order 4 number) _ _ _ (timed_back order number body fits room.0) (back_at order 0 body (omega (arith, long)) fits)),
     )
 
-pub obsolete_was : (order : Order) (type : ℕ) (found : Option Interface) (body : List ℕ) → IsBytes body → 20 ≤ length body → IsTold (timed_of order found (block_bytes order type body)) → IsObsoleteBody order body
+pub obsolete_was : (order : Order) (type : ℕ) (found : Option CaptureInterface) (body : List ℕ) → IsBytes body → 20 ≤ length body → IsContent (timed_of order found (block_bytes order type body)) → IsObsoleteBody order body
 unfolding timed_in_body
 obsolete_was order type found body fits long told =
     let room = timed_room order type body long (timed_told order found (block_bytes order type body) told) in
@@ -114,7 +114,7 @@ obsolete_was order type found body fits long told =
 
 -- ---- simple packets
 
-simple_room : (order : Order) (type : ℕ) (interface : Interface) (body : List ℕ) → 4 ≤ length body
+simple_room : (order : Order) (type : ℕ) (interface : CaptureInterface) (body : List ℕ) → 4 ≤ length body
     → is_too_long (snapped interface.snap_length (number_at order 4 8 (block_bytes order type body))) (length (block_bytes order type body) - 16) ≡ false
     → (4 + snapped interface.snap_length (number_at order 4 0 body) ≤ length body) × (snapped interface.snap_length (number_at order 4 0 body) ≤ MOST_CAPTURED)
 simple_room order type interface body long short =
@@ -122,7 +122,7 @@ simple_room order type interface body long short =
     let same : snapped interface.snap_length (number_at order 4 8 (block_bytes order type body)) ≡ snapped interface.snap_length (number_at order 4 0 body) = ap (snapped interface.snap_length) (in_body order type body 4 0 (omega (arith, long))) in
     (omega (arith, room.0, same, length-block_bytes order type body, long), omega (arith, room.1, same))
 
-pub simple_was : (order : Order) (type : ℕ) (found : Option Interface) (body : List ℕ) → IsBytes body → 4 ≤ length body → IsTold (simple_of order found (block_bytes order type body)) → IsSimpleBody order body
+pub simple_was : (order : Order) (type : ℕ) (found : Option CaptureInterface) (body : List ℕ) → IsBytes body → 4 ≤ length body → IsContent (simple_of order found (block_bytes order type body)) → IsSimpleBody order body
 simple_was order type None body fits long told = absurd told
 simple_was order type (Some interface) body fits long told =
     let block = block_bytes order type body in

@@ -3,7 +3,7 @@ use Rattle.std.proofs.Common.{◌≡◌, ℕ, ◌+◌, ◌*◌, ◌%◌, ◌^◌
 use Rattle.std.proofs.lemmas.Bool.{le-ltb}
 use Rattle.byteorder.specs.Numbers.{big_number-reads_back, little_number-reads_back}
 use Rattle.captures.specs.declared.front.Front.TheVariants.{Captured, Header}
-use Rattle.captures.specs.declared.front.Format.{Format}
+use Rattle.captures.specs.declared.front.CaptureFormat.{CaptureFormat}
 use Rattle.captures.specs.declared.front.TheConstants.{MOST_CAPTURED}
 use Rattle.captures.specs.declared.order.Order.{Order}
 use Rattle.captures.specs.declared.order.Order.TheVariants.{Big, Little}
@@ -13,7 +13,7 @@ use Rattle.captures.specs.declared.pcap.PcapFile.{PcapFile}
 use Rattle.captures.specs.Numbers.{number_of, number_at}
 use Rattle.captures.specs.Opening.{opening_front, is_section}
 use Rattle.captures.specs.Pcap.{packet_front, nanoseconds_of, magic_of}
-use Rattle.captures.specs.Reading.{State, front_in}
+use Rattle.captures.specs.Reading.{CaptureState, front_in}
 use Rattle.captures.specs.Writing.{number_bytes, FilePacket, IsLegalFilePacket, file_packet_bytes, ReadsFilePacket, FileHeader, file_bytes, ReadsFileHeader}
 
 -- a number that was written is read again
@@ -57,9 +57,9 @@ packet_read : (file : PcapFile) (p : FilePacket) (bytes : List ℕ) → length p
 packet_read file p bytes short has =
     rw (le-ltb (length bytes) 16 (omega (arith, has.long)), has.captured, has.seconds, has.fraction, has.wire_length, le-ltb MOST_CAPTURED (length p.bytes) short, le-ltb (length bytes) (16 + length p.bytes) has.long) refl
 
-pub packet_written : (s : State) (bytes : List ℕ) → ReadsFilePacket s bytes
+pub packet_written : (s : CaptureState) (bytes : List ℕ) → ReadsFilePacket s bytes
 packet_written s bytes file p rest format legal text =
-    ap (λ (f : Format). front_in f s.interfaces bytes) format ∙ packet_read file p bytes legal.bytes (subst (HasFilePacket file.magic.order p) (sym text) (packet_fields file.magic.order p rest legal))
+    ap (λ (f : CaptureFormat). front_in f s.interfaces bytes) format ∙ packet_read file p bytes legal.bytes (subst (HasFilePacket file.magic.order p) (sym text) (packet_fields file.magic.order p rest legal))
 
 -- ---- the header of a pcap
 
@@ -109,11 +109,11 @@ low_half : (high link : ℕ) → link < 2 ^ 16 → (high * 65536 + link) % 65536
 low_half high link fits = omega arith
 
 header_read : (h : FileHeader) (bytes : List ℕ) → h.link < 2 ^ 16 → HasFileHeader h bytes
-    → opening_front bytes ≡ Ok (Header (Format.Pcap (record { magic = h.magic; link = h.link })) 24)
+    → opening_front bytes ≡ Ok (Header (CaptureFormat.Pcap (record { magic = h.magic; link = h.link })) 24)
 header_read h bytes fits has =
     rw (le-ltb (length bytes) 4 (omega (arith, has.long)), has.section, has.magic, le-ltb (length bytes) 24 has.long, has.version, has.link, low_half h.high h.link fits) refl
 
-pub header_written : (s : State) (bytes : List ℕ) → ReadsFileHeader s bytes
+pub header_written : (s : CaptureState) (bytes : List ℕ) → ReadsFileHeader s bytes
 header_written s bytes h rest format low top text =
-    ap (λ (f : Format). front_in f s.interfaces bytes) format
+    ap (λ (f : CaptureFormat). front_in f s.interfaces bytes) format
     ∙ header_read h bytes low (subst (HasFileHeader h) (sym text) (header_fields h.magic.order h.magic.fraction h.minor h.reserved h.snap_length h.link h.high rest low top))

@@ -5,16 +5,16 @@ use Rattle.std.specs.List.{slice_get}
 use Rattle.std.proofs.lemmas.Bool.{le-ltb}
 use Rattle.captures.specs.declared.fault.FaultKind.{FaultKind}
 use Rattle.captures.specs.declared.frame.BlockKind.{BlockKind}
-use Rattle.captures.specs.declared.front.Format.{Format}
+use Rattle.captures.specs.declared.front.CaptureFormat.{CaptureFormat}
 use Rattle.captures.specs.declared.front.Front.{Front}
 use Rattle.captures.specs.declared.front.Front.TheVariants.{Captured}
 use Rattle.captures.specs.declared.front.TheConstants.{MOST_CAPTURED}
-use Rattle.captures.specs.declared.interface.Interface.{Interface}
+use Rattle.captures.specs.declared.interface.CaptureInterface.{CaptureInterface}
 use Rattle.captures.specs.declared.order.Order.{Order}
 use Rattle.captures.specs.declared.order.Order.TheVariants.{Big, Little}
 use Rattle.captures.specs.Numbers.{number_at}
 use Rattle.captures.specs.Packets.{is_too_long, snapped, timed_at, timed_in, timed_of, units_in, simple_in, simple_of}
-use Rattle.captures.specs.Reading.{State, front_in}
+use Rattle.captures.specs.Reading.{CaptureState, front_in}
 use Rattle.captures.specs.Times.{time_of}
 use Rattle.captures.specs.Writing.{number_bytes}
 use Rattle.captures.specs.WritingBlocks.{block_bytes, TimedPacket, IsLegalTimed, timed_as, enhanced_body, obsolete_body, simple_body, ReadsEnhanced, ReadsObsolete, ReadsSimple}
@@ -71,7 +71,7 @@ obsolete_fields Little drops p legal = record {
 fits_room : (captured room : ℕ) → captured ≤ room → captured ≤ MOST_CAPTURED → is_too_long captured room ≡ false
 fits_room captured room fits short = rw (le-ltb room captured fits, le-ltb MOST_CAPTURED captured short) refl
 
-timed_with : (order : Order) (interface : Interface) (block : List ℕ) (high low : ℕ) (p : TimedPacket) (size time : ℕ)
+timed_with : (order : Order) (interface : CaptureInterface) (block : List ℕ) (high low : ℕ) (p : TimedPacket) (size time : ℕ)
     → number_at order 4 12 block ≡ high → number_at order 4 16 block ≡ low → number_at order 4 20 block ≡ length p.bytes → number_at order 4 24 block ≡ p.wire_length
     → high * 4294967296 + low ≡ p.units → length block ≡ size → is_too_long (length p.bytes) (size - 32) ≡ false → time_of interface.timing p.units ≡ Some time
     → timed_in order interface block ≡ timed_as interface time p size
@@ -85,7 +85,7 @@ timed_with order interface block high low p size time e12 e16 e20 e24 units long
     ∙ ap (timed_at order interface block) is_time
     ∙ there
 
-timed_read : (order : Order) (type : ℕ) (body : List ℕ) (p : TimedPacket) (interface : Interface) (time : ℕ) → IsLegalTimed p → HasTimed order p body → time_of interface.timing p.units ≡ Some time
+timed_read : (order : Order) (type : ℕ) (body : List ℕ) (p : TimedPacket) (interface : CaptureInterface) (time : ℕ) → IsLegalTimed p → HasTimed order p body → time_of interface.timing p.units ≡ Some time
     → timed_in order interface (block_bytes order type body) ≡ timed_as interface time p (12 + length body)
 timed_read order type body p interface time legal has is_time =
     let block = block_bytes order type body in
@@ -112,27 +112,27 @@ obsolete_number : (order : Order) (drops : ℕ) (p : TimedPacket) → p.number <
 obsolete_number Big drops p fits = again Big 2 p.number (drop 2 (obsolete_body Big drops p)) fits
 obsolete_number Little drops p fits = again Little 2 p.number (drop 2 (obsolete_body Little drops p)) fits
 
-pub enhanced_written : (s : State) (bytes : List ℕ) → ReadsEnhanced s bytes
+pub enhanced_written : (s : CaptureState) (bytes : List ℕ) → ReadsEnhanced s bytes
 enhanced_written s bytes order p interface time rest format legal number found is_time body text =
     let own = enhanced_body order p in
     let has = enhanced_fields order p legal in
     let kind : number_at order 4 0 bytes ≡ 6 = ap (number_at order 4 0) text ∙ type_written order 6 own rest (lit< tt) in
     let at : IsBlockAt order 6 own bytes = subst (IsBlockAt order 6 own) (sym text) (block_written order 6 own rest (omega (arith, body.fits))) in
     let named : number_at order 4 8 (block_bytes order 6 own) ≡ p.number = in_body order 6 own 4 0 (omega (arith, has.long)) ∙ enhanced_number order p number in
-    ap (λ (f : Format). front_in f s.interfaces bytes) format
+    ap (λ (f : CaptureFormat). front_in f s.interfaces bytes) format
     ∙ block_read order order s.interfaces 6 BlockKind.Enhanced own bytes kind refl refl at (read_enhanced (12 + length own) (omega (arith, has.long))) body
     ∙ ap (λ n. timed_of order (slice_get s.interfaces n) (block_bytes order 6 own)) named
     ∙ ap (λ i. timed_of order i (block_bytes order 6 own)) found
     ∙ timed_read order 6 own p interface time legal has is_time
 
-pub obsolete_written : (s : State) (bytes : List ℕ) → ReadsObsolete s bytes
+pub obsolete_written : (s : CaptureState) (bytes : List ℕ) → ReadsObsolete s bytes
 obsolete_written s bytes order drops p interface time rest format legal number found is_time body text =
     let own = obsolete_body order drops p in
     let has = obsolete_fields order drops p legal in
     let kind : number_at order 4 0 bytes ≡ 2 = ap (number_at order 4 0) text ∙ type_written order 2 own rest (lit< tt) in
     let at : IsBlockAt order 2 own bytes = subst (IsBlockAt order 2 own) (sym text) (block_written order 2 own rest (omega (arith, body.fits))) in
     let named : number_at order 2 8 (block_bytes order 2 own) ≡ p.number = in_body order 2 own 2 0 (omega (arith, has.long)) ∙ obsolete_number order drops p number in
-    ap (λ (f : Format). front_in f s.interfaces bytes) format
+    ap (λ (f : CaptureFormat). front_in f s.interfaces bytes) format
     ∙ block_read order order s.interfaces 2 BlockKind.Obsolete own bytes kind refl refl at (read_obsolete (12 + length own) (omega (arith, has.long))) body
     ∙ ap (λ n. timed_of order (slice_get s.interfaces n) (block_bytes order 2 own)) named
     ∙ ap (λ i. timed_of order i (block_bytes order 2 own)) found
@@ -151,20 +151,20 @@ length-simple_body order wire_length packet behind =
 read_simple : (size : ℕ) → 16 ≤ size → IsReadAs BlockKind.Simple size
 read_simple size long = record { passes = λ x. refl; least = long; most = refl }
 
-simple_with : (order : Order) (interface : Interface) (block packet : List ℕ) (wire_length size : ℕ)
+simple_with : (order : Order) (interface : CaptureInterface) (block packet : List ℕ) (wire_length size : ℕ)
     → number_at order 4 8 block ≡ wire_length → length block ≡ size → length packet ≡ snapped interface.snap_length wire_length → is_too_long (length packet) (size - 16) ≡ false
     → simple_in order interface block ≡ Ok (Captured (record { time = None; link = interface.link; wire_length = wire_length; start = 12; captured = length packet }) size)
 simple_with order interface block packet wire_length size e8 long cut short =
     rw (e8, long, sym cut, short) refl
 
-pub simple_written : (s : State) (bytes : List ℕ) → ReadsSimple s bytes
+pub simple_written : (s : CaptureState) (bytes : List ℕ) → ReadsSimple s bytes
 simple_written s bytes order wire_length packet behind interface rest format fits short cut found body text =
     let own = simple_body order wire_length packet behind in
     let long = length-simple_body order wire_length packet behind in
     let kind : number_at order 4 0 bytes ≡ 3 = ap (number_at order 4 0) text ∙ type_written order 3 own rest (lit< tt) in
     let at : IsBlockAt order 3 own bytes = subst (IsBlockAt order 3 own) (sym text) (block_written order 3 own rest (omega (arith, body.fits))) in
     let wire : number_at order 4 8 (block_bytes order 3 own) ≡ wire_length = in_body order 3 own 4 0 (omega (arith, long)) ∙ simple_number order wire_length packet behind fits in
-    ap (λ (f : Format). front_in f s.interfaces bytes) format
+    ap (λ (f : CaptureFormat). front_in f s.interfaces bytes) format
     ∙ block_read order order s.interfaces 3 BlockKind.Simple own bytes kind refl refl at (read_simple (12 + length own) (omega (arith, long))) body
     ∙ ap (λ i. simple_of order i (block_bytes order 3 own)) found
     ∙ simple_with order interface (block_bytes order 3 own) packet wire_length (12 + length own) wire (length-block_bytes order 3 own) cut (fits_room (length packet) (12 + length own - 16) (omega (arith, long)) short)

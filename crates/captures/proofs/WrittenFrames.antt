@@ -8,7 +8,7 @@ use Rattle.captures.specs.declared.fault.FaultKind.{FaultKind}
 use Rattle.captures.specs.declared.frame.BlockKind.{BlockKind}
 use Rattle.captures.specs.declared.frame.Frame.{Frame}
 use Rattle.captures.specs.declared.front.Front.{Front}
-use Rattle.captures.specs.declared.interface.Interface.{Interface}
+use Rattle.captures.specs.declared.interface.CaptureInterface.{CaptureInterface}
 use Rattle.captures.specs.declared.order.Order.{Order}
 use Rattle.captures.specs.declared.order.Order.TheVariants.{Big, Little}
 use Rattle.captures.specs.Blocks.{block_front, framed_front, read_front, front_by_kind, content_front}
@@ -16,7 +16,7 @@ use Rattle.captures.specs.Frames.{frame_of, frame_by, order_of, kind_of_number, 
 use Rattle.captures.specs.Numbers.{number_of, number_at}
 use Rattle.captures.specs.Steps.{and_then}
 use Rattle.captures.specs.Writing.{number_bytes}
-use Rattle.captures.specs.WritingBlocks.{block_bytes, IsLegalBody}
+use Rattle.captures.specs.WritingBlocks.{block_bytes, IsLegalBlockBody}
 use Rattle.captures.proofs.Steady.{number_at-append}
 use Rattle.captures.proofs.Written.{again}
 
@@ -108,9 +108,9 @@ frame_written order own type kind size bytes number is_kind is_order is_size rig
     ∙ ap (frame_by kind own) is_size
     ∙ ap by_test right
 
-pub block_read : (order own : Order) (interfaces : List Interface) (type : ℕ) (kind : BlockKind) (body bytes : List ℕ)
+pub block_read : (order own : Order) (interfaces : List CaptureInterface) (type : ℕ) (kind : BlockKind) (body bytes : List ℕ)
     → number_at order 4 0 bytes ≡ type → kind_of_number type ≡ kind → order_of kind order bytes ≡ Ok own
-    → IsBlockAt own type body bytes → IsReadAs kind (12 + length body) → IsLegalBody body
+    → IsBlockAt own type body bytes → IsReadAs kind (12 + length body) → IsLegalBlockBody body
     → block_front order interfaces bytes ≡ content_front kind own interfaces (block_bytes own type body)
 block_read order own interfaces type kind body bytes number is_kind is_order at read legal =
     let size = 12 + length body in

@@ -12,7 +12,7 @@ use Rattle.captures.specs.Numbers.{number_of, number_at}
 use Rattle.captures.specs.Options.{code_of, length_of, size_of, is_end, is_cut, with_option, with_options, timing_of, usual_timing}
 use Rattle.captures.specs.Steps.{and_then}
 use Rattle.captures.specs.Times.{resolution_of, offset_of}
-use Rattle.captures.specs.WritingOptions.{Setting, IsLegalSetting, setting_bytes, settings_bytes, IsEnd, told, told_by}
+use Rattle.captures.specs.WritingOptions.{WrittenOption, IsLegalSetting, setting_bytes, settings_bytes, IsEnd, told, told_by}
 use Rattle.captures.proofs.Steady.{number_of-append}
 use Rattle.captures.proofs.Walking.{goes_on, stops}
 use Rattle.captures.proofs.Written.{again}
@@ -36,7 +36,7 @@ end_written order end (inr last) = subst (λ (b : List ℕ). is_end order b ≡ 
 -- ---- one option
 
 -- the option is at the start of the bytes
-pub record HasSetting (order : Order) (s : Setting) (tail bytes : List ℕ) : Type 0 where
+pub record HasSetting (order : Order) (s : WrittenOption) (tail bytes : List ℕ) : Type 0 where
   pub code : code_of order bytes ≡ s.code
   pub size : length_of order bytes ≡ length s.value
   pub long : 4 + length s.value + length s.filling + length tail ≡ length bytes
@@ -62,7 +62,7 @@ behind_all xs ys zs =
 drop_past : (a b c d : ℕ) (n : ℕ) (xs : List ℕ) → drop (4 + n) (a ∷ b ∷ c ∷ d ∷ xs) ≡ drop n xs
 drop_past a b c d n xs = ap (λ m. drop m (a ∷ b ∷ c ∷ d ∷ xs)) (let e : 4 + n ≡ suc (suc (suc (suc n))) = omega arith in e)
 
-setting_there : (order : Order) (s : Setting) (tail : List ℕ) → IsLegalSetting s → HasSetting order s tail (setting_bytes order s ++ tail)
+setting_there : (order : Order) (s : WrittenOption) (tail : List ℕ) → IsLegalSetting s → HasSetting order s tail (setting_bytes order s ++ tail)
 setting_there Big s tail legal = record {
   code = again Big 2 s.code (drop 2 (setting_bytes Big s ++ tail)) legal.code;
   size = again Big 2 (length s.value) (drop 4 (setting_bytes Big s ++ tail)) legal.value;
@@ -90,7 +90,7 @@ if_so : (test : Bool) (x y z : Result Timing FaultKind) → test ≡ true → x 
 if_so true x y z is e = e
 if_so false x y z is e = absurd cc
 
-says : (order : Order) (s : Setting) (tail bytes : List ℕ) (timing : Timing) → IsLegalSetting s → HasSetting order s tail bytes → with_option order bytes timing ≡ Ok (told order s timing)
+says : (order : Order) (s : WrittenOption) (tail bytes : List ℕ) (timing : Timing) → IsLegalSetting s → HasSetting order s tail bytes → with_option order bytes timing ≡ Ok (told order s timing)
 says order s tail bytes timing legal has =
     rw (has.code, has.size)
     (pick (s.code == 9) _ _ _ _
@@ -103,7 +103,7 @@ says order s tail bytes timing legal has =
     if_so (length s.value == 8) _ _ _ (ap (λ n. n == 8) eight) (ap (λ b. Ok (record timing { offset = offset_of b })) (has.number (omega (arith, eight)))))
     (λ _. refl)))
 
-goes_past : (order : Order) (s : Setting) (tail bytes : List ℕ) (n : ℕ) (timing : Timing) → IsLegalSetting s → HasSetting order s tail bytes
+goes_past : (order : Order) (s : WrittenOption) (tail bytes : List ℕ) (n : ℕ) (timing : Timing) → IsLegalSetting s → HasSetting order s tail bytes
     → with_options order (suc n) bytes timing ≡ with_options order n tail (told order s timing)
 goes_past order s tail bytes n timing legal has =
     let some : (length bytes == 0) ≡ false = ne_eqb _ _ (λ e. omega (arith, e, has.long)) in
@@ -118,7 +118,7 @@ goes_past order s tail bytes n timing legal has =
 
 -- ---- all options
 
-walks : (order : Order) (settings : List Setting) (end : List ℕ) (n : ℕ) (timing : Timing) → AllByRecursion IsLegalSetting settings → IsEnd end
+walks : (order : Order) (settings : List WrittenOption) (end : List ℕ) (n : ℕ) (timing : Timing) → AllByRecursion IsLegalSetting settings → IsEnd end
     → length (settings_bytes order settings ++ end) ≤ n → with_options order n (settings_bytes order settings ++ end) timing ≡ Ok (told_by order settings timing)
 walks order [] end n timing legal ends fits = stops order n end timing (end_written order end ends)
 walks order (s ∷ settings) end n timing legal ends fits =
@@ -132,7 +132,7 @@ walks order (s ∷ settings) end n timing legal ends fits =
     ∙ goes_past order s tail (setting_bytes order s ++ tail) (n - 1) timing legal.0 has
     ∙ walks order settings end (n - 1) (told order s timing) legal.1 ends (omega (arith, long))
 
-pub settings_told : (order : Order) (settings : List Setting) (end : List ℕ) → AllByRecursion IsLegalSetting settings → IsEnd end
+pub settings_told : (order : Order) (settings : List WrittenOption) (end : List ℕ) → AllByRecursion IsLegalSetting settings → IsEnd end
     → timing_of order (settings_bytes order settings ++ end) ≡ Ok (told_by order settings usual_timing)
 settings_told order settings end legal ends =
     walks order settings end (length (settings_bytes order settings ++ end)) usual_timing legal ends (omega arith)

@@ -5,10 +5,10 @@ use Rattle.std.proofs.Math.Seq.{take-append_seam}
 use Rattle.std.proofs.lemmas.Bool.{le-ltb}
 use Rattle.captures.specs.declared.fault.FaultKind.{FaultKind}
 use Rattle.captures.specs.declared.frame.BlockKind.TheVariants as BlockKind
-use Rattle.captures.specs.declared.front.Format.{Format}
+use Rattle.captures.specs.declared.front.CaptureFormat.{CaptureFormat}
 use Rattle.captures.specs.declared.front.Front.{Front}
 use Rattle.captures.specs.declared.front.Front.TheVariants.{Header, Declared}
-use Rattle.captures.specs.declared.interface.Interface.{Interface}
+use Rattle.captures.specs.declared.interface.CaptureInterface.{CaptureInterface}
 use Rattle.captures.specs.declared.order.Order.{Order}
 use Rattle.captures.specs.declared.order.Order.TheVariants.{Big, Little}
 use Rattle.captures.specs.declared.time.Timing.{Timing}
@@ -19,10 +19,10 @@ use Rattle.captures.specs.Numbers.{number_at}
 use Rattle.captures.specs.Opening.{opening_front, header_front}
 use Rattle.captures.specs.Options.{timing_of, usual_timing}
 use Rattle.captures.specs.Pcap.{magic_of}
-use Rattle.captures.specs.Reading.{State, front_in}
+use Rattle.captures.specs.Reading.{CaptureState, front_in}
 use Rattle.captures.specs.Steps.{and_then}
 use Rattle.captures.specs.Writing.{number_bytes}
-use Rattle.captures.specs.WritingBlocks.{block_bytes, IsLegalBody, section_body, interface_body, MayBeginSection, ReadsSection, ReadsInterface, PassesOther}
+use Rattle.captures.specs.WritingBlocks.{block_bytes, IsLegalBlockBody, section_body, interface_body, MayBeginSection, ReadsSection, ReadsInterface, PassesOther}
 use Rattle.captures.specs.WritingOptions.{settings_bytes, told_by}
 use Rattle.captures.proofs.Written.{again}
 use Rattle.captures.proofs.WrittenOptions.{settings_told}
@@ -52,12 +52,12 @@ length-section_body Little minor size options = omega arith
 read_section : (size : ℕ) → 28 ≤ size → IsReadAs BlockKind.Section size
 read_section size long = record { passes = λ x. refl; least = long; most = refl }
 
-section_with : (order : Order) (block : List ℕ) (size : ℕ) → number_at order 2 12 block ≡ 1 → length block ≡ size → section_front order block ≡ Ok (Header (Format.Section order) size)
+section_with : (order : Order) (block : List ℕ) (size : ℕ) → number_at order 2 12 block ≡ 1 → length block ≡ size → section_front order block ≡ Ok (Header (CaptureFormat.Section order) size)
 section_with order block size version long = rw (version, long) refl
 
-section_block : (before order : Order) (interfaces : List Interface) (minor size : ℕ) (options rest bytes : List ℕ) → IsLegalBody (section_body order minor size options)
+section_block : (before order : Order) (interfaces : List CaptureInterface) (minor size : ℕ) (options rest bytes : List ℕ) → IsLegalBlockBody (section_body order minor size options)
     → bytes ≡ block_bytes order 0x0A0D0D0A (section_body order minor size options) ++ rest
-    → block_front before interfaces bytes ≡ Ok (Header (Format.Section order) (12 + length (section_body order minor size options)))
+    → block_front before interfaces bytes ≡ Ok (Header (CaptureFormat.Section order) (12 + length (section_body order minor size options)))
 section_block before order interfaces minor size options rest bytes body text =
     let own = section_body order minor size options in
     let kind : number_at before 4 0 bytes ≡ 0x0A0D0D0A = ap (number_at before 4 0) text ∙ section_type before order own rest in
@@ -71,19 +71,19 @@ opening_section bytes long type =
     let by_test : Bool → Result Front FaultKind = λ b. if b then block_front Big [] bytes else header_front (magic_of bytes) bytes in
     rw (le-ltb (length bytes) 4 long) (ap by_test (ap (λ n. n == 0x0A0D0D0A) type))
 
-section_by_format : (format : Format) (order : Order) (interfaces : List Interface) (minor size : ℕ) (options rest bytes : List ℕ) → MayBeginSection format → IsLegalBody (section_body order minor size options)
+section_by_format : (format : CaptureFormat) (order : Order) (interfaces : List CaptureInterface) (minor size : ℕ) (options rest bytes : List ℕ) → MayBeginSection format → IsLegalBlockBody (section_body order minor size options)
     → bytes ≡ block_bytes order 0x0A0D0D0A (section_body order minor size options) ++ rest
-    → front_in format interfaces bytes ≡ Ok (Header (Format.Section order) (12 + length (section_body order minor size options)))
-section_by_format Format.Unread order interfaces minor size options rest bytes may body text =
+    → front_in format interfaces bytes ≡ Ok (Header (CaptureFormat.Section order) (12 + length (section_body order minor size options)))
+section_by_format CaptureFormat.Unread order interfaces minor size options rest bytes may body text =
     let own = section_body order minor size options in
     let long : 4 ≤ length bytes = omega (arith, ap length text, length-append (block_bytes order 0x0A0D0D0A own) rest, length-block_bytes order 0x0A0D0D0A own) in
     opening_section bytes long (ap (number_at Big 4 0) text ∙ section_type Big order own rest)
     ∙ section_block Big order [] minor size options rest bytes body text
-section_by_format (Format.Pcap file) order interfaces minor size options rest bytes may body text = absurd may
-section_by_format (Format.Section before) order interfaces minor size options rest bytes may body text =
+section_by_format (CaptureFormat.Pcap file) order interfaces minor size options rest bytes may body text = absurd may
+section_by_format (CaptureFormat.Section before) order interfaces minor size options rest bytes may body text =
     section_block before order interfaces minor size options rest bytes body text
 
-pub section_written : (s : State) (bytes : List ℕ) → ReadsSection s bytes
+pub section_written : (s : CaptureState) (bytes : List ℕ) → ReadsSection s bytes
 section_written s bytes order minor size options rest may body text =
     section_by_format s.format order s.interfaces minor size options rest bytes may body text
 
@@ -130,7 +130,7 @@ interface_with order block options link snap_length size timing e8 e12 at told l
     let there : declared (Ok timing) ≡ Ok (Declared (record { link = link; snap_length = snap_length; timing = timing }) size) = rw (e8, e12, long) refl in
     ap declared (ap (timing_of order) at ∙ told) ∙ there
 
-pub interface_written : (s : State) (bytes : List ℕ) → ReadsInterface s bytes
+pub interface_written : (s : CaptureState) (bytes : List ℕ) → ReadsInterface s bytes
 interface_written s bytes order link reserved snap_length settings end rest format link_fits snap_fits legal ends body text =
     let options = settings_bytes order settings ++ end in
     let own = interface_body order link reserved snap_length options in
@@ -140,7 +140,7 @@ interface_written s bytes order link reserved snap_length settings end rest form
     let e8 : number_at order 2 8 (block_bytes order 1 own) ≡ link = in_body order 1 own 2 0 (omega (arith, long)) ∙ link_written order link reserved snap_length options link_fits in
     let e12 : number_at order 4 12 (block_bytes order 1 own) ≡ snap_length = in_body order 1 own 4 4 (omega (arith, long)) ∙ snap_written order link reserved snap_length options snap_fits in
     let timing = told_by order settings usual_timing in
-    ap (λ (f : Format). front_in f s.interfaces bytes) format
+    ap (λ (f : CaptureFormat). front_in f s.interfaces bytes) format
     ∙ block_read order order s.interfaces 1 BlockKind.Interface own bytes kind refl refl at (read_interface (12 + length own) (omega (arith, long))) body
     ∙ interface_with order (block_bytes order 1 own) options link snap_length (12 + length own) timing e8 e12 (options_written order link reserved snap_length options) (settings_told order settings end legal ends) (length-block_bytes order 1 own)
 
@@ -154,9 +154,9 @@ kind_at : (order : Order) (type size : ℕ) (rest : List ℕ) → type < 2 ^ 32 
 kind_at Big type size rest fits = again Big 4 type (drop 4 (number_bytes Big 4 type ++ number_bytes Big 4 size ++ rest)) fits
 kind_at Little type size rest fits = again Little 4 type (drop 4 (number_bytes Little 4 type ++ number_bytes Little 4 size ++ rest)) fits
 
-pub other_passed : (s : State) (bytes : List ℕ) → PassesOther s bytes
+pub other_passed : (s : CaptureState) (bytes : List ℕ) → PassesOther s bytes
 other_passed s bytes order type size rest format long type_fits size_fits kind whole least text =
     let right : is_wrong_length BlockKind.Other size ≡ false = fits_length size 12 4294967295 whole least (omega (arith, size_fits)) in
     let frame = frame_written order order type BlockKind.Other size bytes (ap (number_at order 4 0) text ∙ kind_at order type size rest type_fits) kind refl (ap (number_at order 4 4) text ∙ size_at order type size rest size_fits) right in
-    ap (λ (f : Format). front_in f s.interfaces bytes) format
+    ap (λ (f : CaptureFormat). front_in f s.interfaces bytes) format
     ∙ (rw (le-ltb (length bytes) 12 long) (ap (λ r. and_then r (λ f. framed_front f s.interfaces bytes)) frame))

@@ -4,10 +4,10 @@ use Rattle.captures.specs.declared.fault.FaultKind.{FaultKind}
 use Rattle.captures.specs.declared.fault.FaultKind.TheVariants.{Version, BlockLength}
 use Rattle.captures.specs.declared.frame.BlockKind.{BlockKind}
 use Rattle.captures.specs.declared.frame.Frame.{Frame}
-use Rattle.captures.specs.declared.front.Format.TheVariants as Format
+use Rattle.captures.specs.declared.front.CaptureFormat.TheVariants as Format
 use Rattle.captures.specs.declared.front.Front.{Front}
 use Rattle.captures.specs.declared.front.Front.TheVariants.{Short, Header, Other}
-use Rattle.captures.specs.declared.interface.Interface.{Interface}
+use Rattle.captures.specs.declared.interface.CaptureInterface.{CaptureInterface}
 use Rattle.captures.specs.declared.order.Order.{Order}
 use Rattle.captures.specs.Frames.{frame_of}
 use Rattle.captures.specs.Interfaces.{interface_front}
@@ -21,7 +21,7 @@ section_front order block =
     if not (number_at order 2 12 block == 1) then Err Version else Ok (Header (Format.Section order) (length block))
 
 -- the content of a whole block, by its type
-abbrev pub content_front : BlockKind → Order → List Interface → List ℕ → Result Front FaultKind
+abbrev pub content_front : BlockKind → Order → List CaptureInterface → List ℕ → Result Front FaultKind
 content_front BlockKind.Section order interfaces block = section_front order block
 content_front BlockKind.Interface order interfaces block = interface_front order block
 content_front BlockKind.Obsolete order interfaces block = timed_front order (number_at order 2 8 block) interfaces block
@@ -30,7 +30,7 @@ content_front BlockKind.Enhanced order interfaces block = timed_front order (num
 content_front BlockKind.Other order interfaces block = Ok (Other (length block))
 
 -- for a type that is read: the block has to be whole, with its length repeated at its end
-abbrev pub read_front : Frame → List Interface → List ℕ → Result Front FaultKind
+abbrev pub read_front : Frame → List CaptureInterface → List ℕ → Result Front FaultKind
 read_front frame interfaces bytes =
     if nat_lt (length bytes) frame.length then Ok (Short frame.length)
     else (if not (number_at frame.order 4 (frame.length - 4) bytes == frame.length) then Err BlockLength
@@ -45,10 +45,10 @@ front_by_kind BlockKind.Enhanced size front = front
 front_by_kind BlockKind.Other size front = Ok (Other size)
 
 -- a block of another type is not looked at
-abbrev pub framed_front : Frame → List Interface → List ℕ → Result Front FaultKind
+abbrev pub framed_front : Frame → List CaptureInterface → List ℕ → Result Front FaultKind
 framed_front frame interfaces bytes = front_by_kind frame.kind frame.length (read_front frame interfaces bytes)
 
-abbrev pub block_front : Order → List Interface → List ℕ → Result Front FaultKind
+abbrev pub block_front : Order → List CaptureInterface → List ℕ → Result Front FaultKind
 block_front order interfaces bytes =
     if nat_lt (length bytes) 12 then Ok (Short 12)
     else and_then (frame_of order bytes) (λ frame. framed_front frame interfaces bytes)

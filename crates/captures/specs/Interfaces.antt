@@ -4,14 +4,14 @@ use Rattle.std.specs.Prelude.{ℕ, ◌-◌, List, length, slice_range, Result, O
 use Rattle.captures.specs.declared.fault.FaultKind.{FaultKind}
 use Rattle.captures.specs.declared.front.Front.{Front}
 use Rattle.captures.specs.declared.front.Front.TheVariants.{Declared}
-use Rattle.captures.specs.declared.interface.Interface.{Interface}
+use Rattle.captures.specs.declared.interface.CaptureInterface.{CaptureInterface}
 use Rattle.captures.specs.declared.order.Order.{Order}
 use Rattle.captures.specs.declared.time.Timing.{Timing}
 use Rattle.captures.specs.Numbers.{number_at}
 use Rattle.captures.specs.Options.{timing_of}
 use Rattle.captures.specs.Steps.{and_then}
 
-abbrev pub interface_of : Order → List ℕ → Timing → Interface
+abbrev pub interface_of : Order → List ℕ → Timing → CaptureInterface
 interface_of order block timing = record {
   link = number_at order 2 8 block;
   snap_length = number_at order 4 12 block;

@@ -6,7 +6,7 @@ use Rattle.captures.specs.declared.fault.FaultKind.TheVariants.{PacketLength, No
 use Rattle.captures.specs.declared.front.Front.{Front}
 use Rattle.captures.specs.declared.front.Front.TheVariants.{Captured}
 use Rattle.captures.specs.declared.front.TheConstants.{MOST_CAPTURED}
-use Rattle.captures.specs.declared.interface.Interface.{Interface}
+use Rattle.captures.specs.declared.interface.CaptureInterface.{CaptureInterface}
 use Rattle.captures.specs.declared.order.Order.{Order}
 use Rattle.captures.specs.Numbers.{number_at}
 use Rattle.captures.specs.Times.{time_of}
@@ -20,7 +20,7 @@ is_too_long captured room = nat_lt room captured || nat_lt MOST_CAPTURED capture
 abbrev pub units_in : Order → List ℕ → ℕ
 units_in order block = number_at order 4 12 block * 4294967296 + number_at order 4 16 block
 
-abbrev pub timed_at : Order → Interface → List ℕ → Option ℕ → Result Front FaultKind
+abbrev pub timed_at : Order → CaptureInterface → List ℕ → Option ℕ → Result Front FaultKind
 timed_at order interface block None = Err Resolution
 timed_at order interface block (Some time) = Ok (Captured (record {
   time = Some time;
@@ -30,17 +30,17 @@ timed_at order interface block (Some time) = Ok (Captured (record {
   captured = number_at order 4 20 block;
 }) (length block))
 
-abbrev pub timed_in : Order → Interface → List ℕ → Result Front FaultKind
+abbrev pub timed_in : Order → CaptureInterface → List ℕ → Result Front FaultKind
 timed_in order interface block =
     if is_too_long (number_at order 4 20 block) (length block - 32) then Err PacketLength
     else timed_at order interface block (time_of interface.timing (units_in order block))
 
-abbrev pub timed_of : Order → Option Interface → List ℕ → Result Front FaultKind
+abbrev pub timed_of : Order → Option CaptureInterface → List ℕ → Result Front FaultKind
 timed_of order None block = Err NoInterface
 timed_of order (Some interface) block = timed_in order interface block
 
 -- for the interface of a number
-abbrev pub timed_front : Order → ℕ → List Interface → List ℕ → Result Front FaultKind
+abbrev pub timed_front : Order → ℕ → List CaptureInterface → List ℕ → Result Front FaultKind
 timed_front order number interfaces block = timed_of order (slice_get interfaces number) block
 
 -- ---- simple packets: the length on the wire, and the bytes
@@ -49,10 +49,10 @@ timed_front order number interfaces block = timed_of order (slice_get interfaces
 abbrev pub snapped : ℕ → ℕ → ℕ
 snapped snap_length wire_length = if snap_length == 0 then wire_length else min snap_length wire_length
 
-abbrev pub simple_captured : Order → Interface → List ℕ → ℕ
+abbrev pub simple_captured : Order → CaptureInterface → List ℕ → ℕ
 simple_captured order interface block = snapped interface.snap_length (number_at order 4 8 block)
 
-abbrev pub simple_in : Order → Interface → List ℕ → Result Front FaultKind
+abbrev pub simple_in : Order → CaptureInterface → List ℕ → Result Front FaultKind
 simple_in order interface block =
     if is_too_long (simple_captured order interface block) (length block - 16) then Err PacketLength
     else Ok (Captured (record {
@@ -63,10 +63,10 @@ simple_in order interface block =
       captured = simple_captured order interface block;
     }) (length block))
 
-abbrev pub simple_of : Order → Option Interface → List ℕ → Result Front FaultKind
+abbrev pub simple_of : Order → Option CaptureInterface → List ℕ → Result Front FaultKind
 simple_of order None block = Err NoInterface
 simple_of order (Some interface) block = simple_in order interface block
 
 -- for the first interface
-abbrev pub simple_front : Order → List Interface → List ℕ → Result Front FaultKind
+abbrev pub simple_front : Order → List CaptureInterface → List ℕ → Result Front FaultKind
 simple_front order interfaces block = simple_of order (slice_get interfaces 0) block

@@ -4,7 +4,7 @@ use Rattle.captures.specs.declared.fault.FaultKind.{FaultKind}
 use Rattle.captures.specs.declared.fault.FaultKind.TheVariants.{Version, PacketLength}
 use Rattle.captures.specs.declared.front.Front.{Front}
 use Rattle.captures.specs.declared.front.Front.TheVariants.{Short, Header, Captured}
-use Rattle.captures.specs.declared.front.Format.TheVariants.{Pcap}
+use Rattle.captures.specs.declared.front.CaptureFormat.TheVariants.{Pcap}
 use Rattle.captures.specs.declared.front.TheConstants.{MOST_CAPTURED}
 use Rattle.captures.specs.declared.order.Order.{Order}
 use Rattle.captures.specs.declared.order.Order.TheVariants.{Big, Little}

@@ -5,9 +5,9 @@ use Rattle.input_reading.specs.declared.fault.ReadFault.{ReadFault}
 use Rattle.captures.specs.declared.capture.Part.{Part}
 use Rattle.captures.specs.Reading.{front_of, IsPart}
 use Rattle.captures.specs.declared.capture_error.CaptureError.{CaptureError}
-use Rattle.captures.specs.declared.reader.Step.{Step}
-use Rattle.captures.specs.declared.reader.Step.TheVariants.{On, Packet, End}
-use Rattle.captures.specs.Positions.{Position, GoesOn, IsWhole, Stops, shown}
+use Rattle.captures.specs.declared.reader.ReadStep.{ReadStep}
+use Rattle.captures.specs.declared.reader.ReadStep.TheVariants.{On, Packet, End}
+use Rattle.captures.specs.Positions.{Position, GoesOn, IsAtEnding, Stops, shown}
 
 -- less than a whole part is pending, and nothing is before it
 pub record IsShort (p : Position) : Type 0 where
@@ -16,12 +16,12 @@ pub record IsShort (p : Position) : Type 0 where
   pub near : p.ahead ≡ 0
 
 -- the result of a step that does not fail
-abbrev pub StepsTo : (old : Position) (before : Option (List ℕ)) (new : Position) (after : Option (List ℕ)) (bytes : List ℕ) → Step → Type 0
+abbrev pub StepsTo : (old : Position) (before : Option (List ℕ)) (new : Position) (after : Option (List ℕ)) (bytes : List ℕ) → ReadStep → Type 0
 StepsTo old before new after bytes On = GoesOn old before new after []
 StepsTo old before new after bytes (Packet head) = GoesOn old before new after (shown head bytes ∷ [])
-StepsTo old before new after bytes End = GoesOn old before new after [] × IsWhole new after
+StepsTo old before new after bytes End = GoesOn old before new after [] × IsAtEnding new after
 
-abbrev pub Steps : (old : Position) (before : Option (List ℕ)) (new : Position) (after : Option (List ℕ)) (bytes : List ℕ) → Result Step CaptureError → Type 0
+abbrev pub Steps : (old : Position) (before : Option (List ℕ)) (new : Position) (after : Option (List ℕ)) (bytes : List ℕ) → Result ReadStep CaptureError → Type 0
 Steps old before new after bytes result =
     MatchResult result (StepsTo old before new after bytes) (λ error. GoesOn old before new after [] × Stops error new after)
 

@@ -1,51 +1,51 @@
 -- The reading of a capture, part by part.
 use Rattle.std.specs.Prelude.{ℕ, ◌≡◌, ◌<◌, ◌≤◌, Bool, true, false, List, [], ◌∷◌, ◌++◌, length, take, drop, Result, Ok, Err, MatchResult}
-use Rattle.captures.specs.declared.capture.Packet.{Packet}
+use Rattle.captures.specs.declared.capture.CapturedPacket.{CapturedPacket}
 use Rattle.captures.specs.declared.capture.Part.{Part}
 use Rattle.captures.specs.declared.fault.FaultKind.{FaultKind}
 use Rattle.captures.specs.declared.fault.ReadError.{ReadError}
 use Rattle.captures.specs.declared.fault.ReadError.TheVariants.{Fault, Memory}
 use Rattle.captures.specs.declared.front.TheConstants.{MOST_CAPTURED}
-use Rattle.captures.specs.declared.front.Format.{Format}
-use Rattle.captures.specs.declared.front.Format.TheVariants.{Unread, Pcap, Section}
+use Rattle.captures.specs.declared.front.CaptureFormat.{CaptureFormat}
+use Rattle.captures.specs.declared.front.CaptureFormat.TheVariants.{Unread, Pcap, Section}
 use Rattle.captures.specs.declared.front.Front.{Front}
 use Rattle.captures.specs.declared.front.Front.TheVariants.{Short, Header, Declared, Other, Captured}
 use Rattle.captures.specs.declared.front.PacketHeader.{PacketHeader}
-use Rattle.captures.specs.declared.interface.Interface.{Interface}
+use Rattle.captures.specs.declared.interface.CaptureInterface.{CaptureInterface}
 use Rattle.captures.specs.Blocks.{block_front}
 use Rattle.captures.specs.Fronts.{IsSettledBy}
 use Rattle.captures.specs.Opening.{opening_front}
 use Rattle.captures.specs.Pcap.{packet_front}
 
 -- the state of a capture: its format, and in a section of a pcapng the interfaces
-pub record State : Type 0 where
-  pub format : Format
-  pub interfaces : List Interface
+pub record CaptureState : Type 0 where
+  pub format : CaptureFormat
+  pub interfaces : List CaptureInterface
 
 -- nothing was read
-abbrev pub unread : State
+abbrev pub unread : CaptureState
 unread = record { format = Unread; interfaces = [] }
 
-abbrev pub is_read : Format → Bool
+abbrev pub is_read : CaptureFormat → Bool
 is_read Unread = false
 is_read (Pcap file) = true
 is_read (Section order) = true
 
 -- a header was read
-abbrev pub has_begun : State → Bool
+abbrev pub has_begun : CaptureState → Bool
 has_begun s = is_read s.format
 
-abbrev pub front_in : Format → List Interface → List ℕ → Result Front FaultKind
+abbrev pub front_in : CaptureFormat → List CaptureInterface → List ℕ → Result Front FaultKind
 front_in Unread interfaces bytes = opening_front bytes
 front_in (Pcap file) interfaces bytes = packet_front file bytes
 front_in (Section order) interfaces bytes = block_front order interfaces bytes
 
 -- the item at the start of the bytes
-abbrev pub front_of : State → List ℕ → Result Front FaultKind
+abbrev pub front_of : CaptureState → List ℕ → Result Front FaultKind
 front_of s bytes = front_in s.format s.interfaces bytes
 
 -- the packet of a header, with its bytes
-pub record IsPacketOf (header : PacketHeader) (all : List ℕ) (packet : Packet) : Type 0 where
+pub record IsPacketOf (header : PacketHeader) (all : List ℕ) (packet : CapturedPacket) : Type 0 where
   pub time : packet.time ≡ header.time
   pub link : packet.link ≡ header.link
   pub wire_length : packet.wire_length ≡ header.wire_length
@@ -64,12 +64,12 @@ IsPartInReach bytes (Part.Skip size) = 0 < size
 IsPartInReach bytes (Part.Packet packet size) = (0 < size) × (size ≤ length bytes) × (length packet.bytes.now ≤ MOST_CAPTURED)
 
 -- bytes that follow do not change the first item, unless it was short and they are enough
-abbrev pub IsSteady : State → List ℕ → Type 0
+abbrev pub IsSteady : CaptureState → List ℕ → Type 0
 IsSteady s bytes =
     (more : List ℕ) → IsSettledBy (length (bytes ++ more)) (front_of s bytes) → front_of s (bytes ++ more) ≡ front_of s bytes
 
 -- the state after an item
-abbrev pub state_behind : Front → State → State
+abbrev pub state_behind : Front → CaptureState → CaptureState
 state_behind (Short needed) s = s
 state_behind (Header format size) s = record { format = format; interfaces = [] }
 state_behind (Declared interface size) s = record s { interfaces = s.interfaces ++ interface ∷ [] }
@@ -93,9 +93,9 @@ MayLackMemory (Other size) = ⊥
 MayLackMemory (Captured header size) = ⊥
 
 -- the answer to an item, and the state after it
-abbrev pub Answers : Result Front FaultKind → List ℕ → (old new : State) → Result Part ReadError → Type 0
-Answers (Err fault) bytes old new result = (result ≡ Err (Fault fault)) × (new ≡ old)
-Answers (Ok front) bytes old new result =
+abbrev pub IsFrontAnswer : Result Front FaultKind → List ℕ → (old new : CaptureState) → Result Part ReadError → Type 0
+IsFrontAnswer (Err fault) bytes old new result = (result ≡ Err (Fault fault)) × (new ≡ old)
+IsFrontAnswer (Ok front) bytes old new result =
     MatchResult result
     (λ part. IsPart front bytes part × (new ≡ state_behind front old))
     (λ error. (error ≡ Memory) × MayLackMemory front × (new ≡ old))

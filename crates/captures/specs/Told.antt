@@ -2,29 +2,29 @@
 use Rattle.std.specs.Prelude.{ℕ, ◌≡◌, ◌+◌, ◌^◌, ◌<◌, ◌≤◌, List, ◌++◌, length, drop, Result, Ok, Err}
 use Rattle.captures.specs.declared.fault.FaultKind.{FaultKind}
 use Rattle.captures.specs.declared.frame.BlockKind.{BlockKind}
-use Rattle.captures.specs.declared.front.Format.TheVariants as Format
+use Rattle.captures.specs.declared.front.CaptureFormat.TheVariants as Format
 use Rattle.captures.specs.declared.front.Front.{Front}
 use Rattle.captures.specs.declared.front.Front.TheVariants.{Short, Header, Declared, Other, Captured}
 use Rattle.captures.specs.declared.front.TheConstants.{MOST_CAPTURED}
 use Rattle.captures.specs.declared.order.Order.{Order}
 use Rattle.captures.specs.declared.pcap.PcapFile.{PcapFile}
-use Rattle.captures.specs.Reading.{State, front_of}
+use Rattle.captures.specs.Reading.{CaptureState, front_of}
 use Rattle.captures.specs.Writing.{FilePacket, IsLegalFilePacket, file_packet_bytes}
-use Rattle.captures.specs.WritingBlocks.{block_bytes, IsLegalBody, TimedPacket, IsLegalTimed, interface_body, enhanced_body, obsolete_body, simple_body}
+use Rattle.captures.specs.WritingBlocks.{block_bytes, IsLegalBlockBody, TimedPacket, IsLegalTimed, interface_body, enhanced_body, obsolete_body, simple_body}
 
 -- an interface or a packet is the first item
-abbrev pub IsTold : Result Front FaultKind → Type 0
-IsTold (Err fault) = ⊥
-IsTold (Ok (Short needed)) = ⊥
-IsTold (Ok (Header format size)) = ⊥
-IsTold (Ok (Declared interface size)) = Unit {0}
-IsTold (Ok (Other size)) = ⊥
-IsTold (Ok (Captured header size)) = Unit {0}
+abbrev pub IsContent : Result Front FaultKind → Type 0
+IsContent (Err fault) = ⊥
+IsContent (Ok (Short needed)) = ⊥
+IsContent (Ok (Header format size)) = ⊥
+IsContent (Ok (Declared interface size)) = Unit {0}
+IsContent (Ok (Other size)) = ⊥
+IsContent (Ok (Captured header size)) = Unit {0}
 
 -- bytes that are read as a packet of a pcap were written as one
-abbrev pub WasFilePacket : State → List ℕ → Type 0
+abbrev pub WasFilePacket : CaptureState → List ℕ → Type 0
 WasFilePacket s bytes =
-    (file : PcapFile) → s.format ≡ Format.Pcap file → IsTold (front_of s bytes)
+    (file : PcapFile) → s.format ≡ Format.Pcap file → IsContent (front_of s bytes)
     → (p : FilePacket) × IsLegalFilePacket p × (bytes ≡ file_packet_bytes file.magic.order p ++ drop (16 + length p.bytes) bytes)
 
 -- ---- a pcapng: the body of a block, by the type
@@ -46,23 +46,23 @@ IsSimpleBody order body =
     (wire_length : ℕ) × (packet behind : List ℕ) × (wire_length < 2 ^ 32) × (length packet ≤ MOST_CAPTURED)
     × (body ≡ simple_body order wire_length packet behind)
 
-abbrev pub IsBodyOf : BlockKind → Order → ℕ → List ℕ → Type 0
-IsBodyOf BlockKind.Section order type body = ⊥
-IsBodyOf BlockKind.Interface order type body = (type ≡ 1) × IsInterfaceBody order body
-IsBodyOf BlockKind.Obsolete order type body = (type ≡ 2) × IsObsoleteBody order body
-IsBodyOf BlockKind.Simple order type body = (type ≡ 3) × IsSimpleBody order body
-IsBodyOf BlockKind.Enhanced order type body = (type ≡ 6) × IsEnhancedBody order body
-IsBodyOf BlockKind.Other order type body = ⊥
+abbrev pub IsBlockBodyOf : BlockKind → Order → ℕ → List ℕ → Type 0
+IsBlockBodyOf BlockKind.Section order type body = ⊥
+IsBlockBodyOf BlockKind.Interface order type body = (type ≡ 1) × IsInterfaceBody order body
+IsBlockBodyOf BlockKind.Obsolete order type body = (type ≡ 2) × IsObsoleteBody order body
+IsBlockBodyOf BlockKind.Simple order type body = (type ≡ 3) × IsSimpleBody order body
+IsBlockBodyOf BlockKind.Enhanced order type body = (type ≡ 6) × IsEnhancedBody order body
+IsBlockBodyOf BlockKind.Other order type body = ⊥
 
 -- an item that is read as an interface or a packet of a pcapng was written as such a block, in the
 -- byte order of the section
-abbrev pub WasBlock : State → List ℕ → Type 0
+abbrev pub WasBlock : CaptureState → List ℕ → Type 0
 WasBlock s bytes =
-    (order : Order) → s.format ≡ Format.Section order → IsTold (front_of s bytes)
-    → (kind : BlockKind) × (type : ℕ) × (body : List ℕ) × IsBodyOf kind order type body × IsLegalBody body
+    (order : Order) → s.format ≡ Format.Section order → IsContent (front_of s bytes)
+    → (kind : BlockKind) × (type : ℕ) × (body : List ℕ) × IsBlockBodyOf kind order type body × IsLegalBlockBody body
     × (bytes ≡ block_bytes order type body ++ drop (12 + length body) bytes)
 
 -- all that is read was written
-pub record WasWritten (s : State) (bytes : List ℕ) : Type 0 where
+pub record WasWritten (s : CaptureState) (bytes : List ℕ) : Type 0 where
   pub file_packet : WasFilePacket s bytes
   pub block : WasBlock s bytes

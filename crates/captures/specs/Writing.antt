@@ -1,7 +1,7 @@
 -- Captures as they are written, field by field. They are read as they were written.
 use Rattle.std.specs.Prelude.{ℕ, ◌≡◌, ◌+◌, ◌*◌, ◌^◌, ◌<◌, ◌≤◌, List, ◌++◌, length, Some, Ok}
 use Rattle.byteorder.specs.Endian.{big_bytes, little_bytes}
-use Rattle.captures.specs.declared.front.Format.{Format}
+use Rattle.captures.specs.declared.front.CaptureFormat.{CaptureFormat}
 use Rattle.captures.specs.declared.front.Front.TheVariants.{Header, Captured}
 use Rattle.captures.specs.declared.front.TheConstants.{MOST_CAPTURED}
 use Rattle.captures.specs.declared.order.Order.{Order}
@@ -11,7 +11,7 @@ use Rattle.captures.specs.declared.pcap.Fraction.TheVariants.{Micro, Nano}
 use Rattle.captures.specs.declared.pcap.Magic.{Magic}
 use Rattle.captures.specs.declared.pcap.PcapFile.{PcapFile}
 use Rattle.captures.specs.Pcap.{nanoseconds_of}
-use Rattle.captures.specs.Reading.{State, front_of}
+use Rattle.captures.specs.Reading.{CaptureState, front_of}
 
 -- a number in `size` bytes
 abbrev pub number_bytes : Order → ℕ → ℕ → List ℕ
@@ -43,11 +43,11 @@ file_bytes h =
     ++ number_bytes h.magic.order 4 (h.high * 65536 + h.link)
 
 -- the header of a pcap in front is read as it
-abbrev pub ReadsFileHeader : State → List ℕ → Type 0
+abbrev pub ReadsFileHeader : CaptureState → List ℕ → Type 0
 ReadsFileHeader s bytes =
-    (h : FileHeader) (rest : List ℕ) → s.format ≡ Format.Unread → h.link < 2 ^ 16 → h.high < 2 ^ 16
+    (h : FileHeader) (rest : List ℕ) → s.format ≡ CaptureFormat.Unread → h.link < 2 ^ 16 → h.high < 2 ^ 16
     → bytes ≡ file_bytes h ++ rest
-    → front_of s bytes ≡ Ok (Header (Format.Pcap (record { magic = h.magic; link = h.link })) 24)
+    → front_of s bytes ≡ Ok (Header (CaptureFormat.Pcap (record { magic = h.magic; link = h.link })) 24)
 
 pub record FilePacket : Type 0 where
   pub seconds : ℕ
@@ -70,9 +70,9 @@ pub record IsLegalFilePacket (p : FilePacket) : Type 0 where
   pub bytes : length p.bytes ≤ MOST_CAPTURED
 
 -- the packet of a pcap in front is read as it
-abbrev pub ReadsFilePacket : State → List ℕ → Type 0
+abbrev pub ReadsFilePacket : CaptureState → List ℕ → Type 0
 ReadsFilePacket s bytes =
-    (file : PcapFile) (p : FilePacket) (rest : List ℕ) → s.format ≡ Format.Pcap file → IsLegalFilePacket p
+    (file : PcapFile) (p : FilePacket) (rest : List ℕ) → s.format ≡ CaptureFormat.Pcap file → IsLegalFilePacket p
     → bytes ≡ file_packet_bytes file.magic.order p ++ rest
     → front_of s bytes ≡ Ok (Captured (record {
       time = Some (nanoseconds_of file.magic.fraction p.seconds p.fraction);

@@ -7,15 +7,15 @@ ghost use Rattle.captures.specs.Fronts.{IsInReach};
 
 use crate::fault::FaultKind;
 use crate::frame::{BlockKind, FRAME, Frame, frame_in};
-use crate::front::{Format, Front};
-use crate::interface::{Interface, interface_front_in};
+use crate::front::{CaptureFormat, Front};
+use crate::interface::{CaptureInterface, interface_front_in};
 use crate::order::Order;
 use crate::packets::{simple_front_in, timed_front_in};
 
 /// Reads the block at the start of the bytes, in a section of this byte order.
 pub(crate) fn block_front_in(
     order: Order,
-    interfaces: &[Interface],
+    interfaces: &[CaptureInterface],
     bytes: &[u8],
 ) -> Result<Front, FaultKind>
     ensures front { result ≡ block_front order interfaces.now bytes.now }
@@ -29,7 +29,11 @@ pub(crate) fn block_front_in(
 }
 
 // Reads the block at the start of the bytes, whose frame is known.
-fn framed_front_in(frame: Frame, interfaces: &[Interface], bytes: &[u8]) -> Result<Front, FaultKind>
+fn framed_front_in(
+    frame: Frame,
+    interfaces: &[CaptureInterface],
+    bytes: &[u8],
+) -> Result<Front, FaultKind>
     requires { IsFrame frame }
     ensures front { result ≡ framed_front frame interfaces.now bytes.now }
     ensures reach { IfOk result (IsInReach bytes.now) }
@@ -54,7 +58,7 @@ fn framed_front_in(frame: Frame, interfaces: &[Interface], bytes: &[u8]) -> Resu
 // Reads the content of a whole block.
 fn content_front_in(
     frame: Frame,
-    interfaces: &[Interface],
+    interfaces: &[CaptureInterface],
     block: &[u8],
 ) -> Result<Front, FaultKind>
     requires { least_length frame.kind ≤ length block.now }
@@ -90,5 +94,5 @@ fn section_front_in(order: Order, block: &[u8]) -> Result<Front, FaultKind>
     if order.u16_at(block, 12) != 1 {
         return Err(FaultKind::Version);
     }
-    Ok(Front::Header(Format::Section(order), block.len()))
+    Ok(Front::Header(CaptureFormat::Section(order), block.len()))
 }

@@ -1,7 +1,7 @@
 //! The state of a capture that is being read.
 
 ghost use Rattle.std.specs.Prelude.{◌≡◌, ◌≢◌, ◌↔◌, ◌+◌, ◌≤◌, IsTrue, IfOk, length};
-ghost use Rattle.captures.specs.Reading.{unread, front_of, Answers, IsPartInReach, IsSteady};
+ghost use Rattle.captures.specs.Reading.{unread, front_of, IsFrontAnswer, IsPartInReach, IsSteady};
 ghost use Rattle.captures.specs.Reading.{IsPacketOf, has_begun};
 ghost use Rattle.captures.specs.Fronts.{IsInReach};
 ghost use Rattle.captures.specs.Written.{ReadsWritten};
@@ -11,8 +11,8 @@ ghost use Rattle.captures.specs.RunsOfBlocks.{ReadsSections};
 
 use crate::block::block_front_in;
 use crate::fault::{FaultKind, ReadError};
-use crate::front::{Format, Front, PacketHeader};
-use crate::interface::Interface;
+use crate::front::{CaptureFormat, Front, PacketHeader};
+use crate::interface::CaptureInterface;
 use crate::opening::opening_front_in;
 use crate::pcap::packet_front_in;
 use std::alloc::Global;
@@ -21,8 +21,8 @@ use std::marker::Model;
 /// The format of a capture, as far as it was read, and the interfaces that its section has
 /// declared.
 pub struct Capture {
-    format: Format,
-    interfaces: Vec<Interface>,
+    format: CaptureFormat,
+    interfaces: Vec<CaptureInterface>,
 }
 
 // proof: a value is dropped by one call, not part by part at each exit of a function.
@@ -45,12 +45,15 @@ pub enum Part<'a> {
     /// start of this one, which may be past the bytes that were passed.
     Skip(usize),
     /// A packet. The next part begins `length` bytes after the start of this one.
-    Packet { packet: Packet<'a>, length: usize },
+    Packet {
+        packet: CapturedPacket<'a>,
+        length: usize,
+    },
 }
 
 /// A captured packet.
 #[derive(Clone, Copy, Debug, PartialEq, Eq)]
-pub struct Packet<'a> {
+pub struct CapturedPacket<'a> {
     /// The time of the packet in nanoseconds since the beginning of 1970, UTC. `None` for a simple
     /// packet of a pcapng, which has no time.
     pub time: Option<u64>,
@@ -64,9 +67,9 @@ pub struct Packet<'a> {
 
 /// Contracts see the format, as far as the headers give it, and the interfaces in their order.
 impl Model for Capture {
-    ghost use Rattle.captures.specs.Reading.{State};
+    ghost use Rattle.captures.specs.Reading.{CaptureState};
 
-    ghost Value = { State };
+    ghost Value = { CaptureState };
 
     ghost view = { λ c. record { format = c.format; interfaces = c.interfaces.items } };
 }
@@ -80,7 +83,7 @@ impl Capture {
         ensures sections { ReadsSections result }
     {
         Capture {
-            format: Format::Unread,
+            format: CaptureFormat::Unread,
             interfaces: Vec::new(alloc),
         }
     }
@@ -90,7 +93,7 @@ impl Capture {
     pub fn has_begun(&self) -> bool
         ensures { result ≡ has_begun self.now }
     {
-        !matches!(self.format, Format::Unread)
+        !matches!(self.format, CaptureFormat::Unread)
     }
 
     /// Reads the part at the start of `bytes`, which begin where the last part ended.
@@ -104,7 +107,7 @@ impl Capture {
     /// Returns the fault of the bytes (62 to 68), or `Memory` if memory runs out for an interface
     /// of a pcapng. The capture is then unchanged.
     pub fn read_part<'a>(&mut self, bytes: &'a [u8]) -> Result<Part<'a>, ReadError>
-        ensures answer { Answers (front_of self.old bytes.now) bytes.now self.old self.new result }
+        ensures answer { IsFrontAnswer (front_of self.old bytes.now) bytes.now self.old self.new result }
         ensures reach { IfOk result (IsPartInReach bytes.now) }
         // How many bytes are passed at once does not change how the part is read.
         ensures steady { IsSteady self.old bytes.now }
@@ -138,19 +141,19 @@ impl Capture {
         ensures reach { IfOk result (IsInReach bytes.now) }
     {
         match self.format {
-            Format::Unread => opening_front_in(bytes),
-            Format::Pcap(file) => packet_front_in(file, bytes),
-            Format::Section(order) => block_front_in(order, &self.interfaces, bytes),
+            CaptureFormat::Unread => opening_front_in(bytes),
+            CaptureFormat::Pcap(file) => packet_front_in(file, bytes),
+            CaptureFormat::Section(order) => block_front_in(order, &self.interfaces, bytes),
         }
     }
 }
 
 // Returns the packet of the header, with its bytes.
-fn packet_in(header: PacketHeader, bytes: &[u8]) -> Packet<'_>
+fn packet_in(header: PacketHeader, bytes: &[u8]) -> CapturedPacket<'_>
     requires { header.start + header.captured ≤ length bytes.now }
     ensures { IsPacketOf header bytes.now result }
 {
-    Packet {
+    CapturedPacket {
         time: header.time,
         link: header.link,
         wire_length: header.wire_length,

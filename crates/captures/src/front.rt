@@ -1,6 +1,6 @@
 //! The item at the start of the unread bytes.
 
-use crate::interface::Interface;
+use crate::interface::CaptureInterface;
 use crate::order::Order;
 use crate::pcap::PcapFile;
 
@@ -9,7 +9,7 @@ pub(crate) const MOST_CAPTURED: usize = 262_144;
 
 /// The format of a capture, as far as it was read.
 #[derive(Clone, Copy)]
-pub(crate) enum Format {
+pub(crate) enum CaptureFormat {
     /// Nothing was read yet.
     Unread,
     /// A pcap whose header was read.
@@ -39,9 +39,9 @@ pub(crate) enum Front {
     /// Less than a whole part, with the number of bytes needed.
     Short(usize),
     /// A header, with its length. After it, the capture has this format and no interfaces.
-    Header(Format, usize),
+    Header(CaptureFormat, usize),
     /// A declaration of one more interface, with its length.
-    Declared(Interface, usize),
+    Declared(CaptureInterface, usize),
     /// A block that is not read, with its length.
     Other(usize),
     /// A packet, with the distance from the start to the next part, in bytes.

@@ -12,7 +12,7 @@ use crate::time::Timing;
 
 /// An interface that a section has declared.
 #[derive(Clone, Copy)]
-pub(crate) struct Interface {
+pub(crate) struct CaptureInterface {
     /// The LINKTYPE_ number of its packets.
     pub(crate) link: u16,
     /// The greatest number of bytes of a packet that are captured, or 0 for no limit.
@@ -27,7 +27,7 @@ pub(crate) fn interface_front_in(order: Order, block: &[u8]) -> Result<Front, Fa
     ensures reach { IfOk result (IsInReach block.now) }
 {
     let timing = timing_in(order, &block[16..block.len() - 4])?;
-    let interface = Interface {
+    let interface = CaptureInterface {
         link: order.u16_at(block, 8),
         snap_length: order.u32_at(block, 12),
         timing,

@@ -14,7 +14,7 @@
 //!   claims 4 GB takes no memory.
 //! - For `Skip`, the bytes of the part are dropped. They need not be kept or even read at once:
 //!   only their length counts.
-//! - For `Packet`, the packet is returned, and its bytes are dropped afterwards.
+//! - For `CapturedPacket`, the packet is returned, and its bytes are dropped afterwards.
 //!
 //! `next` stops reading when the next packet is whole. So a pipe or a socket can be read while it
 //! is written.
@@ -39,7 +39,7 @@ mod reader;
 mod time;
 mod window;
 
-pub use capture::{Capture, Packet, Part};
+pub use capture::{Capture, CapturedPacket, Part};
 pub use capture_error::CaptureError;
 pub use fault::{FaultKind, ReadError};
 pub use reader::{PacketHead, PacketReader};

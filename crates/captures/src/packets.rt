@@ -8,7 +8,7 @@ ghost use Rattle.captures.specs.Fronts.{IsInReach};
 
 use crate::fault::FaultKind;
 use crate::front::{Front, MOST_CAPTURED, PacketHeader};
-use crate::interface::Interface;
+use crate::interface::CaptureInterface;
 use crate::order::Order;
 
 /// The length of an enhanced or obsolete packet without bytes and without options.
@@ -18,7 +18,7 @@ const EMPTY_TIMED: usize = 32;
 const EMPTY_SIMPLE: usize = 16;
 
 // Returns the interface with this number.
-fn interface_at(interfaces: &[Interface], number: usize) -> Option<Interface>
+fn interface_at(interfaces: &[CaptureInterface], number: usize) -> Option<CaptureInterface>
     ensures { result ≡ slice_get interfaces.now number }
 {
     interfaces.get(number).copied()
@@ -35,7 +35,7 @@ fn is_past(captured: usize, room: usize) -> bool
 pub(crate) fn timed_front_in(
     order: Order,
     number: usize,
-    interfaces: &[Interface],
+    interfaces: &[CaptureInterface],
     block: &[u8],
 ) -> Result<Front, FaultKind>
     requires { 32 ≤ length block.now }
@@ -50,7 +50,7 @@ pub(crate) fn timed_front_in(
 
 // Reads the packet of a whole enhanced or obsolete block. The fields before the time give its
 // interface.
-fn timed_packet(order: Order, interface: Interface, block: &[u8]) -> Result<Front, FaultKind>
+fn timed_packet(order: Order, interface: CaptureInterface, block: &[u8]) -> Result<Front, FaultKind>
     requires { 32 ≤ length block.now }
     ensures front { result ≡ timed_in order interface block.now }
     ensures reach { IfOk result (IsInReach block.now) }
@@ -83,7 +83,7 @@ fn time_units(order: Order, block: &[u8]) -> u64
 /// Reads the packet of a whole simple block, which belongs to the first interface.
 pub(crate) fn simple_front_in(
     order: Order,
-    interfaces: &[Interface],
+    interfaces: &[CaptureInterface],
     block: &[u8],
 ) -> Result<Front, FaultKind>
     requires { 16 ≤ length block.now }
@@ -97,7 +97,11 @@ pub(crate) fn simple_front_in(
 }
 
 // Reads the packet of a whole simple block, cut to the snap length of its interface.
-fn simple_packet(order: Order, interface: Interface, block: &[u8]) -> Result<Front, FaultKind>
+fn simple_packet(
+    order: Order,
+    interface: CaptureInterface,
+    block: &[u8],
+) -> Result<Front, FaultKind>
     requires { 16 ≤ length block.now }
     ensures front { result ≡ simple_in order interface block.now }
     ensures reach { IfOk result (IsInReach block.now) }

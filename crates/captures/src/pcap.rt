@@ -6,7 +6,7 @@ ghost use Rattle.captures.specs.Pcap.{nanoseconds_of};
 ghost use Rattle.captures.specs.Fronts.{IsInReach};
 
 use crate::fault::FaultKind;
-use crate::front::{Format, Front, MOST_CAPTURED, PacketHeader};
+use crate::front::{CaptureFormat, Front, MOST_CAPTURED, PacketHeader};
 use crate::order::Order;
 
 /// The length of the header of a pcap.
@@ -84,7 +84,7 @@ pub(crate) fn file_front_in(magic: Magic, bytes: &[u8]) -> Result<Front, FaultKi
     }
     let link = link_in(magic.order.u32_at(bytes, 20));
     let file = PcapFile { magic, link };
-    Ok(Front::Header(Format::Pcap(file), FILE_HEADER))
+    Ok(Front::Header(CaptureFormat::Pcap(file), FILE_HEADER))
 }
 
 // Returns the LINKTYPE_ number, which is the low 16 bits of its field.

@@ -9,7 +9,7 @@ ghost use Rattle.captures.specs.declared.window.TheConstants.{LARGEST};
 
 use crate::capture_error::CaptureError;
 use crate::window::Window;
-use crate::{Capture, FaultKind, Packet, Part, ReadError};
+use crate::{Capture, CapturedPacket, FaultKind, Part, ReadError};
 use input_reading::ReadFault;
 use std::alloc::{AllocError, Global};
 use std::io;
@@ -52,7 +52,7 @@ pub struct PacketHead {
 
 /// The outcome of a step.
 #[derive(Clone, Copy)]
-pub(crate) enum Step {
+pub(crate) enum ReadStep {
     /// No packet yet.
     On,
     /// A packet.
@@ -121,9 +121,9 @@ impl PacketReader {
     {
         for _ in 0..usize::MAX {
             match self.step(input, bytes)? {
-                Step::On => {}
-                Step::Packet(head) => return Ok(Some(head)),
-                Step::End => return Ok(None),
+                ReadStep::On => {}
+                ReadStep::Packet(head) => return Ok(Some(head)),
+                ReadStep::End => return Ok(None),
             }
         }
         // proof: the loop ends earlier, as no input has `usize::MAX` parts.
@@ -143,7 +143,7 @@ impl PacketReader {
         &mut self,
         input: &mut R,
         bytes: &mut Vec<u8>,
-    ) -> Result<Step, CaptureError>
+    ) -> Result<ReadStep, CaptureError>
         ensures { Steps self.old (R.remaining input.old) self.new (R.remaining input.new)
             bytes.new.items result }
     {
@@ -154,7 +154,7 @@ impl PacketReader {
             Ok(Part::More(_)) => self.read_further(input),
             Ok(Part::Skip(length)) => {
                 self.ahead = length;
-                Ok(Step::On)
+                Ok(ReadStep::On)
             }
             Ok(Part::Packet { packet, length }) => {
                 bytes.clear();
@@ -166,7 +166,7 @@ impl PacketReader {
                 };
                 self.ahead = length;
                 self.pass_pending();
-                Ok(Step::Packet(head))
+                Ok(ReadStep::Packet(head))
             }
             Err(ReadError::Fault(kind)) => Err(CaptureError::Fault {
                 kind,
@@ -178,19 +178,19 @@ impl PacketReader {
 
     // Consumes the pending bytes before the next part. Reads further if they are not all pending
     // yet.
-    fn pass_ahead<R: io::Read>(&mut self, input: &mut R) -> Result<Step, CaptureError>
+    fn pass_ahead<R: io::Read>(&mut self, input: &mut R) -> Result<ReadStep, CaptureError>
         requires { 0 < self.old.ahead }
         ensures { (bytes : List ℕ) → Steps self.old (R.remaining input.old)
             self.new (R.remaining input.new) bytes result }
     {
         self.pass_pending();
         if self.ahead == 0 {
-            return Ok(Step::On);
+            return Ok(ReadStep::On);
         }
         if self.read_more(input)? == 0 {
             return Err(self.cut_off());
         }
-        Ok(Step::On)
+        Ok(ReadStep::On)
     }
 
     // Consumes the pending bytes before the next part.
@@ -204,17 +204,17 @@ impl PacketReader {
     }
 
     // Reads further, as less than a whole part is pending.
-    fn read_further<R: io::Read>(&mut self, input: &mut R) -> Result<Step, CaptureError>
+    fn read_further<R: io::Read>(&mut self, input: &mut R) -> Result<ReadStep, CaptureError>
         requires short { IsShort self.old }
         requires room { length self.old.pending < LARGEST }
         ensures { (bytes : List ℕ) → Steps self.old (R.remaining input.old)
             self.new (R.remaining input.new) bytes result }
     {
         if self.read_more(input)? > 0 {
-            return Ok(Step::On);
+            return Ok(ReadStep::On);
         }
         if self.is_whole() {
-            return Ok(Step::End);
+            return Ok(ReadStep::End);
         }
         Err(self.cut_off())
     }

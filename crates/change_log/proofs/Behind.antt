@@ -6,10 +6,10 @@ use Rattle.std.specs.Io.KnownBytes.{Consumes, prepend_known}
 use Rattle.input_reading.specs.Taking.{TakesWhole}
 use Rattle.recording.specs.declared.fault.Fault.{Fault}
 use Rattle.recording.specs.declared.fault.Fault.TheVariants as fault
-use Rattle.replay.specs.Stops.{AreWhole}
+use Rattle.replay.specs.Stops.{AreWholeLines}
 use Rattle.replay.specs.declared.buffer.PrintError.{PrintError}
 use Rattle.change_log.specs.Changes.{Give}
-use Rattle.change_log.specs.Following.{Ends, EndsBehind, IsLeft, IsTaken, StopsBehind, StopsIn, StopsTaking}
+use Rattle.change_log.specs.Following.{Ends, EndsBehind, IsLineLeft, IsLineTaken, StopsBehind, StopsIn, StopsTaking}
 use Rattle.change_log.specs.Lines.{Change}
 use Rattle.change_log.specs.declared.following.End.{End}
 use Rattle.change_log.specs.declared.following.End.TheVariants as end
@@ -47,17 +47,17 @@ module _ (old : Run) (kept : List ℕ) (left : Option (List ℕ)) (from : Option
   fault_behind f e = λ text held known whole opens before given. absurd whole
 
   -- the line that ended the preamble has a fault
-  pub line_faults : (at : Fault) (new : Run) (on : Option (List ℕ)) → IsLeft at old new from on → EndsBehind front_end.Line (end.AtFault at) old new kept left left from on
+  pub line_faults : (at : Fault) (new : Run) (on : Option (List ℕ)) → IsLineLeft at old new from on → EndsBehind front_end.Line (end.AtFault at) old new kept left left from on
   line_faults at new on x = λ text held known whole (mid, rest, read, w) before given.
       (mid, rest, read, fault_next before old old mid mid rest rest from from given (so_far_none before old mid rest from) old refl refl refl refl refl refl refl refl kept left w at new on x)
 
   -- it stops at that line
-  pub line_stops : (why : PrintError) (on : Option (List ℕ)) → AreWhole (string_bytes old.buffer) → StopsTaking why old from on → StopsBehind front_end.Line why old kept left left from on
+  pub line_stops : (why : PrintError) (on : Option (List ℕ)) → AreWholeLines (string_bytes old.buffer) → StopsTaking why old from on → StopsBehind front_end.Line why old kept left left from on
   line_stops why on buffer x = λ text held known whole (mid, rest, read, w) before given.
       (mid, rest, read, stops_next before old old mid mid rest rest from from given (so_far_none before old mid rest from) old refl refl refl refl refl refl refl refl kept left w why on buffer x)
 
 -- the line that ended the front was taken
-module _ (old mid new : Run) (kept : List ℕ) (left further : Option (List ℕ)) (from on to : Option (List ℕ)) (x : IsTaken old mid from on × (mid.at.number ≡ old.at.number + 1)) where
+module _ (old mid new : Run) (kept : List ℕ) (left further : Option (List ℕ)) (from on to : Option (List ℕ)) (x : IsLineTaken old mid from on × (mid.at.number ≡ old.at.number + 1)) where
   first : (held : List ℕ) (known : Option (List ℕ)) → TakesWhole held known kept left old.line.items → (before : List Change) → Give before old.core → SoFar before old mid held kept known left from on
   first held known w before given = so_far_more before old old held held known known from from given (so_far_none before old held known from) old refl refl refl refl refl refl refl refl kept left w mid on x
 
@@ -67,7 +67,7 @@ module _ (old mid new : Run) (kept : List ℕ) (left further : Option (List ℕ)
       (m, rest, read, ends_on before old mid m kept rest left from on given h further e new to (f h.followed.told.after (given_on before old mid m kept rest left from on given h further)))
   lines_end (Err why) f = tt
 
-  pub lines_stop : (r : Result End PrintError) → AreWhole (string_bytes old.buffer) → ((before : List Change) → Give before mid.core → AreWhole (string_bytes mid.buffer) → IfErr r (λ why. StopsIn why before mid kept left further on to))
+  pub lines_stop : (r : Result End PrintError) → AreWholeLines (string_bytes old.buffer) → ((before : List Change) → Give before mid.core → AreWholeLines (string_bytes mid.buffer) → IfErr r (λ why. StopsIn why before mid kept left further on to))
       → IfErr r (λ why. StopsBehind front_end.Line why old kept left further from to)
   lines_stop (Ok e) buffer f = tt
   lines_stop (Err why) buffer f = λ text held known whole (m, rest, read, w) before given.

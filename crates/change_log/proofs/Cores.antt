@@ -13,7 +13,7 @@ use Rattle.event_state.specs.declared.base.Base.{Base}
 use Rattle.event_state.specs.declared.event.Event.{Event}
 use Rattle.event_state.specs.declared.limits.Limits.{Limits}
 use Rattle.event_state.specs.declared.refusal.Refusal.{Refusal}
-use Rattle.event_state.specs.States.{AreApart, State, inputs_of}
+use Rattle.event_state.specs.States.{AreAreasApart, State, inputs_of}
 use Rattle.event_state.specs.Steps.{run_of}
 use Rattle.event_state.proofs.Configs.{sound_apart}
 use Rattle.event_state.proofs.Faultless.{faultless}
@@ -70,7 +70,7 @@ core_ids c core = due_ids c.base c.limits (take c.built c.journal) c.summaries c
 
 -- ---- no area is there twice
 
-apart_distinct : (areas : List AreaConfig) → AreApart areas → AreDistinct (config_ids areas)
+apart_distinct : (areas : List AreaConfig) → AreAreasApart areas → AreDistinct (config_ids areas)
 apart_distinct [] apart = tt
 apart_distinct (a ∷ areas) apart = (
   λ there. let (b, has, is) = mapped_from (λ (x : AreaConfig). x.id) areas a.id there in

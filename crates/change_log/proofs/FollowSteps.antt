@@ -13,16 +13,16 @@ use Rattle.change_log.specs.declared.printing.ChangeFilter.{ChangeFilter}
 use Rattle.recording.specs.declared.fault.Fault.{Fault}
 use Rattle.recording.specs.declared.fault.Fault.TheVariants as fault
 use Rattle.recording.specs.declared.version.Version.{Version}
-use Rattle.replay.specs.Pages.{Adds, AddsPart}
-use Rattle.replay.specs.Stops.{AreWhole}
+use Rattle.replay.specs.Pages.{AddsLines, AddsPart}
+use Rattle.replay.specs.Stops.{AreWholeLines}
 use Rattle.replay.specs.declared.buffer.PrintError.{PrintError}
 use Rattle.replay.specs.declared.buffer.PrintError.TheVariants as stop
 use Rattle.replay.proofs.Paging.{adds_more, adds_moved, adds_none, page_whole, part_more, part_moved, part_now}
 use Rattle.change_log.specs.Changes.{Give}
-use Rattle.change_log.specs.Following.{Ends, IsAtFault, IsFirst, IsFollowed, IsLeft, IsTaken, StopsIn, StopsTaking, Takes, Tells}
+use Rattle.change_log.specs.Following.{Ends, IsAtFault, IsFirstTaken, AreBytesFollowed, IsLineLeft, IsLineTaken, StopsIn, StopsTaking, TakesOneLine, ReportsLine}
 use Rattle.change_log.specs.Lines.{AtFault, Change, lines_of}
 use Rattle.change_log.specs.Runs.{Comes, Fails, Says, StopsAtTaken, Taken, TellsLines, TellsTaken, ToldPart, ToldTaken}
-use Rattle.change_log.specs.Streams.{AllSay, AreTaken, ComesFrom, IsReadAs}
+use Rattle.change_log.specs.Streams.{NoneFails, AreLinesTaken, ComesFrom, IsLineReadAs}
 use Rattle.change_log.specs.declared.following.End.{End}
 use Rattle.change_log.specs.declared.following.End.TheVariants as end
 use Rattle.change_log.specs.declared.following.Run.{Run}
@@ -36,17 +36,17 @@ none_lost held known = ([], Consumes-nil (prepend_known held known))
 
 -- ---- the lines that were taken
 
-taken_more : (v : Version) (bytes raw : List ℕ) (taken : List Taken) (t : Taken) → AreTaken v bytes taken → HasNoLineFeed raw → IsReadAs v (shortened raw) t → AreTaken v (bytes ++ (raw ++ 10 ∷ [])) (taken ++ t ∷ [])
+taken_more : (v : Version) (bytes raw : List ℕ) (taken : List Taken) (t : Taken) → AreLinesTaken v bytes taken → HasNoLineFeed raw → IsLineReadAs v (shortened raw) t → AreLinesTaken v (bytes ++ (raw ++ 10 ∷ [])) (taken ++ t ∷ [])
 taken_more v bytes raw [] t none one reads = (raw, [], one, reads, ap (λ l. l ++ (raw ++ 10 ∷ [])) none, refl)
 taken_more v bytes raw (x ∷ taken) t (first, rest, has, says, is, more) one reads =
     (first, rest ++ (raw ++ 10 ∷ []), has, says, ap (λ l. l ++ (raw ++ 10 ∷ [])) is ∙ append_assoc first (10 ∷ rest) (raw ++ 10 ∷ []), taken_more v rest raw taken t more one reads)
 
-taken_all : (v : Version) (bytes others : List ℕ) (taken more : List Taken) → AreTaken v bytes taken → AreTaken v others more → AreTaken v (bytes ++ others) (taken ++ more)
-taken_all v bytes others [] more none lines = subst (λ l. AreTaken v (l ++ others) more) (sym none) lines
+taken_all : (v : Version) (bytes others : List ℕ) (taken more : List Taken) → AreLinesTaken v bytes taken → AreLinesTaken v others more → AreLinesTaken v (bytes ++ others) (taken ++ more)
+taken_all v bytes others [] more none lines = subst (λ l. AreLinesTaken v (l ++ others) more) (sym none) lines
 taken_all v bytes others (x ∷ taken) more (first, rest, has, says, is, left) lines =
     (first, rest ++ others, has, says, ap (λ l. l ++ others) is ∙ append_assoc first (10 ∷ rest) others, taken_all v rest others taken more left lines)
 
-say_more : (taken more : List Taken) → AllSay taken → AllSay more → AllSay (taken ++ more)
+say_more : (taken more : List Taken) → NoneFails taken → NoneFails more → NoneFails (taken ++ more)
 say_more [] more all behind = behind
 say_more (Says l ∷ taken) more all behind = say_more taken more all behind
 say_more (Comes l ∷ taken) more all behind = say_more taken more all behind
@@ -54,7 +54,7 @@ say_more (Fails f ∷ taken) more all behind = absurd all
 
 -- ---- one line
 
-module _ (old : Run) (t : Taken) (reads : IsReadAs old.version old.line.items t) (said : old.skips_faults ≡ false → AllSay (t ∷ [])) (whole : AreWhole (string_bytes old.buffer)) where
+module _ (old : Run) (t : Taken) (reads : IsLineReadAs old.version old.line.items t) (said : old.skips_faults ≡ false → NoneFails (t ∷ [])) (whole : AreWholeLines (string_bytes old.buffer)) where
   abbrev wanted : ChangeFilter
   wanted = old.at.wanted
 
@@ -83,7 +83,7 @@ module _ (old : Run) (t : Taken) (reads : IsReadAs old.version old.line.items t)
   stops_after from to new put h = told_first stop.Memory from to new h.told h.tells (part_now from to (string_bytes old.buffer) put (lines_of old.at.number wanted h.told) whole h.printed)
 
 -- a fault that is reported
-pub fault_tells : (old : Run) (at : Fault) (from to : Option (List ℕ)) (put : List ℕ) → Adds from to (string_bytes old.buffer) put (lines_of old.at.number old.at.wanted (AtFault at ∷ []))
+pub fault_tells : (old : Run) (at : Fault) (from to : Option (List ℕ)) (put : List ℕ) → AddsLines from to (string_bytes old.buffer) put (lines_of old.at.number old.at.wanted (AtFault at ∷ []))
     → ToldTaken old.at.wanted old.at.answers old.core old.at.number (Fails at) old.core from to (string_bytes old.buffer) put
 fault_tells old at from to put printed = record { told = AtFault at ∷ []; tells = (refl, refl); printed = printed }
 
@@ -99,13 +99,13 @@ skipped skips_faults is none = apart (sym is ∙ none)
     apart e = cc
 
 -- the reading of the line, by its own name
-pub read_as : (v : Version) (line given : List ℕ) (t : Taken) → given ≡ line → IsReadAs v given t → IsReadAs v line t
-read_as v line given t is reads = subst (λ (l : List ℕ). IsReadAs v l t) is reads
+pub read_as : (v : Version) (line given : List ℕ) (t : Taken) → given ≡ line → IsLineReadAs v given t → IsLineReadAs v line t
+read_as v line given t is reads = subst (λ (l : List ℕ). IsLineReadAs v l t) is reads
 
 -- the report of the line was passed on, and the next line has the next number
-pub settled : (old mid new : Run) (from to on : Option (List ℕ)) → IsTaken old mid from to × (mid.at.number ≡ old.at.number) → Adds to on (string_bytes mid.buffer) (string_bytes new.buffer) [] → new.at.number ≡ mid.at.number + 1
+pub settled : (old mid new : Run) (from to on : Option (List ℕ)) → IsLineTaken old mid from to × (mid.at.number ≡ old.at.number) → AddsLines to on (string_bytes mid.buffer) (string_bytes new.buffer) [] → new.at.number ≡ mid.at.number + 1
     → new.version ≡ mid.version → new.skips_faults ≡ mid.skips_faults → new.progress ≡ mid.progress → new.at.wanted ≡ mid.at.wanted → new.at.answers ≡ mid.at.answers → new.core ≡ mid.core
-    → IsTaken old new from on × (new.at.number ≡ old.at.number + 1)
+    → IsLineTaken old new from on × (new.at.number ≡ old.at.number + 1)
 settled old mid new from to on (h, counted) moved next version skips_faults progress wanted answers core = (
   record {
     same = record { version = version ∙ h.same.version; skips_faults = skips_faults ∙ h.same.skips_faults; progress = progress ∙ h.same.progress; wanted = wanted ∙ h.same.wanted; answers = answers ∙ h.same.answers };
@@ -123,20 +123,20 @@ settled old mid new from to on (h, counted) moved next version skips_faults prog
   next ∙ ap (λ n. n + 1) counted,
 )
 
-pub told_page : (old mid : Run) (from to : Option (List ℕ)) → IsTaken old mid from to → AreWhole (string_bytes old.buffer) → AreWhole (string_bytes mid.buffer)
+pub told_page : (old mid : Run) (from to : Option (List ℕ)) → IsLineTaken old mid from to → AreWholeLines (string_bytes old.buffer) → AreWholeLines (string_bytes mid.buffer)
 told_page old mid from to h whole = page_whole from to (string_bytes old.buffer) (string_bytes mid.buffer) (lines_of old.at.number old.at.wanted h.told.told) h.told.printed whole
 
-pub takes_none : (left : Option Fault) (old new : Run) (from to : Option (List ℕ)) → left ≡ None → Takes left old new from to → IsTaken old new from to × (new.at.number ≡ old.at.number + 1)
-takes_none left old new from to is h = subst (λ (l : Option Fault). Takes l old new from to) is h
+pub takes_none : (left : Option Fault) (old new : Run) (from to : Option (List ℕ)) → left ≡ None → TakesOneLine left old new from to → IsLineTaken old new from to × (new.at.number ≡ old.at.number + 1)
+takes_none left old new from to is h = subst (λ (l : Option Fault). TakesOneLine l old new from to) is h
 
-pub takes_some : (left : Option Fault) (at : Fault) (old new : Run) (from to : Option (List ℕ)) → left ≡ Some at → Takes left old new from to → IsLeft at old new from to
-takes_some left at old new from to is h = subst (λ (l : Option Fault). Takes l old new from to) is h
+pub takes_some : (left : Option Fault) (at : Fault) (old new : Run) (from to : Option (List ℕ)) → left ≡ Some at → TakesOneLine left old new from to → IsLineLeft at old new from to
+takes_some left at old new from to is h = subst (λ (l : Option Fault). TakesOneLine l old new from to) is h
 
-pub tells_none : (left : Option Fault) (old new : Run) (from to : Option (List ℕ)) → left ≡ None → Tells left old new from to → IsTaken old new from to × (new.at.number ≡ old.at.number)
-tells_none left old new from to is h = subst (λ (l : Option Fault). Tells l old new from to) is h
+pub tells_none : (left : Option Fault) (old new : Run) (from to : Option (List ℕ)) → left ≡ None → ReportsLine left old new from to → IsLineTaken old new from to × (new.at.number ≡ old.at.number)
+tells_none left old new from to is h = subst (λ (l : Option Fault). ReportsLine l old new from to) is h
 
 -- memory ran out before it was taken
-pub stops_before : (old : Run) (from : Option (List ℕ)) → AreWhole (string_bytes old.buffer) → StopsTaking stop.Memory old from from
+pub stops_before : (old : Run) (from : Option (List ℕ)) → AreWholeLines (string_bytes old.buffer) → StopsTaking stop.Memory old from from
 stops_before old from whole = record {
   taken = [];
   reads = tt;
@@ -151,21 +151,21 @@ stops_before old from whole = record {
 }
 
 -- it stops at the line
-pub stops_at : (why : PrintError) (old : Run) (t : Taken) (new : CoreValue) (from to : Option (List ℕ)) → IsReadAs old.version old.line.items t → (old.skips_faults ≡ false → AllSay (t ∷ [])) → AreWhole (string_bytes old.buffer)
+pub stops_at : (why : PrintError) (old : Run) (t : Taken) (new : CoreValue) (from to : Option (List ℕ)) → IsLineReadAs old.version old.line.items t → (old.skips_faults ≡ false → NoneFails (t ∷ [])) → AreWholeLines (string_bytes old.buffer)
     → StopsAtTaken why old.at.wanted old.at.answers old.core old.at.number t new from to (string_bytes old.buffer) → StopsTaking why old from to
 stops_at why old t new from to reads said whole (inl (told, tells, part)) = told_first old t reads said whole why from to new told tells part
 stops_at why old t new from to reads said whole (inr (is, same)) =
     subst (λ (w : PrintError). StopsTaking w old from to) (sym is) (subst (λ (o : Option (List ℕ)). StopsTaking stop.Memory old from o) (sym same) (stops_before old from whole))
 
 -- the report was not passed on whole
-pub told_stops : (why : PrintError) (old mid : Run) (from to on : Option (List ℕ)) → IsTaken old mid from to → AreWhole (string_bytes old.buffer) → AddsPart why to on (string_bytes mid.buffer) → StopsTaking why old from on
+pub told_stops : (why : PrintError) (old mid : Run) (from to on : Option (List ℕ)) → IsLineTaken old mid from to → AreWholeLines (string_bytes old.buffer) → AddsPart why to on (string_bytes mid.buffer) → StopsTaking why old from on
 told_stops why old mid from to on h whole part = stops_behind old h.taken h.reads h.said whole why from to on mid.core (string_bytes mid.buffer) h.told part
 
 -- memory ran out after it
-pub told_memory : (old mid : Run) (from to on : Option (List ℕ)) (buffer : List ℕ) → IsTaken old mid from to → Adds to on (string_bytes mid.buffer) buffer [] → AreWhole (string_bytes old.buffer) → StopsTaking stop.Memory old from on
+pub told_memory : (old mid : Run) (from to on : Option (List ℕ)) (buffer : List ℕ) → IsLineTaken old mid from to → AddsLines to on (string_bytes mid.buffer) buffer [] → AreWholeLines (string_bytes old.buffer) → StopsTaking stop.Memory old from on
 told_memory old mid from to on buffer h moved whole =
     let told : List ℕ = lines_of old.at.number old.at.wanted h.told.told in
-    let all : Adds from on (string_bytes old.buffer) buffer told = adds_moved from to on (string_bytes old.buffer) (string_bytes mid.buffer) buffer told h.told.printed moved in
+    let all : AddsLines from on (string_bytes old.buffer) buffer told = adds_moved from to on (string_bytes old.buffer) (string_bytes mid.buffer) buffer told h.told.printed moved in
     stops_after old h.taken h.reads h.said whole from on mid.core buffer (record { told = h.told.told; tells = h.told.tells; printed = all })
 
 -- ---- lines, one after the other
@@ -174,9 +174,9 @@ told_memory old mid from to on buffer h moved whole =
 pub record SoFar (before : List Change) (old new : Run) (held kept : List ℕ) (known left : Option (List ℕ)) (from to : Option (List ℕ)) : Type 0 where
   pub bytes : List ℕ
   pub read : input.Takes held known kept left bytes
-  pub followed : IsFollowed before bytes old new from to
+  pub followed : AreBytesFollowed before bytes old new from to
 
-pub followed_none : (before : List Change) (old : Run) (from : Option (List ℕ)) → IsFollowed before [] old old from from
+pub followed_none : (before : List Change) (old : Run) (from : Option (List ℕ)) → AreBytesFollowed before [] old old from from
 followed_none before old from = record {
   same = record { version = refl; skips_faults = refl; progress = refl; wanted = refl; answers = refl };
   taken = [];
@@ -191,7 +191,7 @@ so_far_none before old held known from = record { bytes = []; read = Consumes-ni
 
 module _ (before : List Change) (old mid : Run) (held kept : List ℕ) (known left : Option (List ℕ)) (from to : Option (List ℕ))
     (given : Give before old.core) (h : SoFar before old mid held kept known left from to) where
-  abbrev f : IsFollowed before h.bytes old mid from to
+  abbrev f : AreBytesFollowed before h.bytes old mid from to
   f = h.followed
 
   -- ---- a line more, which is in this run
@@ -222,7 +222,7 @@ module _ (before : List Change) (old mid : Run) (held kept : List ℕ) (known le
     given_now = subst (λ (x : CoreValue). Give f.told.after x) (sym core) (gives_after old.at.wanted old.at.answers old.core mid.core old.at.number f.taken before f.told.after f.told.text given f.told.run)
 
     -- the lines of before, to this run
-    pub followed_as : IsFollowed before h.bytes old came from to
+    pub followed_as : AreBytesFollowed before h.bytes old came from to
     followed_as = record {
       same = record { version = version_is; skips_faults = skips_is; progress = progress ∙ f.same.progress; wanted = wanted ∙ f.same.wanted; answers = answers ∙ f.same.answers };
       taken = f.taken;
@@ -233,7 +233,7 @@ module _ (before : List Change) (old mid : Run) (held kept : List ℕ) (known le
         text = f.told.text;
         after = f.told.after;
         run = subst (λ (c : CoreValue). TellsLines old.at.wanted old.at.answers old.core old.at.number f.taken before f.told.text f.told.after c) (sym core) f.told.run;
-        printed = subst (λ (l : List ℕ). Adds from to (string_bytes old.buffer) l f.told.text) (sym buffer) f.told.printed;
+        printed = subst (λ (l : List ℕ). AddsLines from to (string_bytes old.buffer) l f.told.text) (sym buffer) f.told.printed;
       };
     }
 
@@ -244,10 +244,10 @@ module _ (before : List Change) (old mid : Run) (held kept : List ℕ) (known le
       read_more : input.Takes held known next further longer
       read_more = Consumes-trans (prepend_known held known) (prepend_known kept left) (prepend_known next further) h.bytes (w.raw ++ 10 ∷ []) h.read w.taken
 
-      reads_as : (t : Taken) → IsReadAs came.version came.line.items t → IsReadAs old.version (shortened w.raw) t
-      reads_as t reads = subst (λ (l : List ℕ). IsReadAs old.version l t) w.handed_on (subst (λ v. IsReadAs v came.line.items t) version_is reads)
+      reads_as : (t : Taken) → IsLineReadAs came.version came.line.items t → IsLineReadAs old.version (shortened w.raw) t
+      reads_as t reads = subst (λ (l : List ℕ). IsLineReadAs old.version l t) w.handed_on (subst (λ v. IsLineReadAs v came.line.items t) version_is reads)
 
-      pub so_far_more : (new : Run) (on : Option (List ℕ)) → IsTaken came new to on × (new.at.number ≡ came.at.number + 1) → SoFar before old new held next known further from on
+      pub so_far_more : (new : Run) (on : Option (List ℕ)) → IsLineTaken came new to on × (new.at.number ≡ came.at.number + 1) → SoFar before old new held next known further from on
       so_far_more new on (x, next_number) =
           let text : List ℕ = lines_of came.at.number came.at.wanted x.told.told in
           let line = one_line came.at.wanted came.at.answers came.core new.core came.at.number x.taken f.told.after x.told.told x.told.tells
@@ -266,13 +266,13 @@ module _ (before : List Change) (old mid : Run) (held kept : List ℕ) (known le
                 after = f.told.after ++ x.told.told;
                 run = run_more (x.taken ∷ []) text (f.told.after ++ x.told.told) new.core line;
                 printed = adds_more from to on (string_bytes old.buffer) (string_bytes mid.buffer) (string_bytes new.buffer) f.told.text text f.told.printed
-                    (subst (λ (l : List ℕ). Adds to on l (string_bytes new.buffer) text) buffer x.told.printed);
+                    (subst (λ (l : List ℕ). AddsLines to on l (string_bytes new.buffer) text) buffer x.told.printed);
               };
             };
           }
 
       -- it has a fault, and is not taken
-      pub fault_next : (at : Fault) (new : Run) (on : Option (List ℕ)) → IsLeft at came new to on → IsAtFault at before old new held known further from on
+      pub fault_next : (at : Fault) (new : Run) (on : Option (List ℕ)) → IsLineLeft at came new to on → IsAtFault at before old new held known further from on
       fault_next at new on x = record {
         bytes = h.bytes;
         followed = record {
@@ -285,7 +285,7 @@ module _ (before : List Change) (old mid : Run) (held kept : List ℕ) (known le
             text = f.told.text;
             after = f.told.after;
             run = subst (λ (c : CoreValue). TellsLines old.at.wanted old.at.answers old.core old.at.number f.taken before f.told.text f.told.after c) (sym (x.core ∙ core)) f.told.run;
-            printed = subst (λ (l : List ℕ). Adds from on (string_bytes old.buffer) l f.told.text) (sym (x.buffer ∙ buffer)) (subst (λ (o : Option (List ℕ)). Adds from o (string_bytes old.buffer) (string_bytes mid.buffer) f.told.text) (sym x.out) f.told.printed);
+            printed = subst (λ (l : List ℕ). AddsLines from on (string_bytes old.buffer) l f.told.text) (sym (x.buffer ∙ buffer)) (subst (λ (o : Option (List ℕ)). AddsLines from o (string_bytes old.buffer) (string_bytes mid.buffer) f.told.text) (sym x.out) f.told.printed);
           };
         };
         raw = w.raw;
@@ -303,7 +303,7 @@ module _ (before : List Change) (old mid : Run) (held kept : List ℕ) (known le
               }
 
       -- it stops at the line
-      pub stops_next : (why : PrintError) (on : Option (List ℕ)) → AreWhole (string_bytes old.buffer) → StopsTaking why came to on → StopsIn why before old held known further from on
+      pub stops_next : (why : PrintError) (on : Option (List ℕ)) → AreWholeLines (string_bytes old.buffer) → StopsTaking why came to on → StopsIn why before old held known further from on
       stops_next why on whole x = elim x.taken as (λ (ts : List Taken). ts ≡ x.taken → StopsIn why before old held known further from on) [
         | [] ↦ λ is. nothing_more is
         | t ∷ ts ↦ λ is. one_more t ts is
@@ -312,7 +312,7 @@ module _ (before : List Change) (old mid : Run) (held kept : List ℕ) (known le
           part : ToldPart why came.at.wanted came.at.answers came.core came.at.number x.taken f.told.after to on (string_bytes came.buffer)
           part = x.part f.told.after given_now
 
-          stopped : (taken : List Taken) → taken ≡ x.taken → (bytes : List ℕ) → ComesFrom (prepend_known held known) further bytes → AreTaken old.version bytes (f.taken ++ taken) → (old.skips_faults ≡ false → AllSay (f.taken ++ taken))
+          stopped : (taken : List Taken) → taken ≡ x.taken → (bytes : List ℕ) → ComesFrom (prepend_known held known) further bytes → AreLinesTaken old.version bytes (f.taken ++ taken) → (old.skips_faults ≡ false → NoneFails (f.taken ++ taken))
               → StopsIn why before old held known further from on
           stopped taken is bytes comes lines said = record {
             bytes = bytes;
@@ -335,14 +335,14 @@ module _ (before : List Change) (old mid : Run) (held kept : List ℕ) (known le
               let all = comes_held (prepend_known held known) further longer next read_more in
               stopped [] is h.bytes
               (record { ahead = (w.raw ++ 10 ∷ []) ++ all.ahead; read = subst (λ l. Consumes (prepend_known held known) further l) (append_assoc h.bytes (w.raw ++ 10 ∷ []) all.ahead) all.read })
-              (subst (AreTaken old.version h.bytes) (sym (append-nil f.taken)) f.lines) (λ no. subst AllSay (sym (append-nil f.taken)) (f.said no))
+              (subst (AreLinesTaken old.version h.bytes) (sym (append-nil f.taken)) f.lines) (λ no. subst NoneFails (sym (append-nil f.taken)) (f.said no))
 
           one_more : (t : Taken) (ts : List Taken) → t ∷ ts ≡ x.taken → StopsIn why before old held known further from on
           one_more t ts is =
-              let first = subst (λ (l : List Taken). IsFirst came.version came.line.items l) (sym is) x.reads in
+              let first = subst (λ (l : List Taken). IsFirstTaken came.version came.line.items l) (sym is) x.reads in
               stopped (t ∷ ts) is longer (comes_held (prepend_known held known) further longer next read_more)
-              (subst (λ (l : List Taken). AreTaken old.version longer (f.taken ++ t ∷ l)) (sym first.1) (taken_more old.version h.bytes w.raw f.taken t f.lines w.one (reads_as t first.0)))
-              (λ no. say_more f.taken (t ∷ ts) (f.said no) (subst AllSay (sym is) (x.said (skips_is ∙ no))))
+              (subst (λ (l : List Taken). AreLinesTaken old.version longer (f.taken ++ t ∷ l)) (sym first.1) (taken_more old.version h.bytes w.raw f.taken t f.lines w.one (reads_as t first.0)))
+              (λ no. say_more f.taken (t ∷ ts) (f.said no) (subst NoneFails (sym is) (x.said (skips_is ∙ no))))
 
   -- ---- lines after these
 
@@ -354,10 +354,10 @@ module _ (before : List Change) (old mid : Run) (held kept : List ℕ) (known le
         → TellsLines old.at.wanted old.at.answers old.core old.at.number (f.taken ++ more) before (f.told.text ++ text) after now
     run_on = run_more mid refl refl refl refl refl refl refl refl
 
-    lines_on : (bytes : List ℕ) (taken : List Taken) → AreTaken mid.version bytes taken → AreTaken old.version (h.bytes ++ bytes) (f.taken ++ taken)
-    lines_on bytes taken lines = taken_all old.version h.bytes bytes f.taken taken f.lines (subst (λ v. AreTaken v bytes taken) f.same.version lines)
+    lines_on : (bytes : List ℕ) (taken : List Taken) → AreLinesTaken mid.version bytes taken → AreLinesTaken old.version (h.bytes ++ bytes) (f.taken ++ taken)
+    lines_on bytes taken lines = taken_all old.version h.bytes bytes f.taken taken f.lines (subst (λ v. AreLinesTaken v bytes taken) f.same.version lines)
 
-    followed_on : (new : Run) (on : Option (List ℕ)) (bytes : List ℕ) → IsFollowed f.told.after bytes mid new to on → IsFollowed before (h.bytes ++ bytes) old new from on
+    followed_on : (new : Run) (on : Option (List ℕ)) (bytes : List ℕ) → AreBytesFollowed f.told.after bytes mid new to on → AreBytesFollowed before (h.bytes ++ bytes) old new from on
     followed_on new on bytes g = record {
       same = record {
         version = g.same.version ∙ f.same.version;
@@ -391,12 +391,12 @@ module _ (before : List Change) (old mid : Run) (held kept : List ℕ) (known le
       is = read_on x.is;
     }
       where
-        read_on : IsReadAs mid.version (shortened x.raw) (Fails at) ⊎ ((x.raw ≢ []) × (at ≡ fault.Truncated) × IsAtEnd further)
-            → IsReadAs old.version (shortened x.raw) (Fails at) ⊎ ((x.raw ≢ []) × (at ≡ fault.Truncated) × IsAtEnd further)
-        read_on (inl reads) = inl (subst (λ v. IsReadAs v (shortened x.raw) (Fails at)) f.same.version reads)
+        read_on : IsLineReadAs mid.version (shortened x.raw) (Fails at) ⊎ ((x.raw ≢ []) × (at ≡ fault.Truncated) × IsAtEnd further)
+            → IsLineReadAs old.version (shortened x.raw) (Fails at) ⊎ ((x.raw ≢ []) × (at ≡ fault.Truncated) × IsAtEnd further)
+        read_on (inl reads) = inl (subst (λ v. IsLineReadAs v (shortened x.raw) (Fails at)) f.same.version reads)
         read_on (inr cut) = inr cut
 
-    pub stops_on : (why : PrintError) (on : Option (List ℕ)) → AreWhole (string_bytes old.buffer) → StopsIn why f.told.after mid kept left further to on → StopsIn why before old held known further from on
+    pub stops_on : (why : PrintError) (on : Option (List ℕ)) → AreWholeLines (string_bytes old.buffer) → StopsIn why f.told.after mid kept left further to on → StopsIn why before old held known further from on
     stops_on why on whole x = record {
       bytes = h.bytes ++ x.bytes;
       comes = comes_on x.bytes x.comes;
@@ -415,7 +415,7 @@ module _ (before : List Change) (old mid : Run) (held kept : List ℕ) (known le
     pub given_on : Give f.told.after mid.core
     given_on = given_now mid refl refl refl refl refl refl refl refl
 
-  pub so_far_page : AreWhole (string_bytes old.buffer) → AreWhole (string_bytes mid.buffer)
+  pub so_far_page : AreWholeLines (string_bytes old.buffer) → AreWholeLines (string_bytes mid.buffer)
   so_far_page whole = page_whole from to (string_bytes old.buffer) (string_bytes mid.buffer) f.told.text f.told.printed whole
 
   -- ---- no line more
@@ -433,7 +433,7 @@ module _ (before : List Change) (old mid : Run) (held kept : List ℕ) (known le
       record { ahead = lost ++ all.ahead; read = subst (λ l. Consumes (prepend_known held known) further l) (append_assoc h.bytes lost all.ahead) all.read }
 
   -- memory ran out
-  pub stops_here : (why : PrintError) (next : List ℕ) (further : Option (List ℕ)) → why ≡ stop.Memory → AreWhole (string_bytes old.buffer) → Loses kept left next further → StopsIn why before old held known further from to
+  pub stops_here : (why : PrintError) (next : List ℕ) (further : Option (List ℕ)) → why ≡ stop.Memory → AreWholeLines (string_bytes old.buffer) → Loses kept left next further → StopsIn why before old held known further from to
   stops_here why next further is whole lost = record {
     bytes = h.bytes;
     comes = unread next further lost;
@@ -450,7 +450,7 @@ module _ (before : List Change) (old mid : Run) (held kept : List ℕ) (known le
   }
 
   -- the last line has no line feed
-  pub cut_last : (new : Run) (next : List ℕ) (further : Option (List ℕ)) (line : List ℕ) → TakesLast kept left next further line → IsFollowed before h.bytes old new from to → IsAtFault fault.Truncated before old new held known further from to
+  pub cut_last : (new : Run) (next : List ℕ) (further : Option (List ℕ)) (line : List ℕ) → TakesLast kept left next further line → AreBytesFollowed before h.bytes old new from to → IsAtFault fault.Truncated before old new held known further from to
   cut_last new next further line w followed = record {
     bytes = h.bytes;
     followed = followed;

@@ -17,10 +17,10 @@ use Rattle.replay.specs.declared.fault.ReplayFault.TheVariants as replay_fault
 use Rattle.replay.specs.declared.buffer.PrintError.{PrintError}
 use Rattle.replay.specs.declared.buffer.PrintError.TheVariants as stop
 use Rattle.replay.proofs.Written.{err_as}
-use Rattle.change_log.specs.Begun.{Closes, IsBegun}
+use Rattle.change_log.specs.Begun.{Closes, IsRunBegun}
 use Rattle.change_log.specs.Changes.{Give}
 use Rattle.change_log.specs.Following.{EndsBehind, StopsBehind}
-use Rattle.change_log.specs.Openings.{HasFault, IsFormless, IsFrontFault, IsWhole, Opens, last_line, line_feeds}
+use Rattle.change_log.specs.Openings.{HasOpeningFault, IsFormless, IsFrontFault, IsPreambleWhole, OpensPreamble, last_line, line_feeds}
 use Rattle.change_log.specs.Outputs.{FailsAtFront, FailsBehind, TellsAll, TellsPart, TellsThese}
 use Rattle.change_log.specs.Streams.{ComesFrom}
 use Rattle.change_log.specs.declared.following.End.{End}
@@ -47,7 +47,7 @@ module _ (held kept front : List ℕ) (before left : Option (List ℕ)) (none : 
   came_behind mid rest bytes read more = comes_held before left (front ++ bytes) kept (Consumes-trans before (prepend_known mid rest) (prepend_known kept left) front bytes (at_once mid rest read) more)
 
   -- the front came
-  pub front_came : (line : List ℕ) (end : PreambleEnd) → IsWhole end → Opens end front line held before kept left → ComesFrom before left front
+  pub front_came : (line : List ℕ) (end : PreambleEnd) → IsPreambleWhole end → OpensPreamble end front line held before kept left → ComesFrom before left front
   front_came line front_end.Over whole opens = came opens.0
   front_came line front_end.Line whole (mid, rest, read, w) = comes_less before left front (w.raw ++ 10 ∷ []) (came_behind mid rest (w.raw ++ 10 ∷ []) read w.taken)
   front_came line front_end.Cut whole (mid, rest, read, w) = comes_less before left front w.raw (came_behind mid rest w.raw read w.taken)
@@ -73,7 +73,7 @@ module _ (held kept front : List ℕ) (before left : Option (List ℕ)) (none : 
         | inr short ↦ plain (front ++ (raw ++ after)) f comes (subst (λ l. IsFaultOf (front ++ (l ++ after)) f) (is ∙ no_mark LONGEST raw short.1) has)
       ]
 
-  pub front_fails : (line : List ℕ) (end : PreambleEnd) (f : LineFault) → Opens end front line held before kept left → HasFault end front line f → FailsAtFront before left f
+  pub front_fails : (line : List ℕ) (end : PreambleEnd) (f : LineFault) → OpensPreamble end front line held before kept left → HasOpeningFault end front line f → FailsAtFront before left f
   front_fails line front_end.Over f opens has = plain front f (came opens.0) has
   front_fails line front_end.Line f (mid, rest, read, w) (inl own) = plain front f (front_came line front_end.Line tt (mid, rest, read, w)) own
   front_fails line front_end.Line f (mid, rest, read, w) (inr all) = with_last mid rest w.raw line (10 ∷ []) f read w.taken w.one w.handed_on all
@@ -101,7 +101,7 @@ line_in default (replay_fault.Line f) = f
 line_in default _ = default
 
 -- the fault that was found is the one that is answered
-pub front_faulty : {X : Type 0} (o : Opening) (held kept : List ℕ) (before left : Option (List ℕ)) → held ≡ [] → Opens o.end o.front.items o.line.items held before kept left → (e : ReplayFault) → IsFrontFault o e → (r : Result X ReplayFault)
+pub front_faulty : {X : Type 0} (o : Opening) (held kept : List ℕ) (before left : Option (List ℕ)) → held ≡ [] → OpensPreamble o.end o.front.items o.line.items held before kept left → (e : ReplayFault) → IsFrontFault o e → (r : Result X ReplayFault)
     → IsErrAnd r (λ x. x ≡ e) → (f : LineFault) → r ≡ Err (replay_fault.Line f) → FailsAtFront before left f
 front_faulty {X} o held kept before left none opens e faulty r answer f line = found faulty
   where
@@ -114,7 +114,7 @@ front_faulty {X} o held kept before left none opens e faulty r answer f line = f
         apart : replay_fault.Line f ≡ replay_fault.Memory → ⊥
         apart e = cc
     found (inr (g, is, has)) =
-        front_fails held kept o.front.items before left none o.line.items o.end f opens (subst (HasFault o.end o.front.items o.line.items) (sym (ap (line_in f) (answered ∙ is))) has)
+        front_fails held kept o.front.items before left none o.line.items o.end f opens (subst (HasOpeningFault o.end o.front.items o.line.items) (sym (ap (line_in f) (answered ∙ is))) has)
 
 -- no other fault is answered
 pub front_no_other : {X : Type 0} (o : Opening) (e : ReplayFault) → IsFrontFault o e → (r : Result X ReplayFault) → IsErrAnd r (λ x. x ≡ e) → (r ≡ Err replay_fault.Write → ⊥) × (r ≡ Err replay_fault.Closed → ⊥)
@@ -145,10 +145,10 @@ front_no_other {X} o e faulty r answer = (λ is. no_write faulty (answered repla
 
 -- ---- how all of it ends
 
-module _ (t : ChangeOptions) (before left after : Option (List ℕ)) (held kept front line : List ℕ) (r : RecordingValue) (run : Run) (from to : Option (List ℕ)) (h : IsBegun t r run from to) (text : IsText front r) (none : held ≡ [])
-    (end : PreambleEnd) (whole : IsWhole end) (opens : Opens end front line held before kept left) (same : run.line.items ≡ line) where
-  opens_run : Opens end front run.line.items held before kept left
-  opens_run = subst (λ l. Opens end front l held before kept left) (sym same) opens
+module _ (t : ChangeOptions) (before left after : Option (List ℕ)) (held kept front line : List ℕ) (r : RecordingValue) (run : Run) (from to : Option (List ℕ)) (h : IsRunBegun t r run from to) (text : IsText front r) (none : held ≡ [])
+    (end : PreambleEnd) (whole : IsPreambleWhole end) (opens : OpensPreamble end front line held before kept left) (same : run.line.items ≡ line) where
+  opens_run : OpensPreamble end front run.line.items held before kept left
+  opens_run = subst (λ l. OpensPreamble end front l held before kept left) (sym same) opens
 
   given : Give h.after run.core
   given = given_begun t r run from to h

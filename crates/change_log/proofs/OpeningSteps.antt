@@ -11,7 +11,7 @@ use Rattle.input_reading.specs.declared.line.TheConstants.{LONGEST}
 use Rattle.recording.specs.Places.{is_front_word}
 use Rattle.recording.specs.Reading.{cut, first_word}
 use Rattle.recording.specs.declared.fault.LineFault.{LineFault}
-use Rattle.change_log.specs.Openings.{IsLooked, Opens, ends_after, front_with}
+use Rattle.change_log.specs.Openings.{IsLooked, OpensPreamble, ends_after, front_with}
 use Rattle.change_log.specs.declared.opening.PreambleEnd.{PreambleEnd}
 use Rattle.change_log.specs.declared.opening.PreambleEnd.TheVariants as front_end
 
@@ -102,8 +102,8 @@ module _ (front held kept next : List ℕ) (known left further : Option (List �
   more bytes taken = Consumes-trans (prepend_known held known) (prepend_known kept left) (prepend_known next further) front bytes read taken
 
   -- nothing came any more
-  pub front_over : (end : PreambleEnd) (line last : List ℕ) → end ≡ front_end.Over → TakesNone kept left next further line → Opens end front last held known next further
-  front_over end line last is w = subst (λ e. Opens e front last held known next further) (sym is) (subst (Takes held known next further) (append-nil front) (more [] w.taken), w.ended)
+  pub front_over : (end : PreambleEnd) (line last : List ℕ) → end ≡ front_end.Over → TakesNone kept left next further line → OpensPreamble end front last held known next further
+  front_over end line last is w = subst (λ e. OpensPreamble e front last held known next further) (sym is) (subst (Takes held known next further) (append-nil front) (more [] w.taken), w.ended)
 
   -- a line more
   module _ (line : List ℕ) (w : TakesWhole kept left next further line) where
@@ -118,7 +118,7 @@ module _ (front held kept next : List ℕ) (known left further : Option (List �
         differ e = cc
 
     -- it ends the front
-    ended : (end : PreambleEnd) (grown last : List ℕ) → end ≡ ends_after line front_end.Line → end ≢ front_end.Over → grown ≡ front_with end front (line ++ 10 ∷ []) → last ≡ line → Opens end grown last held known next further
+    ended : (end : PreambleEnd) (grown last : List ℕ) → end ≡ ends_after line front_end.Line → end ≢ front_end.Over → grown ≡ front_with end front (line ++ 10 ∷ []) → last ≡ line → OpensPreamble end grown last held known next further
     ended front_end.Over grown last ends other is same = absurd (other refl)
     ended front_end.Line grown last ends other is same =
         (kept, left, subst (Takes held known kept left) (sym is) read, subst (TakesWhole kept left next further) (sym same) w)
@@ -139,12 +139,12 @@ module _ (front held kept next : List ℕ) (known left further : Option (List �
     ended (front_end.AtFault f) grown last ends other is same = absurd (no_fault (of_front line) (short line) f (sym ends))
 
     pub front_ended : (end : PreambleEnd) (grown last : List ℕ) → end ≡ ends_after line front_end.Line → end ≢ front_end.Over → grown ≡ front_with (ends_after line front_end.Line) front (line ++ 10 ∷ []) → last ≡ line
-        → Opens end grown last held known next further
+        → OpensPreamble end grown last held known next further
     front_ended end grown last ends other is same = ended end grown last ends other (is ∙ ap (λ e. front_with e front (line ++ 10 ∷ [])) (sym ends)) same
 
   -- the last line has no line feed
   module _ (line : List ℕ) (w : TakesLast kept left next further line) where
-    last_of : (end : PreambleEnd) (grown last : List ℕ) → end ≡ ends_after line front_end.Cut → grown ≡ front_with end front (line ++ []) → last ≡ line → Opens end grown last held known next further
+    last_of : (end : PreambleEnd) (grown last : List ℕ) → end ≡ ends_after line front_end.Cut → grown ≡ front_with end front (line ++ []) → last ≡ line → OpensPreamble end grown last held known next further
     last_of front_end.Over grown last ends is same =
         let whole : line ≡ w.raw = whole_raw w.raw line front_end.Cut w.handed_on (sym ends) (λ e. differ e) in
         let grew : grown ≡ front ++ w.raw = is ∙ ap (λ l. front ++ l) (append-nil line ∙ whole) in
@@ -169,14 +169,14 @@ module _ (front held kept next : List ℕ) (known left further : Option (List �
         differ e = cc
     last_of (front_end.AtFault f) grown last ends is same = absurd (no_cut_fault (of_front line) (short line) f (sym ends))
 
-    pub front_cut : (end : PreambleEnd) (grown last : List ℕ) → end ≡ ends_after line front_end.Cut → grown ≡ front_with (ends_after line front_end.Cut) front (line ++ []) → last ≡ line → Opens end grown last held known next further
+    pub front_cut : (end : PreambleEnd) (grown last : List ℕ) → end ≡ ends_after line front_end.Cut → grown ≡ front_with (ends_after line front_end.Cut) front (line ++ []) → last ≡ line → OpensPreamble end grown last held known next further
     front_cut end grown last ends is same = last_of end grown last ends (is ∙ ap (λ e. front_with e front (line ++ [])) (sym ends)) same
 
 -- a fault of the front was found
 pub front_looked : (front line held kept : List ℕ) (known left : Option (List ℕ)) (old new : PreambleEnd) → Takes held known kept left front → IsLooked front old new → old ≡ front_end.Over → new ≢ front_end.Over
-    → Opens new front line held known kept left
+    → OpensPreamble new front line held known kept left
 front_looked front line held kept known left old new read (inl same) over other = absurd (other (same ∙ over))
-front_looked front line held kept known left old new read (inr (f, is, has)) over other = subst (λ e. Opens e front line held known kept left) (sym is) (read, has)
+front_looked front line held kept known left old new read (inr (f, is, has)) over other = subst (λ e. OpensPreamble e front line held known kept left) (sym is) (read, has)
 
 pub looked_as : (front named : List ℕ) (old new : PreambleEnd) → front ≡ named → IsLooked front old new → IsLooked named old new
 looked_as front named old new is h = subst (λ l. IsLooked l old new) is h

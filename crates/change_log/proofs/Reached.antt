@@ -16,26 +16,26 @@ use Rattle.event_state.specs.declared.base.Base.{Base}
 use Rattle.recording.specs.declared.version.Version.{Version}
 use Rattle.replay.specs.Outputs.{recording_of}
 use Rattle.replay.specs.Lines.{first_number}
-use Rattle.replay.specs.Pages.{Adds, AddsPart}
+use Rattle.replay.specs.Pages.{AddsLines, AddsPart}
 use Rattle.replay.specs.declared.buffer.PrintError.{PrintError}
 use Rattle.replay.proofs.Paging.{adds_more, adds_moved, page_whole, part_more, part_moved}
 use Rattle.replay.proofs.Wholes.{none_whole}
-use Rattle.replay.specs.Stops.{AreWhole, fault_of}
+use Rattle.replay.specs.Stops.{AreWholeLines, fault_of}
 use Rattle.replay.specs.declared.fault.ReplayFault.{ReplayFault}
 use Rattle.replay.specs.declared.fault.ReplayFault.TheVariants as replay_fault
 use Rattle.replay.specs.declared.buffer.PrintError.TheVariants as stop
-use Rattle.change_log.specs.Begun.{Closes, IsBegun, StopsAtBase}
+use Rattle.change_log.specs.Begun.{Closes, IsRunBegun, StopsAtBase}
 use Rattle.change_log.specs.declared.following.End.{End}
 use Rattle.change_log.specs.declared.following.End.TheVariants as end
-use Rattle.change_log.specs.Following.{Ends, IsAtFault, IsFollowed, StopsIn}
+use Rattle.change_log.specs.Following.{Ends, IsAtFault, AreBytesFollowed, StopsIn}
 use Rattle.change_log.specs.Lines.{Change}
 use Rattle.change_log.specs.Changes.{Give, all_of}
-use Rattle.change_log.specs.Outputs.{AreBytes, FailsBehind, IsTelling, TellsAll, TellsPart, TellsThese, base_lines}
+use Rattle.change_log.specs.Outputs.{AreRecordingBytes, FailsBehind, IsTelling, TellsAll, TellsPart, TellsThese, base_lines}
 use Rattle.change_log.specs.Runs.{Comes, Fails, Says, Taken, TellsLines}
 use Rattle.input_reading.proofs.Short.{shortened_short}
 use Rattle.recording.specs.Progress.{IsLineOf}
 use Rattle.recording.proofs.Growing.{text_grows}
-use Rattle.change_log.specs.Streams.{AllSay, AreTaken, ComesFrom, IsReadAs, lines_in}
+use Rattle.change_log.specs.Streams.{NoneFails, AreLinesTaken, ComesFrom, IsLineReadAs, lines_in}
 use Rattle.change_log.specs.declared.following.Run.{Run}
 use Rattle.change_log.specs.declared.printing.ChangeOptions.{ChangeOptions}
 use Rattle.change_log.proofs.Comes.{comes_all, comes_behind, comes_less}
@@ -49,7 +49,7 @@ with_none r bytes text =
     subst (λ (ls : List Line). IsText (bytes ++ []) (record r { lines = ls })) (sym (append-nil r.lines)) (subst (λ (l : List ℕ). IsText l r) (sym (append-nil bytes)) text)
 
 -- the text of a recording, followed by lines that say something, is the text of one
-text_and_lines : (r : RecordingValue) (front behind : List ℕ) (taken : List Taken) → IsText front r → AreTaken r.version behind taken → AllSay taken → IsText (front ++ behind) (record r { lines = r.lines ++ lines_in taken })
+text_and_lines : (r : RecordingValue) (front behind : List ℕ) (taken : List Taken) → IsText front r → AreLinesTaken r.version behind taken → NoneFails taken → IsText (front ++ behind) (record r { lines = r.lines ++ lines_in taken })
 text_and_lines r front behind [] text none all = subst (λ (l : List ℕ). IsText (front ++ l) (record r { lines = r.lines ++ [] })) (sym none) (with_none r front text)
 text_and_lines r front behind (Says l ∷ taken) text (raw, rest, one, none, is, more) all = absurd none
 text_and_lines r front behind (Comes l ∷ taken) text (raw, rest, one, (short, says), is, more) all =
@@ -61,7 +61,7 @@ text_and_lines r front behind (Comes l ∷ taken) text (raw, rest, one, (short, 
     (subst (λ (ls : List Line). IsText ((front ++ (raw ++ 10 ∷ [])) ++ rest) (record r { lines = ls })) (append_assoc r.lines (l ∷ []) (lines_in taken)) all_lines)
 text_and_lines r front behind (Fails f ∷ taken) text lines all = absurd all
 
-front_bytes : (t : ChangeOptions) (r : RecordingValue) (front : List ℕ) → IsText front r → AreBytes t front r []
+front_bytes : (t : ChangeOptions) (r : RecordingValue) (front : List ℕ) → IsText front r → AreRecordingBytes t front r []
 front_bytes t r front text = record {
   front = front;
   behind = [];
@@ -74,7 +74,7 @@ front_bytes t r front text = record {
 
 -- ---- the report of the preamble and of the lines after it
 
-module _ (t : ChangeOptions) (r : RecordingValue) (run : Run) (from to : Option (List ℕ)) (h : IsBegun t r run from to) where
+module _ (t : ChangeOptions) (r : RecordingValue) (run : Run) (from to : Option (List ℕ)) (h : IsRunBegun t r run from to) where
   abbrev first : ℕ
   first = first_number r.version r.base
 
@@ -84,7 +84,7 @@ module _ (t : ChangeOptions) (r : RecordingValue) (run : Run) (from to : Option 
   pub given_begun : Give h.after run.core
   given_begun = gives_after t.wanted t.answers h.opened run.core first (map Says r.lines) (all_of h.opened) h.after h.told (given_first h.opened h.opening.core) h.lines
 
-  pub begun_page : AreWhole (string_bytes run.buffer)
+  pub begun_page : AreWholeLines (string_bytes run.buffer)
   begun_page = page_whole from to [] (string_bytes run.buffer) (base ++ h.told) h.printed none_whole
 
   -- the telling of the front and of these lines
@@ -101,32 +101,32 @@ module _ (t : ChangeOptions) (r : RecordingValue) (run : Run) (from to : Option 
       telling t r h.opened h.opening r.lines taken (h.told ++ text) after now
       (tells_more t.wanted t.answers h.opened run.core now first (map Says r.lines) taken (all_of h.opened) h.after after h.told text h.lines asked)
 
-  are_all : (front behind : List ℕ) (taken : List Taken) → IsText front r → AreTaken run.version behind taken → (run.skips_faults ≡ false → AllSay taken) → AreBytes t (front ++ behind) r taken
+  are_all : (front behind : List ℕ) (taken : List Taken) → IsText front r → AreLinesTaken run.version behind taken → (run.skips_faults ≡ false → NoneFails taken) → AreRecordingBytes t (front ++ behind) r taken
   are_all front behind taken is lines said = record {
     front = front;
     behind = behind;
     joined = refl;
     text = is;
-    lines = subst (λ v. AreTaken v behind taken) h.version lines;
+    lines = subst (λ v. AreLinesTaken v behind taken) h.version lines;
     said = λ no. said (h.skips_faults ∙ no);
-    whole = λ no. text_and_lines r front behind taken is (subst (λ v. AreTaken v behind taken) h.version lines) (said (h.skips_faults ∙ no));
+    whole = λ no. text_and_lines r front behind taken is (subst (λ v. AreLinesTaken v behind taken) h.version lines) (said (h.skips_faults ∙ no));
   }
 
 -- all lines so far are reported: the report was written, or is in the buffer
 pub record Reached (t : ChangeOptions) (before after : Option (List ℕ)) (r : RecordingValue) (bytes : List ℕ) (buffer : List ℕ) (from to : Option (List ℕ)) : Type 0 where
   pub comes : ComesFrom before after bytes
   pub taken : List Taken
-  pub are : AreBytes t bytes r taken
+  pub are : AreRecordingBytes t bytes r taken
   pub text : List ℕ
   pub telling : IsTelling t r taken text
-  pub printed : Adds from to [] buffer text
+  pub printed : AddsLines from to [] buffer text
 
 whole_lines : (t : ChangeOptions) (r : RecordingValue) (taken : List Taken) (text : List ℕ) → IsTelling t r taken text → IsTelling t (record r { lines = take (length r.lines) r.lines }) taken text
 whole_lines t r taken text h = subst (λ (ls : List Line). IsTelling t (record r { lines = ls }) taken text) (sym (take_all (length r.lines) r.lines (omega arith))) h
 
 module _ (t : ChangeOptions) (before after : Option (List ℕ)) (r : RecordingValue) (bytes buffer : List ℕ) (from to last : Option (List ℕ)) (h : Reached t before after r bytes buffer from to) where
   -- the contents of the buffer were written
-  pub reached_these : Adds to last buffer [] [] → TellsThese t before after bytes from last
+  pub reached_these : AddsLines to last buffer [] [] → TellsThese t before after bytes from last
   reached_these out = record {
     comes = h.comes;
     text = h.text;
@@ -174,14 +174,14 @@ base_part why t before after r front from to comes text h = record {
 }
 
 module _ (t : ChangeOptions) (before mid after : Option (List ℕ)) (held front : List ℕ) (r : RecordingValue) (run : Run) (from to : Option (List ℕ))
-    (h : IsBegun t r run from to) (read : Consumes before (prepend_known held mid) front) (text : IsText front r) where
+    (h : IsRunBegun t r run from to) (read : Consumes before (prepend_known held mid) front) (text : IsText front r) where
   -- these bytes came
-  module _ (new : Run) (on : Option (List ℕ)) (behind : List ℕ) (f : IsFollowed h.after behind run new to on) where
+  module _ (new : Run) (on : Option (List ℕ)) (behind : List ℕ) (f : AreBytesFollowed h.after behind run new to on) where
     abbrev text_behind : List ℕ
     text_behind = base t r run from to h ++ (h.told ++ f.told.text)
 
-    printed_behind : Adds from on [] (string_bytes new.buffer) text_behind
-    printed_behind = subst (Adds from on [] (string_bytes new.buffer)) (append_assoc (base t r run from to h) h.told f.told.text)
+    printed_behind : AddsLines from on [] (string_bytes new.buffer) text_behind
+    printed_behind = subst (AddsLines from on [] (string_bytes new.buffer)) (append_assoc (base t r run from to h) h.told f.told.text)
         (adds_more from to on [] (string_bytes run.buffer) (string_bytes new.buffer) (base t r run from to h ++ h.told) f.told.text h.printed f.told.printed)
 
     pub lines_reached : ComesFrom (prepend_known held mid) after behind → Reached t before after r (front ++ behind) (string_bytes new.buffer) from on
@@ -195,7 +195,7 @@ module _ (t : ChangeOptions) (before mid after : Option (List ℕ)) (held front 
     }
 
   -- one of the lines has a fault
-  pub at_fault : (new : Run) (on last : Option (List ℕ)) (l : LineFault) (f : IsAtFault l.fault h.after run new held mid after to on) → l.line ≡ new.at.number → Adds on last (string_bytes new.buffer) [] []
+  pub at_fault : (new : Run) (on last : Option (List ℕ)) (l : LineFault) (f : IsAtFault l.fault h.after run new held mid after to on) → l.line ≡ new.at.number → AddsLines on last (string_bytes new.buffer) [] []
       → FailsBehind t before after l from last
   at_fault new on last l f numbered out =
       let g = f.followed in
@@ -214,9 +214,9 @@ module _ (t : ChangeOptions) (before mid after : Option (List ℕ)) (held front 
         number = numbered ∙ g.counted ∙ ap (λ n. n + length g.taken) h.number ∙ assoc_number (first_number r.version r.base) (length r.lines) (length g.taken);
       }
     where
-      read_at : IsReadAs run.version (shortened f.raw) (Fails l.fault) ⊎ ((f.raw ≢ []) × (l.fault ≡ fault.Truncated) × IsAtEnd after)
-          → IsReadAs r.version (shortened f.raw) (Fails l.fault) ⊎ ((f.raw ≢ []) × (l.fault ≡ fault.Truncated) × IsAtEnd after)
-      read_at (inl is) = inl (subst (λ v. IsReadAs v (shortened f.raw) (Fails l.fault)) h.version is)
+      read_at : IsLineReadAs run.version (shortened f.raw) (Fails l.fault) ⊎ ((f.raw ≢ []) × (l.fault ≡ fault.Truncated) × IsAtEnd after)
+          → IsLineReadAs r.version (shortened f.raw) (Fails l.fault) ⊎ ((f.raw ≢ []) × (l.fault ≡ fault.Truncated) × IsAtEnd after)
+      read_at (inl is) = inl (subst (λ v. IsLineReadAs v (shortened f.raw) (Fails l.fault)) h.version is)
       read_at (inr cut) = inr cut
 
       assoc_number : (a b c : ℕ) → a + b + c ≡ a + (b + c)

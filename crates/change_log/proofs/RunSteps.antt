@@ -12,8 +12,8 @@ use Rattle.event_core.specs.declared.reply.Status.TheVariants.{Current}
 use Rattle.event_core.specs.Cores.{CoreValue, Applies, IsCore, IsCurrent, IsTaken, NamesChanges, MatchesStatus}
 use Rattle.recording.specs.declared.line.Line.{Line}
 use Rattle.recording.specs.declared.line.Line.TheVariants as line
-use Rattle.replay.specs.Pages.{Adds, AddsPart}
-use Rattle.replay.specs.Stops.{AreWhole}
+use Rattle.replay.specs.Pages.{AddsLines, AddsPart}
+use Rattle.replay.specs.Stops.{AreWholeLines}
 use Rattle.replay.specs.declared.buffer.PrintError.{PrintError}
 use Rattle.replay.specs.declared.buffer.PrintError.TheVariants as stop
 use Rattle.replay.proofs.Paging.{adds_none, adds_more, page_whole, part_now, part_more}
@@ -25,7 +25,7 @@ use Rattle.change_log.proofs.Texts.{change_whole, found_line}
 use Rattle.replay.specs.Runs.{RollsBy}
 use Rattle.change_log.specs.Lines.{Change, Found, Refused, change_line, lines_of}
 use Rattle.change_log.specs.Changes.{Give, all_of, area_changes, network_change}
-use Rattle.change_log.specs.Runs.{IsFoundIn, IsToldOf, MayPass, Comes, KeepsShort, Says, StopsAtLine, StopsAtTaken, Taken, TellsLine, TellsLines, TellsTaken, Told, ToldLine, ToldPart, ToldTaken, answered, told_of_roll}
+use Rattle.change_log.specs.Runs.{IsFoundIn, IsToldOf, MayPass, Comes, KeepsShort, Says, StopsAtLine, StopsAtTaken, Taken, TellsLine, TellsLines, TellsTaken, LinesTaken, ToldLine, ToldPart, ToldTaken, answered, told_of_roll}
 use Rattle.change_log.proofs.Cores.{current_taken, distinct_lists, give_taken, sound_lists}
 use Rattle.change_log.proofs.Giving.{give_all}
 use Rattle.change_log.proofs.Shown.{line_cut, line_shown}
@@ -66,7 +66,7 @@ pub record ChangeOptions (wanted : ChangeFilter) (answers : Bool) (old : CoreVal
   pub text : List ℕ
   pub after : List Change
   pub run : TellsLines wanted answers old first (map Says done) (all_of old) text after now
-  pub printed : Adds from to buffer put text
+  pub printed : AddsLines from to buffer put text
   pub gives : Give after now
   pub core : IsCore now
   pub current : IsCurrent now
@@ -140,7 +140,7 @@ module _ (wanted : ChangeFilter) (answers : Bool) (old : CoreValue) (first : ℕ
       omega (arith, whole, h.counted)
 
   pub telling_all : (now : CoreValue) (number : ℕ) (rest : List Line) (to : Option (List ℕ)) (put : List ℕ) → ChangeOptions wanted answers old first lines rest number now from to buffer put
-      → rest ≡ [] → Told wanted answers old first (map Says lines) (all_of old) now from to buffer put
+      → rest ≡ [] → LinesTaken wanted answers old first (map Says lines) (all_of old) now from to buffer put
   telling_all now number rest to put h none = record {
     text = h.text;
     after = h.after;
@@ -163,11 +163,11 @@ module _ (wanted : ChangeFilter) (answers : Bool) (old : CoreValue) (first : ℕ
     },
   )
 
-  pub telling_page : (now : CoreValue) (number : ℕ) (rest : List Line) (to : Option (List ℕ)) (put : List ℕ) → ChangeOptions wanted answers old first lines rest number now from to buffer put → AreWhole buffer → AreWhole put
+  pub telling_page : (now : CoreValue) (number : ℕ) (rest : List Line) (to : Option (List ℕ)) (put : List ℕ) → ChangeOptions wanted answers old first lines rest number now from to buffer put → AreWholeLines buffer → AreWholeLines put
   telling_page now number rest to put h whole = page_whole from to buffer put h.text h.printed whole
 
   -- the run stops at a line
-  pub telling_stopped : (why : PrintError) (mid new : CoreValue) (number : ℕ) (rest more : List Line) (l : Line) (to on : Option (List ℕ)) (put : List ℕ) → AreWhole buffer
+  pub telling_stopped : (why : PrintError) (mid new : CoreValue) (number : ℕ) (rest more : List Line) (l : Line) (to on : Option (List ℕ)) (put : List ℕ) → AreWholeLines buffer
       → ChangeOptions wanted answers old first lines rest number mid from to buffer put → rest ≡ l ∷ more → StopsAtLine why wanted answers mid number l new to on put
       → (count : ℕ) × ToldPart why wanted answers old first (map Says (take count lines)) (all_of old) from on buffer
   telling_stopped why mid new number rest more l to on put whole h next (inl (told, tells, part)) =
@@ -205,7 +205,7 @@ module _ (wanted : ChangeFilter) (answers : Bool) (old : CoreValue) (number : �
       refused_tells : TellsLine answers old (line.Event e) new (answered answers (Refused refusal))
       refused_tells = (answer, applies, subst (λ (a : Result Reply Refusal). IsToldOf answers old a new (answered answers (Refused refusal))) (sym is) (may, refl))
 
-      pub refused_told : (to : Option (List ℕ)) (put : List ℕ) → Adds from to buffer put (lines_of number wanted (answered answers (Refused refusal))) → ToldLine wanted answers old number (line.Event e) new from to buffer put
+      pub refused_told : (to : Option (List ℕ)) (put : List ℕ) → AddsLines from to buffer put (lines_of number wanted (answered answers (Refused refusal))) → ToldLine wanted answers old number (line.Event e) new from to buffer put
       refused_told to put printed = record { told = answered answers (Refused refusal); tells = refused_tells; printed = printed }
 
       pub refused_cut : (why : PrintError) (to : Option (List ℕ)) → AddsPart why from to (buffer ++ lines_of number wanted (answered answers (Refused refusal))) → StopsAtLine why wanted answers old number (line.Event e) new from to buffer
@@ -216,7 +216,7 @@ module _ (wanted : ChangeFilter) (answers : Bool) (old : CoreValue) (number : �
       changed_tells : TellsLine answers old (line.Event e) new (all_changes new)
       changed_tells = (answer, applies, differs answers old new e answer reply is current was applies named)
 
-      pub changed_told : (to : Option (List ℕ)) (put : List ℕ) → Adds from to buffer put (lines_of number wanted (all_changes new)) → ToldLine wanted answers old number (line.Event e) new from to buffer put
+      pub changed_told : (to : Option (List ℕ)) (put : List ℕ) → AddsLines from to buffer put (lines_of number wanted (all_changes new)) → ToldLine wanted answers old number (line.Event e) new from to buffer put
       changed_told to put printed = record { told = all_changes new; tells = changed_tells; printed = printed }
 
       pub changed_cut : (why : PrintError) (to : Option (List ℕ)) → AddsPart why from to (buffer ++ lines_of number wanted (all_changes new)) → StopsAtLine why wanted answers old number (line.Event e) new from to buffer
@@ -233,7 +233,7 @@ module _ (wanted : ChangeFilter) (answers : Bool) (old : CoreValue) (number : �
     found_tells : TellsLine answers old (line.Lookup address) old told_found
     found_tells = (subst (λ b. IsFoundIn b old address told_found) (sym asked) (found, is, refl), refl)
 
-    pub lookup_told : (to : Option (List ℕ)) (put moved : List ℕ) → put ≡ buffer ++ change_line wanted.format number (Found address old.table.serial found) → Adds from to put moved [] → ToldLine wanted answers old number (line.Lookup address) old from to buffer moved
+    pub lookup_told : (to : Option (List ℕ)) (put moved : List ℕ) → put ≡ buffer ++ change_line wanted.format number (Found address old.table.serial found) → AddsLines from to put moved [] → ToldLine wanted answers old number (line.Lookup address) old from to buffer moved
     lookup_told to put moved is spilled = record {
       told = told_found;
       tells = found_tells;
@@ -252,7 +252,7 @@ module _ (wanted : ChangeFilter) (answers : Bool) (old : CoreValue) (number : �
     put_found : (found : Match) × IsMatch old.table.items address found × (put ≡ buffer ++ change_line wanted.format number (Found address old.table.serial found))
     put_found = let (found, is, text) = put_here in (found, is, text ∙ ap (λ l. buffer ++ l) (found_line wanted.format number address old.table.serial found))
 
-    pub found_told : (to : Option (List ℕ)) (moved : List ℕ) → Adds from to put moved [] → ToldLine wanted answers old number (line.Lookup address) old from to buffer moved
+    pub found_told : (to : Option (List ℕ)) (moved : List ℕ) → AddsLines from to put moved [] → ToldLine wanted answers old number (line.Lookup address) old from to buffer moved
     found_told to moved spilled = let (found, is, text) = put_found in lookup_told address found asked is to put moved text spilled
 
     pub found_cut : (why : PrintError) (to : Option (List ℕ)) → AddsPart why from to put → StopsAtLine why wanted answers old number (line.Lookup address) old from to buffer
@@ -267,7 +267,7 @@ module _ (wanted : ChangeFilter) (answers : Bool) (old : CoreValue) (number : �
       roll_tells : TellsLine answers old line.Roll new (answered answers (Refused refusal))
       roll_tells = (answer, rolls, sym (ap (told_of_roll answers) is))
 
-      pub roll_told : (to : Option (List ℕ)) (put : List ℕ) → Adds from to buffer put (lines_of number wanted (answered answers (Refused refusal))) → ToldLine wanted answers old number line.Roll new from to buffer put
+      pub roll_told : (to : Option (List ℕ)) (put : List ℕ) → AddsLines from to buffer put (lines_of number wanted (answered answers (Refused refusal))) → ToldLine wanted answers old number line.Roll new from to buffer put
       roll_told to put printed = record { told = answered answers (Refused refusal); tells = roll_tells; printed = printed }
 
       pub roll_cut : (why : PrintError) (to : Option (List ℕ)) → AddsPart why from to (buffer ++ lines_of number wanted (answered answers (Refused refusal))) → StopsAtLine why wanted answers old number line.Roll new from to buffer
@@ -308,7 +308,7 @@ taken_stops why wanted answers old ready new number l from to buffer core short 
 taken_stops why wanted answers old ready new number l from to buffer core short (inr before) = inr before
 
 -- it was refused, and this was put on the buffer
-pub refusal_told : (wanted : ChangeFilter) (answers : Bool) (number : ℕ) (from to : Option (List ℕ)) (buffer put moved : List ℕ) (refusal : Refusal) → answers ≡ true → put ≡ buffer ++ change_line wanted.format number (Refused refusal) → Adds from to put moved []
-    → Adds from to buffer moved (lines_of number wanted (answered answers (Refused refusal)))
+pub refusal_told : (wanted : ChangeFilter) (answers : Bool) (number : ℕ) (from to : Option (List ℕ)) (buffer put moved : List ℕ) (refusal : Refusal) → answers ≡ true → put ≡ buffer ++ change_line wanted.format number (Refused refusal) → AddsLines from to put moved []
+    → AddsLines from to buffer moved (lines_of number wanted (answered answers (Refused refusal)))
 refusal_told wanted answers number from to buffer put moved refusal asked is spilled =
-    subst (λ b. Adds from to buffer moved (lines_of number wanted (answered b (Refused refusal)))) (sym asked) (line_shown buffer (change_line wanted.format number (Refused refusal)) from to put moved (change_whole wanted.format number (Refused refusal)) is spilled)
+    subst (λ b. AddsLines from to buffer moved (lines_of number wanted (answered b (Refused refusal)))) (sym asked) (line_shown buffer (change_line wanted.format number (Refused refusal)) from to put moved (change_whole wanted.format number (Refused refusal)) is spilled)

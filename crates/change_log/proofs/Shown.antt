@@ -2,8 +2,8 @@
 -- written.
 use Rattle.std.proofs.Common.{◌≡◌, ◌∙◌, ◌++◌, ℕ, List, [], Option, ap, append-nil, subst, sym}
 use Rattle.change_log.specs.declared.printing.ChangeFilter.{ChangeFilter}
-use Rattle.replay.specs.Pages.{Adds, AddsPart}
-use Rattle.replay.specs.Stops.{AreWhole}
+use Rattle.replay.specs.Pages.{AddsLines, AddsPart}
+use Rattle.replay.specs.Stops.{AreWholeLines}
 use Rattle.replay.specs.declared.buffer.PrintError.{PrintError}
 use Rattle.replay.specs.declared.buffer.PrintError.TheVariants as stop
 use Rattle.replay.proofs.Paging.{adds_more, adds_moved, adds_none, adds_put, page_whole, part_longer, part_more, part_now}
@@ -14,15 +14,15 @@ module _ (number : ℕ) (wanted : ChangeFilter) (xs ys all : List Change) (is : 
   both : lines_of number wanted all ≡ lines_of number wanted xs ++ lines_of number wanted ys
   both = ap (lines_of number wanted) is ∙ lines_both number wanted xs ys
 
-  pub both_shown : (a b c : Option (List ℕ)) (x y z : List ℕ) → Adds a b x y (lines_of number wanted xs) → Adds b c y z (lines_of number wanted ys) → Adds a c x z (lines_of number wanted all)
-  both_shown a b c x y z p q = subst (λ l. Adds a c x z l) (sym both) (adds_more a b c x y z (lines_of number wanted xs) (lines_of number wanted ys) p q)
+  pub both_shown : (a b c : Option (List ℕ)) (x y z : List ℕ) → AddsLines a b x y (lines_of number wanted xs) → AddsLines b c y z (lines_of number wanted ys) → AddsLines a c x z (lines_of number wanted all)
+  both_shown a b c x y z p q = subst (λ l. AddsLines a c x z l) (sym both) (adds_more a b c x y z (lines_of number wanted xs) (lines_of number wanted ys) p q)
 
   -- it stops in the first
   pub first_cut : (why : PrintError) (a b : Option (List ℕ)) (x : List ℕ) → AddsPart why a b (x ++ lines_of number wanted xs) → AddsPart why a b (x ++ lines_of number wanted all)
   first_cut why a b x part = subst (λ l. AddsPart why a b (x ++ l)) (sym both) (part_longer why a b x (lines_of number wanted xs) (lines_of number wanted ys) part)
 
   -- it stops in the second
-  pub second_cut : (why : PrintError) (a b c : Option (List ℕ)) (x y : List ℕ) → AreWhole x → Adds a b x y (lines_of number wanted xs) → (AreWhole y → AddsPart why b c (y ++ lines_of number wanted ys)) → AddsPart why a c (x ++ lines_of number wanted all)
+  pub second_cut : (why : PrintError) (a b c : Option (List ℕ)) (x y : List ℕ) → AreWholeLines x → AddsLines a b x y (lines_of number wanted xs) → (AreWholeLines y → AddsPart why b c (y ++ lines_of number wanted ys)) → AddsPart why a c (x ++ lines_of number wanted all)
   second_cut why a b c x y whole p part =
       subst (λ l. AddsPart why a c (x ++ l)) (sym both)
       (part_more why a b c x y (lines_of number wanted xs) (lines_of number wanted ys) whole p (part (page_whole a b x y (lines_of number wanted xs) p whole)))
@@ -30,12 +30,12 @@ module _ (number : ℕ) (wanted : ChangeFilter) (xs ys all : List Change) (is : 
 -- ---- one line
 
 module _ (buffer line : List ℕ) where
-  pub line_shown : (a b : Option (List ℕ)) (put moved : List ℕ) → AreWhole line → put ≡ buffer ++ line → Adds a b put moved [] → Adds a b buffer moved (line ++ [])
+  pub line_shown : (a b : Option (List ℕ)) (put moved : List ℕ) → AreWholeLines line → put ≡ buffer ++ line → AddsLines a b put moved [] → AddsLines a b buffer moved (line ++ [])
   line_shown a b put moved whole is spilled =
-      subst (Adds a b buffer moved) (sym (append-nil line)) (adds_moved a a b buffer put moved line (adds_put a a buffer buffer [] put line (adds_none a buffer) is whole) spilled)
+      subst (AddsLines a b buffer moved) (sym (append-nil line)) (adds_moved a a b buffer put moved line (adds_put a a buffer buffer [] put line (adds_none a buffer) is whole) spilled)
 
   -- memory ran out before it was in the buffer
-  pub line_missing : (a : Option (List ℕ)) → AreWhole buffer → AddsPart stop.Memory a a (buffer ++ (line ++ []))
+  pub line_missing : (a : Option (List ℕ)) → AreWholeLines buffer → AddsPart stop.Memory a a (buffer ++ (line ++ []))
   line_missing a whole = part_longer stop.Memory a a buffer [] (line ++ []) (part_now a a buffer buffer [] whole (adds_none a buffer))
 
   -- the buffer with it was not written whole

@@ -9,7 +9,7 @@ use Rattle.change_log.specs.declared.printing.ChangeFilter.{ChangeFilter}
 use Rattle.ospf_types.specs.Text.{address_text, prefix_text}
 use Rattle.event_core.specs.DueSummaries.{listed}
 use Rattle.event_core.specs.Lists.{AreaSummariesValue}
-use Rattle.replay.specs.Stops.{AreWhole}
+use Rattle.replay.specs.Stops.{AreWholeLines}
 use Rattle.event_state.specs.Texts.{refusal_text}
 use Rattle.event_state.specs.declared.refusal.Refusal.{Refusal}
 use Rattle.recording.specs.Texts.{fault_text}
@@ -26,10 +26,10 @@ use Rattle.output_lines.specs.declared.format.Format.{Format}
 use Rattle.output_lines.specs.declared.format.Format.TheVariants as format
 use Rattle.route_table.specs.declared.table.Match.{Match}
 
-ended : (front : List ℕ) → AreWhole (front ++ codes "\n")
+ended : (front : List ℕ) → AreWholeLines (front ++ codes "\n")
 ended front = inr (record { front = front; ends = refl })
 
-words_whole : (number : ℕ) (change : Change) → AreWhole (words_of number change)
+words_whole : (number : ℕ) (change : Change) → AreWholeLines (words_of number change)
 words_whole number (Set p now) = ended (decimal number ++ codes " set " ++ prefix_text p ++ codes " " ++ item_text now)
 words_whole number (Drop p) = ended (decimal number ++ codes " drop " ++ prefix_text p)
 words_whole number (Due area dest metric) = ended (decimal number ++ codes " due " ++ place_text area dest ++ codes " " ++ decimal metric)
@@ -38,10 +38,10 @@ words_whole number (Found address serial found) = lookup_whole format.Text numbe
 words_whole number (Refused refusal) = ended (decimal number ++ codes " refused " ++ refusal_text refusal)
 words_whole number (AtFault fault) = ended (decimal number ++ codes " fault " ++ fault_text fault)
 
-json_whole : (d : Data) → AreWhole (json_line d)
+json_whole : (d : Data) → AreWholeLines (json_line d)
 json_whole d = ended (compact_text d)
 
-object_whole : (number : ℕ) (change : Change) → AreWhole (object_line number change)
+object_whole : (number : ℕ) (change : Change) → AreWholeLines (object_line number change)
 object_whole number (Set p now) = json_whole (set_data number p now)
 object_whole number (Drop p) = json_whole (drop_data number p)
 object_whole number (Due area dest metric) = json_whole (due_data number area (due_for dest metric))
@@ -50,12 +50,12 @@ object_whole number (Found address serial found) = json_whole (lookup_data (reco
 object_whole number (Refused refusal) = json_whole (refused_data number refusal)
 object_whole number (AtFault fault) = json_whole (fault_data (record { line = number; fault = fault }))
 
-pub change_whole : (fm : Format) (number : ℕ) (change : Change) → AreWhole (change_line fm number change)
+pub change_whole : (fm : Format) (number : ℕ) (change : Change) → AreWholeLines (change_line fm number change)
 change_whole format.Text number change = words_whole number change
 change_whole format.Json number change = object_whole number change
 
-pub line_whole : (number : ℕ) (wanted : ChangeFilter) (change : Change) → AreWhole (line_of number wanted change)
-line_whole number wanted change = elim (is_told wanted.only change) as (λ b. AreWhole (cond b (change_line wanted.format number change) (codes ""))) [ true ↦ change_whole wanted.format number change | false ↦ none_whole ]
+pub line_whole : (number : ℕ) (wanted : ChangeFilter) (change : Change) → AreWholeLines (line_of number wanted change)
+line_whole number wanted change = elim (is_told wanted.only change) as (λ b. AreWholeLines (cond b (change_line wanted.format number change) (codes ""))) [ true ↦ change_whole wanted.format number change | false ↦ none_whole ]
 
 -- the line of a lookup is a line of this kind
 pub found_line : (fm : Format) (number address serial : ℕ) (found : Match) → lookup_line fm number address serial found ≡ change_line fm number (Found address serial found)

@@ -30,7 +30,7 @@ front_with front_end.LongLine front line = front ++ line
 front_with (front_end.AtFault f) front line = front
 
 -- the line that was read, and its line feed, was added, if it belongs to the preamble
-pub record IsAdded (end : PreambleEnd) (feed : List ℕ) (old new : Opening) : Type 0 where
+pub record IsLineAdded (end : PreambleEnd) (feed : List ℕ) (old new : Opening) : Type 0 where
   pub ends : new.end ≡ end
   pub line : new.line.items ≡ old.line.items
   pub front : new.front.items ≡ front_with end old.front.items (old.line.items ++ feed)
@@ -60,20 +60,20 @@ pub record IsLongFront (front held : List ℕ) (known : Option (List ℕ)) (kept
   pub read : Takes held known kept left (before ++ (raw ++ after))
 
 -- The front was taken, and the line that ended it.
-abbrev pub Opens : PreambleEnd → (front line held : List ℕ) → (known : Option (List ℕ)) → (kept : List ℕ) → (left : Option (List ℕ)) → Type 0
-Opens front_end.Over front line held known kept left = Takes held known kept left front × HasEnded kept left
-Opens front_end.Line front line held known kept left = (mid : List ℕ) × (rest : Option (List ℕ)) × Takes held known mid rest front × TakesWhole mid rest kept left line
-Opens front_end.Cut front line held known kept left = (mid : List ℕ) × (rest : Option (List ℕ)) × Takes held known mid rest front × TakesLast mid rest kept left line
-Opens front_end.LongLine front line held known kept left = IsLongFront front held known kept left
-Opens (front_end.AtFault f) front line held known kept left = Takes held known kept left front × IsFaultOf front f
+abbrev pub OpensPreamble : PreambleEnd → (front line held : List ℕ) → (known : Option (List ℕ)) → (kept : List ℕ) → (left : Option (List ℕ)) → Type 0
+OpensPreamble front_end.Over front line held known kept left = Takes held known kept left front × HasEnded kept left
+OpensPreamble front_end.Line front line held known kept left = (mid : List ℕ) × (rest : Option (List ℕ)) × Takes held known mid rest front × TakesWhole mid rest kept left line
+OpensPreamble front_end.Cut front line held known kept left = (mid : List ℕ) × (rest : Option (List ℕ)) × Takes held known mid rest front × TakesLast mid rest kept left line
+OpensPreamble front_end.LongLine front line held known kept left = IsLongFront front held known kept left
+OpensPreamble (front_end.AtFault f) front line held known kept left = Takes held known kept left front × IsFaultOf front f
 
 -- each line of the preamble was taken whole, and none of them is known to have a fault
-abbrev pub IsWhole : PreambleEnd → Type 0
-IsWhole front_end.Over = Unit {0}
-IsWhole front_end.Line = Unit {0}
-IsWhole front_end.Cut = Unit {0}
-IsWhole front_end.LongLine = ⊥
-IsWhole (front_end.AtFault f) = ⊥
+abbrev pub IsPreambleWhole : PreambleEnd → Type 0
+IsPreambleWhole front_end.Over = Unit {0}
+IsPreambleWhole front_end.Line = Unit {0}
+IsPreambleWhole front_end.Cut = Unit {0}
+IsPreambleWhole front_end.LongLine = ⊥
+IsPreambleWhole (front_end.AtFault f) = ⊥
 
 -- the fault is one of the front, or of the front and these bytes
 abbrev pub IsFaultUpTo : (more front : List ℕ) → LineFault → Type 0
@@ -89,12 +89,12 @@ IsFormless text number f = (r : RecordingValue) × IsText text r × (f ≡ recor
 
 -- The reason why the preamble is not valid. If a line was too long and cut short, and the preamble
 -- then has no fault, the fault is that this line has no form.
-abbrev pub HasFault : PreambleEnd → (front line : List ℕ) → LineFault → Type 0
-HasFault front_end.Over front line f = IsFaultOf front f
-HasFault front_end.Line front line f = IsFaultUpTo (line ++ 10 ∷ []) front f
-HasFault front_end.Cut front line f = IsFaultUpTo (line ++ []) front f
-HasFault front_end.LongLine front line f = IsFaultOf front f ⊎ IsFormless front (last_line front) f
-HasFault (front_end.AtFault g) front line f = f ≡ g
+abbrev pub HasOpeningFault : PreambleEnd → (front line : List ℕ) → LineFault → Type 0
+HasOpeningFault front_end.Over front line f = IsFaultOf front f
+HasOpeningFault front_end.Line front line f = IsFaultUpTo (line ++ 10 ∷ []) front f
+HasOpeningFault front_end.Cut front line f = IsFaultUpTo (line ++ []) front f
+HasOpeningFault front_end.LongLine front line f = IsFaultOf front f ⊎ IsFormless front (last_line front) f
+HasOpeningFault (front_end.AtFault g) front line f = f ≡ g
 
 abbrev pub IsFrontFault : Opening → ReplayFault → Type 0
-IsFrontFault o e = (e ≡ replay_fault.Memory) ⊎ ((f : LineFault) × (e ≡ replay_fault.Line f) × HasFault o.end o.front.items o.line.items f)
+IsFrontFault o e = (e ≡ replay_fault.Memory) ⊎ ((f : LineFault) × (e ≡ replay_fault.Line f) × HasOpeningFault o.end o.front.items o.line.items f)

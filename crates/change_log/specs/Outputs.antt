@@ -16,7 +16,7 @@ use Rattle.replay.specs.declared.buffer.PrintError.{PrintError}
 use Rattle.change_log.specs.Lines.{Change, lines_of}
 use Rattle.change_log.specs.Changes.{Give, all_of}
 use Rattle.change_log.specs.Runs.{Fails, Says, Taken, TellsLines}
-use Rattle.change_log.specs.Streams.{AllSay, AreTaken, ComesFrom, IsFaultOfFront, IsReadAs, lines_in}
+use Rattle.change_log.specs.Streams.{NoneFails, AreLinesTaken, ComesFrom, IsFaultOfFront, IsLineReadAs, lines_in}
 use Rattle.change_log.specs.declared.printing.ChangeOptions.{ChangeOptions}
 
 -- the base is reported at its last line
@@ -38,20 +38,20 @@ pub record IsTelling (t : ChangeOptions) (r : RecordingValue) (taken : List Take
 
 -- The bytes are the text of a recording, followed by lines that were taken. If none may be skipped,
 -- none of them has a fault, and all bytes are the text of one.
-pub record AreBytes (t : ChangeOptions) (bytes : List ℕ) (r : RecordingValue) (taken : List Taken) : Type 0 where
+pub record AreRecordingBytes (t : ChangeOptions) (bytes : List ℕ) (r : RecordingValue) (taken : List Taken) : Type 0 where
   pub front : List ℕ
   pub behind : List ℕ
   pub joined : bytes ≡ front ++ behind
   pub text : IsText front r
-  pub lines : AreTaken r.version behind taken
-  pub said : t.skips_faults ≡ false → AllSay taken
+  pub lines : AreLinesTaken r.version behind taken
+  pub said : t.skips_faults ≡ false → NoneFails taken
   pub whole : t.skips_faults ≡ false → IsText bytes (record r { lines = r.lines ++ lines_in taken })
 
 -- the report of the bytes
 pub record IsTellingOf (t : ChangeOptions) (bytes text : List ℕ) : Type 0 where
   pub recording : RecordingValue
   pub taken : List Taken
-  pub are : AreBytes t bytes recording taken
+  pub are : AreRecordingBytes t bytes recording taken
   pub telling : IsTelling t recording taken text
 
 -- all bytes of the reader were taken, and their report was written
@@ -76,7 +76,7 @@ pub record TellsPart (why : PrintError) (t : ChangeOptions) (before after : Opti
   pub comes : ComesFrom before after bytes
   pub recording : RecordingValue
   pub taken : List Taken
-  pub are : AreBytes t bytes recording taken
+  pub are : AreRecordingBytes t bytes recording taken
   pub count : ℕ
   pub whole : List ℕ
   pub telling : IsTelling t (record recording { lines = take count recording.lines }) taken whole
@@ -97,11 +97,11 @@ pub record FailsBehind (t : ChangeOptions) (before after : Option (List ℕ)) (f
   pub text : List ℕ
   pub recording : RecordingValue
   pub taken : List Taken
-  pub are : AreBytes t bytes recording taken
+  pub are : AreRecordingBytes t bytes recording taken
   pub telling : IsTelling t recording taken text
   pub written : Appends old new text
   pub raw : List ℕ
   pub line : HasNoLineFeed raw
   pub comes : ComesFrom before after (bytes ++ raw)
-  pub fault : IsReadAs recording.version (shortened raw) (Fails f.fault) ⊎ ((raw ≢ []) × (f.fault ≡ fault.Truncated) × IsAtEnd after)
+  pub fault : IsLineReadAs recording.version (shortened raw) (Fails f.fault) ⊎ ((raw ≢ []) × (f.fault ≡ fault.Truncated) × IsAtEnd after)
   pub number : f.line ≡ first_number recording.version recording.base + (length recording.lines + length taken)

@@ -11,7 +11,7 @@ use Rattle.recording.specs.declared.line.Line.{Line}
 use Rattle.recording.specs.declared.line.Line.TheVariants as line
 use Rattle.route_table.specs.declared.table.Match.{Match}
 use Rattle.route_table.specs.Tables.{IsMatch}
-use Rattle.replay.specs.Pages.{Adds, AddsPart, TakesRoll}
+use Rattle.replay.specs.Pages.{AddsLines, AddsPart, TakesRoll}
 use Rattle.replay.specs.Runs.{RollsBy}
 use Rattle.replay.specs.declared.buffer.PrintError.{PrintError}
 use Rattle.replay.specs.declared.buffer.PrintError.TheVariants as stop
@@ -95,13 +95,13 @@ TellsLines wanted answers old number (t ∷ taken) before text after new =
 pub record ToldLine (wanted : ChangeFilter) (answers : Bool) (old : CoreValue) (number : ℕ) (l : Line) (new : CoreValue) (from to : Option (List ℕ)) (buffer put : List ℕ) : Type 0 where
   pub told : List Change
   pub tells : TellsLine answers old l new told
-  pub printed : Adds from to buffer put (lines_of number wanted told)
+  pub printed : AddsLines from to buffer put (lines_of number wanted told)
 
 -- the line was taken, likewise
 pub record ToldTaken (wanted : ChangeFilter) (answers : Bool) (old : CoreValue) (number : ℕ) (t : Taken) (new : CoreValue) (from to : Option (List ℕ)) (buffer put : List ℕ) : Type 0 where
   pub told : List Change
   pub tells : TellsTaken answers old t new told
-  pub printed : Adds from to buffer put (lines_of number wanted told)
+  pub printed : AddsLines from to buffer put (lines_of number wanted told)
 
 -- memory ran out, and nothing was written
 abbrev pub StopsBefore : PrintError → (from to : Option (List ℕ)) → Type 0
@@ -129,8 +129,8 @@ pub record ToldPart (why : PrintError) (wanted : ChangeFilter) (answers : Bool) 
   pub part : AddsPart why from to (buffer ++ text)
 
 -- the lines were taken, and their report was appended to the buffer
-pub record Told (wanted : ChangeFilter) (answers : Bool) (old : CoreValue) (number : ℕ) (taken : List Taken) (before : List Change) (new : CoreValue) (from to : Option (List ℕ)) (buffer put : List ℕ) : Type 0 where
+pub record LinesTaken (wanted : ChangeFilter) (answers : Bool) (old : CoreValue) (number : ℕ) (taken : List Taken) (before : List Change) (new : CoreValue) (from to : Option (List ℕ)) (buffer put : List ℕ) : Type 0 where
   pub text : List ℕ
   pub after : List Change
   pub run : TellsLines wanted answers old number taken before text after new
-  pub printed : Adds from to buffer put text
+  pub printed : AddsLines from to buffer put text

@@ -15,16 +15,16 @@ use Rattle.change_log.specs.Runs.{Taken, Says, Comes, Fails}
 
 -- The meaning of the line after the base, or its fault. A line that is too long to be read whole
 -- has a fault: that of its beginning, or that it has no form.
-abbrev pub IsReadAs : Version → (line : List ℕ) → Taken → Type 0
-IsReadAs v line (Says l) = ⊥
-IsReadAs v line (Comes l) = (length line < LONGEST) × IsLineOf v line l
-IsReadAs v line (Fails f) = IsFaultBehind v line f ⊎ ((LONGEST ≤ length line) × (f ≡ fault.Line))
+abbrev pub IsLineReadAs : Version → (line : List ℕ) → Taken → Type 0
+IsLineReadAs v line (Says l) = ⊥
+IsLineReadAs v line (Comes l) = (length line < LONGEST) × IsLineOf v line l
+IsLineReadAs v line (Fails f) = IsFaultBehind v line f ⊎ ((LONGEST ≤ length line) × (f ≡ fault.Line))
 
 -- these are the lines of the bytes, each with its line feed, and what they were taken for
-abbrev pub AreTaken : Version → (bytes : List ℕ) → List Taken → Type 0
-AreTaken v bytes [] = bytes ≡ []
-AreTaken v bytes (t ∷ taken) =
-    (raw : List ℕ) × (rest : List ℕ) × HasNoLineFeed raw × IsReadAs v (shortened raw) t × (bytes ≡ raw ++ 10 ∷ rest) × AreTaken v rest taken
+abbrev pub AreLinesTaken : Version → (bytes : List ℕ) → List Taken → Type 0
+AreLinesTaken v bytes [] = bytes ≡ []
+AreLinesTaken v bytes (t ∷ taken) =
+    (raw : List ℕ) × (rest : List ℕ) × HasNoLineFeed raw × IsLineReadAs v (shortened raw) t × (bytes ≡ raw ++ 10 ∷ rest) × AreLinesTaken v rest taken
 
 -- their meaning, without the lines that have a fault
 abbrev pub lines_in : List Taken → List Line
@@ -34,11 +34,11 @@ lines_in (Comes l ∷ taken) = l ∷ lines_in taken
 lines_in (Fails f ∷ taken) = lines_in taken
 
 -- none of them has a fault
-abbrev pub AllSay : List Taken → Type 0
-AllSay [] = Unit {0}
-AllSay (Says l ∷ taken) = AllSay taken
-AllSay (Comes l ∷ taken) = AllSay taken
-AllSay (Fails f ∷ taken) = ⊥
+abbrev pub NoneFails : List Taken → Type 0
+NoneFails [] = Unit {0}
+NoneFails (Says l ∷ taken) = NoneFails taken
+NoneFails (Comes l ∷ taken) = NoneFails taken
+NoneFails (Fails f ∷ taken) = ⊥
 
 -- The bytes come from a reader whose known bytes were these before and are these now. More may have
 -- been read than was taken.

@@ -1,16 +1,16 @@
 //! Lines that are run as they come.
 ghost use Rattle.std.specs.Prelude.{◌++◌, ◌∷◌, List, [], OnOk, IfOk, IfErr, string_bytes};
 ghost use Rattle.event_core.specs.Cores.{IsCore, IsCurrent};
-ghost use Rattle.replay.specs.Pages.{Adds, AddsPart};
-ghost use Rattle.replay.specs.Stops.{AreWhole, stop_of};
+ghost use Rattle.replay.specs.Pages.{AddsLines, AddsPart};
+ghost use Rattle.replay.specs.Stops.{AreWholeLines, stop_of};
 ghost use Rattle.change_log.specs.Changes.{Give};
 ghost use Rattle.change_log.specs.Lines as told;
 ghost use Rattle.change_log.specs.Lines.{Change, lines_of};
 ghost use Rattle.change_log.specs.Runs.{Comes, Fails, KeepsShort, StopsAtTaken, ToldTaken};
-ghost use Rattle.change_log.specs.Streams.{IsReadAs};
+ghost use Rattle.change_log.specs.Streams.{IsLineReadAs};
 ghost use Rattle.change_log.specs.Begun.{Closes};
 ghost use Rattle.change_log.specs.Following.{Ends, EndsBehind, StopsBehind, StopsIn, StopsTaking};
-ghost use Rattle.change_log.specs.Following.{Takes, Tells};
+ghost use Rattle.change_log.specs.Following.{TakesOneLine, ReportsLine};
 ghost use Rattle.replay.specs.Advance.{IsProgress};
 
 use crate::lines::{LineContext, put_fault};
@@ -92,7 +92,7 @@ impl Run {
         ensures ok { IfOk result (λ end. EndsBehind front end self.old self.new lines.old
             (R.remaining input.old) (R.remaining input.new) (W.contents out.old)
             (W.contents out.new)) }
-        ensures err { AreWhole (string_bytes self.old.buffer) → IfErr result (λ why.
+        ensures err { AreWholeLines (string_bytes self.old.buffer) → IfErr result (λ why.
             StopsBehind front why self.old lines.old (R.remaining input.old)
             (R.remaining input.new) (W.contents out.old) (W.contents out.new)) }
         ensures progress { IsProgress self.old.progress (F.contents faults.old)
@@ -124,7 +124,7 @@ impl Run {
             Ends end before self.old self.new lines.old (R.remaining input.old)
             (R.remaining input.new) (W.contents out.old) (W.contents out.new)) }
         ensures err { (before : List Change) → Give before self.old.core
-            → AreWhole (string_bytes self.old.buffer) → IfErr result (λ why.
+            → AreWholeLines (string_bytes self.old.buffer) → IfErr result (λ why.
             StopsIn why before self.old lines.old (R.remaining input.old)
             (R.remaining input.new) (W.contents out.old) (W.contents out.new)) }
         ensures progress { IsProgress self.old.progress (F.contents faults.old)
@@ -153,8 +153,8 @@ impl Run {
         requires kept { IsCore self.old.core }
         requires current { IsCurrent self.old.core }
         ensures ok { IfOk result (λ fault.
-            Takes fault self.old self.new (W.contents out.old) (W.contents out.new)) }
-        ensures err { AreWhole (string_bytes self.old.buffer) → IfErr result (λ why.
+            TakesOneLine fault self.old self.new (W.contents out.old) (W.contents out.new)) }
+        ensures err { AreWholeLines (string_bytes self.old.buffer) → IfErr result (λ why.
             StopsTaking why self.old (W.contents out.old) (W.contents out.new)) }
     {
         if let Some(fault) = self.tell(out)? {
@@ -174,8 +174,8 @@ impl Run {
         requires kept { IsCore self.old.core }
         requires current { IsCurrent self.old.core }
         ensures ok { IfOk result (λ fault.
-            Tells fault self.old self.new (W.contents out.old) (W.contents out.new)) }
-        ensures err { AreWhole (string_bytes self.old.buffer) → IfErr result (λ why.
+            ReportsLine fault self.old self.new (W.contents out.old) (W.contents out.new)) }
+        ensures err { AreWholeLines (string_bytes self.old.buffer) → IfErr result (λ why.
             StopsTaking why self.old (W.contents out.old) (W.contents out.new)) }
     {
         let line = match take_line(
@@ -222,7 +222,7 @@ fn hand_on<W: io::Write>(
     out: &mut W,
     buffer: &mut String,
 ) -> Result<(), WriteError>
-    ensures ok { OnOk result (Adds (W.contents out.old) (W.contents out.new) (string_bytes buffer.old)
+    ensures ok { OnOk result (AddsLines (W.contents out.old) (W.contents out.new) (string_bytes buffer.old)
         (string_bytes buffer.new) []) }
     ensures err { IfErr result (λ why. AddsPart (stop_of why) (W.contents out.old)
         (W.contents out.new) (string_bytes buffer.old)) }
@@ -240,8 +240,8 @@ fn take_line(
     line: &[u8],
     room: &mut Vec<u8>,
 ) -> Result<Line, Fault>
-    ensures says { IfOk result (λ l. IsReadAs version line.now (Comes l)) }
-    ensures fails { IfErr result (λ f. IsReadAs version line.now (Fails f)) }
+    ensures says { IfOk result (λ l. IsLineReadAs version line.now (Comes l)) }
+    ensures fails { IfErr result (λ f. IsLineReadAs version line.now (Fails f)) }
 {
     let read = read_line(alloc, version, line, room);
     if line.len() < LONGEST {
@@ -266,7 +266,7 @@ fn tell_next<W: io::Write>(
         core.new (W.contents out.old) (W.contents out.new) (string_bytes buffer.old)
         (string_bytes buffer.new)) }
     ensures kept { OnOk result (IsCore core.new) }
-    ensures err { AreWhole (string_bytes buffer.old) → IfErr result (λ why.
+    ensures err { AreWholeLines (string_bytes buffer.old) → IfErr result (λ why.
         StopsAtTaken why at.now.wanted at.now.answers core.old at.now.number (Comes line) core.new
         (W.contents out.old) (W.contents out.new) (string_bytes buffer.old)) }
 {
@@ -303,9 +303,9 @@ fn tell_fault<W: io::Write>(
     out: &mut W,
     buffer: &mut String,
 ) -> Result<(), PrintError>
-    ensures ok { OnOk result (Adds (W.contents out.old) (W.contents out.new) (string_bytes buffer.old)
+    ensures ok { OnOk result (AddsLines (W.contents out.old) (W.contents out.new) (string_bytes buffer.old)
         (string_bytes buffer.new) (lines_of at.now.number at.now.wanted (told.AtFault fault ∷ []))) }
-    ensures err { AreWhole (string_bytes buffer.old) → IfErr result (λ why.
+    ensures err { AreWholeLines (string_bytes buffer.old) → IfErr result (λ why.
         AddsPart why (W.contents out.old) (W.contents out.new) (string_bytes buffer.old
         ++ lines_of at.now.number at.now.wanted (told.AtFault fault ∷ []))) }
 {

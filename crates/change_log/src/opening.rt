@@ -1,8 +1,8 @@
 //! The preamble of a recording, read line by line: its lines up to the first one of another kind.
 ghost use Rattle.std.specs.Prelude.{◌≡◌, ◌↔◌, ◌++◌, ◌∷◌, [], IfErr, IfOk, IsTrue, OnOk};
 ghost use Rattle.replay.specs.Parts.{IsParsed};
-ghost use Rattle.change_log.specs.Openings.{HasFault, IsAdded, IsFaultWith, IsFrontFault, IsLooked};
-ghost use Rattle.change_log.specs.Openings.{IsWhole, Opens, ends_after, last_line};
+ghost use Rattle.change_log.specs.Openings.{HasOpeningFault, IsLineAdded, IsFaultWith, IsFrontFault, IsLooked};
+ghost use Rattle.change_log.specs.Openings.{IsPreambleWhole, OpensPreamble, ends_after, last_line};
 ghost use Rattle.change_log.specs.declared.opening.PreambleEnd.TheVariants as front_end;
 
 use input_reading::{LONGEST, LineReader, Next, ReadFault};
@@ -48,7 +48,7 @@ pub(crate) fn read_opening<R: io::Read>(
     lines: &mut LineReader,
     input: &mut R,
 ) -> Result<Opening, ReadFault>
-    ensures { IfOk result (λ opening. Opens opening.end opening.front.items opening.line.items
+    ensures { IfOk result (λ opening. OpensPreamble opening.end opening.front.items opening.line.items
         lines.old (R.remaining input.old) lines.new (R.remaining input.new)) }
 {
     let mut opening = Opening {
@@ -89,7 +89,7 @@ impl Opening {
 
     // Adds the line that was read, if it belongs to the preamble.
     fn add(&mut self) -> Result<(), AllocError>
-        ensures { OnOk result (IsAdded (ends_after self.old.line.items front_end.Line) (10 ∷ [])
+        ensures { OnOk result (IsLineAdded (ends_after self.old.line.items front_end.Line) (10 ∷ [])
             self.old self.new) }
     {
         self.end = end_after(self.line.as_slice(), PreambleEnd::Line);
@@ -98,7 +98,7 @@ impl Opening {
 
     // Adds a last line without a line feed, if it belongs to the preamble.
     fn add_cut(&mut self) -> Result<(), AllocError>
-        ensures { OnOk result (IsAdded (ends_after self.old.line.items front_end.Cut) []
+        ensures { OnOk result (IsLineAdded (ends_after self.old.line.items front_end.Cut) []
             self.old self.new) }
     {
         self.end = end_after(self.line.as_slice(), PreambleEnd::Cut);
@@ -107,7 +107,7 @@ impl Opening {
 
     // Adds the line that was read and this line feed, if the line belongs to the preamble.
     fn hold(&mut self, feed: &[u8]) -> Result<(), AllocError>
-        ensures { OnOk result (IsAdded self.old.end feed.now self.old self.new) }
+        ensures { OnOk result (IsLineAdded self.old.end feed.now self.old self.new) }
     {
         match self.end {
             PreambleEnd::Over | PreambleEnd::LongLine => {
@@ -142,7 +142,7 @@ impl Opening {
     /// If one of the first lines is missing, the fault is at the line that was read instead.
     pub(crate) fn recording(&self, alloc: Global) -> Result<Recording, ReplayFault>
         ensures recording { IfOk result (IsParsed self.now.front.items) }
-        ensures whole { OnOk result (IsWhole self.now.end) }
+        ensures whole { OnOk result (IsPreambleWhole self.now.end) }
         ensures fault { IfErr result (IsFrontFault self.now) }
     {
         match self.end {
@@ -189,7 +189,7 @@ impl Opening {
     // Returns a fault of a preamble whose last line is too long to be read whole. If it has no
     // other fault, that line has one: no line of its length has a form.
     fn fault_of_long_line(&self, alloc: Global) -> LineFault
-        ensures { HasFault front_end.LongLine self.now.front.items self.now.line.items result }
+        ensures { HasOpeningFault front_end.LongLine self.now.front.items self.now.line.items result }
     {
         match parse(alloc, self.front.as_slice()) {
             Ok(_) => LineFault {

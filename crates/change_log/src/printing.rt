@@ -6,7 +6,7 @@ ghost use Rattle.replay.specs.Advance.{IsProgress};
 ghost use Rattle.replay.specs.Runs.{IsOpened};
 ghost use Rattle.replay.specs.declared.fault.ReplayFault.TheVariants as replay_fault;
 ghost use Rattle.replay.specs.declared.buffer.PrintError.TheVariants as stop;
-ghost use Rattle.change_log.specs.Begun.{IsBegun, StopsAtBase};
+ghost use Rattle.change_log.specs.Begun.{IsRunBegun, StopsAtBase};
 ghost use Rattle.change_log.specs.Outputs.{FailsAtFront, FailsBehind, TellsAll, TellsPart, TellsThese};
 
 use crate::following::Run;
@@ -129,7 +129,7 @@ fn begin<W: io::Write>(
     telling: ChangeOptions,
 ) -> Result<Run, PrintError>
     requires { IsOpened opened.core.base opened.core }
-    ensures ok { IfOk result (λ run. IsBegun telling (recording_of opened.version opened.core.base
+    ensures ok { IfOk result (λ run. IsRunBegun telling (recording_of opened.version opened.core.base
         opened.lines.items) run (W.contents out.old) (W.contents out.new)) }
     ensures line { IfOk result (λ run. run.line ≡ line) }
     ensures progress { IfOk result (λ run. run.progress ≡ telling.progress) }

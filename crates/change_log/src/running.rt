@@ -4,12 +4,12 @@ ghost use Rattle.std.specs.Prelude.{OnOk, IfErr, string_bytes};
 ghost use Rattle.event_core.specs.Cores.{IsCore, IsCurrent};
 ghost use Rattle.event_state.specs.declared.refusal.Refusal.TheVariants as refusal_value;
 ghost use Rattle.recording.specs.declared.line.Line.TheVariants as line_is;
-ghost use Rattle.replay.specs.Pages.{Adds, AddsPart};
-ghost use Rattle.replay.specs.Stops.{AreWhole};
+ghost use Rattle.replay.specs.Pages.{AddsLines, AddsPart};
+ghost use Rattle.replay.specs.Stops.{AreWholeLines};
 ghost use Rattle.change_log.specs.Changes.{all_of};
 ghost use Rattle.change_log.specs.Lines as told;
 ghost use Rattle.change_log.specs.Lines.{lines_of};
-ghost use Rattle.change_log.specs.Runs.{MayPass, Says, StopsAtLine, Told, ToldLine, ToldPart};
+ghost use Rattle.change_log.specs.Runs.{MayPass, Says, StopsAtLine, LinesTaken, ToldLine, ToldPart};
 ghost use Rattle.change_log.specs.Runs.{answered};
 
 use crate::lines::{LineContext, put_refused};
@@ -39,12 +39,12 @@ pub fn print_line_changes<W: io::Write>(
     requires kept { IsCore core.old }
     requires current { IsCurrent core.old }
     requires few { from.number + length lines.items < 2 ^ 64 }
-    ensures ok { OnOk result (Told from.wanted from.answers core.old from.number
+    ensures ok { OnOk result (LinesTaken from.wanted from.answers core.old from.number
         (map Says lines.items) (all_of core.old) core.new (W.contents out.old) (W.contents out.new)
         (string_bytes buffer.old) (string_bytes buffer.new)) }
     ensures kept { OnOk result (IsCore core.new) }
     ensures current { OnOk result (IsCurrent core.new) }
-    ensures err { AreWhole (string_bytes buffer.old) → IfErr result (λ why. (count : ℕ)
+    ensures err { AreWholeLines (string_bytes buffer.old) → IfErr result (λ why. (count : ℕ)
         × ToldPart why from.wanted from.answers core.old from.number
         (map Says (take count lines.items)) (all_of core.old) (W.contents out.old)
         (W.contents out.new) (string_bytes buffer.old)) }
@@ -70,7 +70,7 @@ pub(crate) fn tell_line<W: io::Write>(
         core.new (W.contents out.old) (W.contents out.new) (string_bytes buffer.old)
         (string_bytes buffer.new)) }
     ensures kept { OnOk result (IsCore core.new) }
-    ensures err { AreWhole (string_bytes buffer.old) → IfErr result (λ why.
+    ensures err { AreWholeLines (string_bytes buffer.old) → IfErr result (λ why.
         StopsAtLine why at.now.wanted at.now.answers core.old at.now.number line core.new
         (W.contents out.old) (W.contents out.new) (string_bytes buffer.old)) }
 {
@@ -96,7 +96,7 @@ fn tell_event<W: io::Write>(
     ensures ok { OnOk result (ToldLine at.now.wanted at.now.answers core.old at.now.number
         (line_is.Event event) core.new (W.contents out.old) (W.contents out.new)
         (string_bytes buffer.old) (string_bytes buffer.new)) }
-    ensures err { AreWhole (string_bytes buffer.old) → IfErr result (λ why.
+    ensures err { AreWholeLines (string_bytes buffer.old) → IfErr result (λ why.
         StopsAtLine why at.now.wanted at.now.answers core.old at.now.number (line_is.Event event)
         core.new (W.contents out.old) (W.contents out.new) (string_bytes buffer.old)) }
 {
@@ -136,7 +136,7 @@ fn tell_lookup<W: io::Write>(
     ensures ok { OnOk result (ToldLine at.now.wanted at.now.answers core.now at.now.number
         (line_is.Lookup address) core.now (W.contents out.old) (W.contents out.new)
         (string_bytes buffer.old) (string_bytes buffer.new)) }
-    ensures err { AreWhole (string_bytes buffer.old) → IfErr result (λ why.
+    ensures err { AreWholeLines (string_bytes buffer.old) → IfErr result (λ why.
         StopsAtLine why at.now.wanted at.now.answers core.now at.now.number (line_is.Lookup address)
         core.now (W.contents out.old) (W.contents out.new) (string_bytes buffer.old)) }
 {
@@ -158,7 +158,7 @@ fn tell_roll<W: io::Write>(
     ensures ok { OnOk result (ToldLine at.now.wanted at.now.answers core.old at.now.number
         line_is.Roll core.new (W.contents out.old) (W.contents out.new) (string_bytes buffer.old)
         (string_bytes buffer.new)) }
-    ensures err { AreWhole (string_bytes buffer.old) → IfErr result (λ why.
+    ensures err { AreWholeLines (string_bytes buffer.old) → IfErr result (λ why.
         StopsAtLine why at.now.wanted at.now.answers core.old at.now.number line_is.Roll core.new
         (W.contents out.old) (W.contents out.new) (string_bytes buffer.old)) }
 {
@@ -175,10 +175,10 @@ fn tell_refused<W: io::Write>(
     out: &mut W,
     buffer: &mut String,
 ) -> Result<(), PrintError>
-    ensures ok { OnOk result (Adds (W.contents out.old) (W.contents out.new) (string_bytes buffer.old)
+    ensures ok { OnOk result (AddsLines (W.contents out.old) (W.contents out.new) (string_bytes buffer.old)
         (string_bytes buffer.new)
         (lines_of at.now.number at.now.wanted (answered at.now.answers (told.Refused refusal)))) }
-    ensures err { AreWhole (string_bytes buffer.old) → IfErr result (λ why.
+    ensures err { AreWholeLines (string_bytes buffer.old) → IfErr result (λ why.
         AddsPart why (W.contents out.old) (W.contents out.new) (string_bytes buffer.old
         ++ lines_of at.now.number at.now.wanted (answered at.now.answers (told.Refused refusal)))) }
 {

@@ -3,8 +3,8 @@ ghost use Rattle.std.specs.Prelude.{◌++◌, OnOk, IfErr, map, string_bytes};
 ghost use Rattle.std.specs.List.{flat_map};
 ghost use Rattle.std.specs.FinMap.{entries};
 ghost use Rattle.event_core.specs.DueSummaries.{lists_of};
-ghost use Rattle.replay.specs.Pages.{Adds, AddsPart};
-ghost use Rattle.replay.specs.Stops.{AreWhole};
+ghost use Rattle.replay.specs.Pages.{AddsLines, AddsPart};
+ghost use Rattle.replay.specs.Stops.{AreWholeLines};
 ghost use Rattle.change_log.specs.Lines.{lines_of};
 ghost use Rattle.change_log.specs.Changes.{all_of, area_changes, area_due, item_set, network_change};
 
@@ -23,9 +23,9 @@ pub(crate) fn show_all<W: io::Write>(
     out: &mut W,
     buffer: &mut String,
 ) -> Result<(), PrintError>
-    ensures ok { OnOk result (Adds (W.contents out.old) (W.contents out.new) (string_bytes buffer.old)
+    ensures ok { OnOk result (AddsLines (W.contents out.old) (W.contents out.new) (string_bytes buffer.old)
         (string_bytes buffer.new) (lines_of at.now.number at.now.wanted (all_of core.now))) }
-    ensures err { AreWhole (string_bytes buffer.old) → IfErr result (λ why.
+    ensures err { AreWholeLines (string_bytes buffer.old) → IfErr result (λ why.
         AddsPart why (W.contents out.old) (W.contents out.new)
         (string_bytes buffer.old ++ lines_of at.now.number at.now.wanted (all_of core.now))) }
 {
@@ -41,10 +41,10 @@ fn show_items<W: io::Write>(
     out: &mut W,
     buffer: &mut String,
 ) -> Result<(), PrintError>
-    ensures ok { OnOk result (Adds (W.contents out.old) (W.contents out.new) (string_bytes buffer.old)
+    ensures ok { OnOk result (AddsLines (W.contents out.old) (W.contents out.new) (string_bytes buffer.old)
         (string_bytes buffer.new)
         (lines_of at.now.number at.now.wanted (map item_set (entries table.now.items)))) }
-    ensures err { AreWhole (string_bytes buffer.old) → IfErr result (λ why.
+    ensures err { AreWholeLines (string_bytes buffer.old) → IfErr result (λ why.
         AddsPart why (W.contents out.old) (W.contents out.new) (string_bytes buffer.old
         ++ lines_of at.now.number at.now.wanted (map item_set (entries table.now.items)))) }
 {
@@ -62,10 +62,10 @@ fn show_summaries<W: io::Write>(
     out: &mut W,
     buffer: &mut String,
 ) -> Result<(), PrintError>
-    ensures ok { OnOk result (Adds (W.contents out.old) (W.contents out.new) (string_bytes buffer.old)
+    ensures ok { OnOk result (AddsLines (W.contents out.old) (W.contents out.new) (string_bytes buffer.old)
         (string_bytes buffer.new)
         (lines_of at.now.number at.now.wanted (flat_map area_due (lists_of summaries.now)))) }
-    ensures err { AreWhole (string_bytes buffer.old) → IfErr result (λ why.
+    ensures err { AreWholeLines (string_bytes buffer.old) → IfErr result (λ why.
         AddsPart why (W.contents out.old) (W.contents out.new) (string_bytes buffer.old
         ++ lines_of at.now.number at.now.wanted (flat_map area_due (lists_of summaries.now)))) }
 {
@@ -83,9 +83,9 @@ fn show_area<W: io::Write>(
     out: &mut W,
     buffer: &mut String,
 ) -> Result<(), PrintError>
-    ensures ok { OnOk result (Adds (W.contents out.old) (W.contents out.new) (string_bytes buffer.old)
+    ensures ok { OnOk result (AddsLines (W.contents out.old) (W.contents out.new) (string_bytes buffer.old)
         (string_bytes buffer.new) (lines_of at.now.number at.now.wanted (area_due (area, list.now)))) }
-    ensures err { AreWhole (string_bytes buffer.old) → IfErr result (λ why.
+    ensures err { AreWholeLines (string_bytes buffer.old) → IfErr result (λ why.
         AddsPart why (W.contents out.old) (W.contents out.new)
         (string_bytes buffer.old ++ lines_of at.now.number at.now.wanted (area_due (area, list.now)))) }
 {
@@ -103,11 +103,11 @@ pub(crate) fn show_changes<W: io::Write>(
     out: &mut W,
     buffer: &mut String,
 ) -> Result<(), PrintError>
-    ensures ok { OnOk result (Adds (W.contents out.old) (W.contents out.new) (string_bytes buffer.old)
+    ensures ok { OnOk result (AddsLines (W.contents out.old) (W.contents out.new) (string_bytes buffer.old)
         (string_bytes buffer.new) (lines_of at.now.number at.now.wanted
         (map (network_change core.now.table.items) core.now.changes
         ++ flat_map area_changes core.now.due_changes))) }
-    ensures err { AreWhole (string_bytes buffer.old) → IfErr result (λ why.
+    ensures err { AreWholeLines (string_bytes buffer.old) → IfErr result (λ why.
         AddsPart why (W.contents out.old) (W.contents out.new) (string_bytes buffer.old
         ++ lines_of at.now.number at.now.wanted (map (network_change core.now.table.items) core.now.changes
         ++ flat_map area_changes core.now.due_changes))) }
@@ -125,10 +125,10 @@ fn show_networks<W: io::Write>(
     out: &mut W,
     buffer: &mut String,
 ) -> Result<(), PrintError>
-    ensures ok { OnOk result (Adds (W.contents out.old) (W.contents out.new) (string_bytes buffer.old)
+    ensures ok { OnOk result (AddsLines (W.contents out.old) (W.contents out.new) (string_bytes buffer.old)
         (string_bytes buffer.new)
         (lines_of at.now.number at.now.wanted (map (network_change table.now.items) networks.now))) }
-    ensures err { AreWhole (string_bytes buffer.old) → IfErr result (λ why.
+    ensures err { AreWholeLines (string_bytes buffer.old) → IfErr result (λ why.
         AddsPart why (W.contents out.old) (W.contents out.new) (string_bytes buffer.old
         ++ lines_of at.now.number at.now.wanted (map (network_change table.now.items) networks.now))) }
 {
@@ -146,10 +146,10 @@ fn show_due_changes<W: io::Write>(
     out: &mut W,
     buffer: &mut String,
 ) -> Result<(), PrintError>
-    ensures ok { OnOk result (Adds (W.contents out.old) (W.contents out.new) (string_bytes buffer.old)
+    ensures ok { OnOk result (AddsLines (W.contents out.old) (W.contents out.new) (string_bytes buffer.old)
         (string_bytes buffer.new)
         (lines_of at.now.number at.now.wanted (flat_map area_changes changes.now))) }
-    ensures err { AreWhole (string_bytes buffer.old) → IfErr result (λ why.
+    ensures err { AreWholeLines (string_bytes buffer.old) → IfErr result (λ why.
         AddsPart why (W.contents out.old) (W.contents out.new) (string_bytes buffer.old
         ++ lines_of at.now.number at.now.wanted (flat_map area_changes changes.now))) }
 {
@@ -170,9 +170,9 @@ fn show_metrics<W: io::Write>(
     out: &mut W,
     buffer: &mut String,
 ) -> Result<(), PrintError>
-    ensures ok { OnOk result (Adds (W.contents out.old) (W.contents out.new) (string_bytes buffer.old)
+    ensures ok { OnOk result (AddsLines (W.contents out.old) (W.contents out.new) (string_bytes buffer.old)
         (string_bytes buffer.new) (lines_of at.now.number at.now.wanted (area_changes (area, metrics.now)))) }
-    ensures err { AreWhole (string_bytes buffer.old) → IfErr result (λ why.
+    ensures err { AreWholeLines (string_bytes buffer.old) → IfErr result (λ why.
         AddsPart why (W.contents out.old) (W.contents out.new)
         (string_bytes buffer.old ++ lines_of at.now.number at.now.wanted (area_changes (area, metrics.now)))) }
 {

@@ -10,7 +10,7 @@ use Rattle.output_lines.specs.declared.format.Format.{Format}
 use Rattle.output_lines.specs.declared.format.Format.TheVariants as form
 use Rattle.output_lines.specs.declared.format.Show.{Show}
 use Rattle.output_lines.specs.declared.format.Show.TheVariants.{Routes, Due, Lsdb, Journal}
-use Rattle.cli_args.specs.Command.{ReplayTexts, ChangesTexts, FollowTexts, ExplainTexts, PageTexts, CaptureTexts, HasFormat, HasCaptureWords, HasChangesWords, HasDecodeWords, HasExplainWords, HasFlag, HasFollowWords, HasJob, HasJobWords, HasPageWords, HasReplayWords, HasTexts, HasWords, IsFit, IsJob, IsMistake, JobTexts, OfOne, OfDecode, OfReplay, OfChanges, OfFollow, OfExplain, OfPage, OfCapture, OfFault, OneTexts, WritesWorkers, command_name, job_texts, program, show_name, format_name}
+use Rattle.cli_args.specs.Command.{ReplayTexts, ChangesTexts, FollowTexts, ExplainTexts, PageTexts, CaptureTexts, HasFormat, HasCaptureWords, HasChangesWords, HasDecodeWords, HasExplainWords, HasFlag, HasFollowWords, HasJob, HasJobWords, HasPageWords, HasReplayWords, HasTexts, HasWords, IsJobFit, IsJob, IsMistake, JobTexts, OfOne, OfDecode, OfReplay, OfChanges, OfFollow, OfExplain, OfPage, OfCapture, OfFault, OneTexts, WritesWorkers, command_name, job_texts, program, show_name, format_name}
 use Rattle.cli_args.specs.declared.command.Job.{Job}
 use Rattle.cli_args.specs.declared.command.Job.TheVariants.{One, Decode, Replay, Changes, Follow, Explain, Page, Capture, Fault}
 use Rattle.cli_args.specs.declared.command.Usage.{Usage}
@@ -158,7 +158,7 @@ unique s a b h k =
     let same : (command_name a, h.0) ≡ (command_name b, k.0) = cc in
     same_texts k.0 a b (ap (λ (m : Text × List Row). m.0) same) (subst (λ (r : List Row). HasJobWords r a) (ap (λ (m : Text × List Row). m.1) same) h.2) k.2
 
-pub job_is_fit : (s : Option (Text × List Row)) (job : Job) → IsJob s job → IsFit job
+pub job_is_fit : (s : Option (Text × List Row)) (job : Job) → IsJob s job → IsJobFit job
 job_is_fit s (One w) h = tt
 job_is_fit s (Decode word long) h = tt
 job_is_fit s (Replay file workers show format progress) h = h.2.1.2.within

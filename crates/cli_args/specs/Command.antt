@@ -442,16 +442,16 @@ abbrev pub IsJob : Option (Text × List Row) → Job → Type 0
 IsJob met job = HasTexts met (job_texts job)
 
 -- the job can be done: if it is a replay, its number of workers is allowed
-abbrev pub IsFit : Job → Type 0
-IsFit (One w) = Unit {0}
-IsFit (Decode word long) = Unit {0}
-IsFit (Replay file workers show format progress) = AreWorkers workers
-IsFit (Changes file only format progress) = Unit {0}
-IsFit (Follow only strict format) = Unit {0}
-IsFit (Explain file address due format progress) = Unit {0}
-IsFit (Page file output progress) = Unit {0}
-IsFit (Capture words) = Unit {0}
-IsFit (Fault number) = Unit {0}
+abbrev pub IsJobFit : Job → Type 0
+IsJobFit (One w) = Unit {0}
+IsJobFit (Decode word long) = Unit {0}
+IsJobFit (Replay file workers show format progress) = AreWorkers workers
+IsJobFit (Changes file only format progress) = Unit {0}
+IsJobFit (Follow only strict format) = Unit {0}
+IsJobFit (Explain file address due format progress) = Unit {0}
+IsJobFit (Page file output progress) = Unit {0}
+IsJobFit (Capture words) = Unit {0}
+IsJobFit (Fault number) = Unit {0}
 
 -- A mistake is one that the command line has. If no mistake is found and there is no job, a word is
 -- missing.
@@ -644,8 +644,8 @@ abbrev pub GivesJob : Result Job Usage → JobTexts → Type 0
 GivesJob result texts = MatchResult result (λ job. job_texts job ≡ texts) (λ u. u ≡ Memory)
 
 -- if the line is `abr one` with plain words, the job is `one` with these
-abbrev pub GivesOne : List Text → Result Job Usage → Type 0
-GivesOne line result = (name : Text) (t : OneTexts) → line ≡ one_line name t → ArePlain t → GivesJob result (OfOne t)
+abbrev pub ParsesAsOne : List Text → Result Job Usage → Type 0
+ParsesAsOne line result = (name : Text) (t : OneTexts) → line ≡ one_line name t → ArePlain t → GivesJob result (OfOne t)
 
 -- if the line is `abr decode` with a plain word, the job is `decode` with it, not long
 abbrev pub GivesDecode : List Text → Result Job Usage → Type 0

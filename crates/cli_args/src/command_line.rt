@@ -16,14 +16,14 @@ ghost use Rattle.cli_args.specs.Command.{IsJobOf, IsMistake, IsProgram, IsReplay
 ghost use Rattle.cli_args.specs.Command.{IsChangesCommand, IsFollowCommand, IsExplainCommand};
 ghost use Rattle.cli_args.specs.Command.{IsShowOption, IsFormatOption, HasDecodeWords, HasFlag};
 ghost use Rattle.cli_args.specs.Command.{HasReplayWords, HasChangesWords, HasFollowWords};
-ghost use Rattle.cli_args.specs.Command.{HasExplainWords, HasPageWords, HasCaptureWords, IsFit};
+ghost use Rattle.cli_args.specs.Command.{HasExplainWords, HasPageWords, HasCaptureWords, IsJobFit};
 ghost use Rattle.cli_args.specs.Command.{WritesWorkers, workers_option, long_flag, only_option};
 ghost use Rattle.cli_args.specs.Command.{due_option, output_option, router_option};
 ghost use Rattle.cli_args.specs.Command.{begin_option, all_flag, no_seconds_flag, strict_flag};
 ghost use Rattle.cli_args.specs.Command.{progress_flag, command_words, GivesCapture};
 ghost use Rattle.cli_args.specs.Command.{GivesChanges, GivesDecode, GivesDue, GivesExplain};
 ghost use Rattle.cli_args.specs.Command.{GivesFault, GivesFollow, GivesFollowOnly, GivesFormat};
-ghost use Rattle.cli_args.specs.Command.{GivesLong, GivesOne, GivesOnly, GivesOutput};
+ghost use Rattle.cli_args.specs.Command.{GivesLong, ParsesAsOne, GivesOnly, GivesOutput};
 ghost use Rattle.cli_args.specs.Command.{GivesPage, GivesProgress, GivesReplay, GivesShow};
 ghost use Rattle.cli_args.specs.Command.{GivesStrict, GivesWorkers};
 
@@ -71,9 +71,9 @@ const FORMAT_NAMES: &[&str] = &["text", "json"];
 /// or the version. Returns 30 Memory if memory runs out.
 pub fn job<'a>(alloc: Global, words: &'a [&'a str]) -> Result<Job<'a>, Usage>
     ensures job { IfOk result (IsJob (subcommand_of program (command_words words.entry.now))) }
-    ensures fit { IfOk result IsFit }
+    ensures fit { IfOk result IsJobFit }
     ensures mistake { IfErr result (IsMistake (command_words words.entry.now)) }
-    ensures one { GivesOne (command_words words.entry.now) result }
+    ensures one { ParsesAsOne (command_words words.entry.now) result }
     ensures decode { GivesDecode (command_words words.entry.now) result }
     ensures long { GivesLong (command_words words.entry.now) result }
     ensures replay { GivesReplay (command_words words.entry.now) result }

@@ -13,12 +13,12 @@ use Rattle.cli_queries.specs.declared.command_fault.CommandFault.TheVariants as 
 use Rattle.cli_args.specs.Command.{OneTexts}
 use Rattle.cli_queries.specs.Words.{WritesLsa}
 use Rattle.cli_queries.specs.Answers.{AnswerValue, IsAnswer, faulty}
-use Rattle.cli_queries.specs.One.{Given, Say, Prints, Answer, IsEngineFault, IsFault, lookup_line}
+use Rattle.cli_queries.specs.One.{OneArguments, Say, PrintsMatch, HasAnswerLine, IsEngineFault, IsFault, lookup_line}
 
 pub writes_lsa : (word read bytes : List ℕ) (lsa : Lsa) → decode_of word ≡ Ok read → bytes ≡ read → IsSound bytes → Spells bytes lsa → WritesLsa word lsa
 writes_lsa word read bytes lsa given same sound spelled = record { bytes = bytes; given = given ∙ ap Ok (sym same); sound = sound; spelled = spelled }
 
-pub fault_widens : (words : OneTexts) (g : Given) (f : CommandFault) → Say words g → IsEngineFault g f → IsFault words f
+pub fault_widens : (words : OneTexts) (g : OneArguments) (f : CommandFault) → Say words g → IsEngineFault g f → IsFault words f
 fault_widens words g (fault.Word f) say h = absurd h
 fault_widens words g (fault.Wire f) say h = absurd h
 fault_widens words g (fault.Config f) say h = (g, say, h)
@@ -34,7 +34,7 @@ fault_widens words g fault.Spawn say h = absurd h
 fault_widens words g fault.Place say h = (g, say, h)
 fault_widens words g fault.NoEntry say h = (g, say, h)
 
-pub answers : (words : OneTexts) (g : Given) (line : List ℕ) → Say words g → Prints g line → Answer words line
+pub answers : (words : OneTexts) (g : OneArguments) (line : List ℕ) → Say words g → PrintsMatch g line → HasAnswerLine words line
 answers words g line say h = record {
   given = g;
   say = say;
@@ -51,6 +51,6 @@ pub line_printed : (line word : List ℕ) (serial : ℕ) (t : TableValue) (found
 line_printed line word serial t found written is = written ∙ rw is (simp append_assoc)
 
 -- the answer for a fault is for the fault, or for a lack of memory
-pub fault_answers : (Prints : List ℕ → Type 0) (Is : CommandFault → Type 0) (f : CommandFault) (a : AnswerValue) → Is f → Is fault.Memory → (a ≡ faulty f) ⊎ (a ≡ faulty fault.Memory) → IsAnswer Prints Is a
-fault_answers Prints Is f a h memory (inl e) = inr (f, h, e)
-fault_answers Prints Is f a h memory (inr e) = inr (fault.Memory, memory, e)
+pub fault_answers : (PrintsMatch : List ℕ → Type 0) (Is : CommandFault → Type 0) (f : CommandFault) (a : AnswerValue) → Is f → Is fault.Memory → (a ≡ faulty f) ⊎ (a ≡ faulty fault.Memory) → IsAnswer PrintsMatch Is a
+fault_answers PrintsMatch Is f a h memory (inl e) = inr (f, h, e)
+fault_answers PrintsMatch Is f a h memory (inr e) = inr (fault.Memory, memory, e)

@@ -15,7 +15,7 @@ use Rattle.event_state.specs.Refusals.{IsLastingRefusalOf, IsRefusalOf}
 use Rattle.event_state.specs.States.{State, serial_of}
 use Rattle.event_state.specs.Steps.{early_tests_of, late_tests_of, is_journal_full, lasting_refusal_of, opening, refusal_of, standard_limits}
 use Rattle.event_state.proofs.Rolls.{further_run, run_serial}
-use Rattle.engine.specs.Answers.{Answers, Refusals, after}
+use Rattle.engine.specs.Answers.{IsAnswerTo, Refusals, after}
 use Rattle.engine.specs.declared.answer.Answer.{Answer}
 use Rattle.engine.specs.declared.answer.Refused.{Refused}
 use Rattle.route_table.specs.Tables.{IsMatch}
@@ -25,7 +25,7 @@ use Rattle.publication.specs.Published.{IsTableFor}
 use Rattle.publication.specs.Told.{TokenValue}
 use Rattle.publication.proofs.Prefixes.{prefix_length, prefix_shorter, prefix_trans, prefix_whole}
 use Rattle.cli_queries.specs.declared.command_fault.CommandFault.{CommandFault}
-use Rattle.cli_queries.specs.One.{Given, HasLearned, Prints, PrintsSeen, both_events, config_of, lookup_line}
+use Rattle.cli_queries.specs.One.{OneArguments, HasLearned, PrintsMatch, PrintsSeen, both_events, config_of, lookup_line}
 
 -- two beginnings of one list that are of one length
 pub same_beginning : {A : Type 0} (xs ys zs : List A) → IsPrefix xs zs → IsPrefix ys zs → length xs ≡ length ys → xs ≡ ys
@@ -82,11 +82,11 @@ module _ (base : Base) (known : List Event) (first : base.serial ≡ 0) (few : l
 -- ---- the promises of an engine
 
 -- an answer with a token
-told_answer : (name : Name) (e : Event) (a : Answer) (t : TokenValue) → Answers name e a → a.told ≡ Some t
+told_answer : (name : Name) (e : Event) (a : Answer) (t : TokenValue) → IsAnswerTo name e a → a.told ≡ Some t
     → (before : List Event) × (lasting_refusal_of (after name.base before) e ≡ None) × (t.list ≡ before ++ e ∷ [])
 told_answer name e a t h is = (h.0, h.1.accepted, (rw is at h.2).2)
 
-pub taken : (name : Name) (e : Event) (a : Answer) (t : TokenValue) (f : ForwarderValue) (count : ℕ) (r : Result ForwarderValue CommandFault) → Answers name e a → a.told ≡ Some t → f.name ≡ name
+pub taken : (name : Name) (e : Event) (a : Answer) (t : TokenValue) (f : ForwarderValue) (count : ℕ) (r : Result ForwarderValue CommandFault) → IsAnswerTo name e a → a.told ≡ Some t → f.name ≡ name
     → length f.known ≡ count → IfOk r (λ x. x.name ≡ f.name) → IfOk r (λ x. HasLearned f.known t.list x.known) → IfOk r (λ _. length t.list ≡ count + 1)
     → IfOk r (λ x. (x.name ≡ name) × (x.known ≡ f.known ++ e ∷ []))
 taken name e a t f count (Err x) h told same len named learned longer = tt
@@ -96,7 +96,7 @@ taken name e a t f count (Ok x) h told same len named learned longer =
       known_more f.known t.list x.known of.0 e learned.before learned.told_too learned.one of.2 (omega (arith, longer, len)),
     )
 
-pub accepted : (name : Name) (e : Event) (a : Answer) (t : TokenValue) (f : ForwarderValue) (count : ℕ) (r : Result ForwarderValue CommandFault) → name.base.serial ≡ 0 → count < 2 → Answers name e a → a.told ≡ Some t
+pub accepted : (name : Name) (e : Event) (a : Answer) (t : TokenValue) (f : ForwarderValue) (count : ℕ) (r : Result ForwarderValue CommandFault) → name.base.serial ≡ 0 → count < 2 → IsAnswerTo name e a → a.told ≡ Some t
     → length f.known ≡ count → IfOk r (λ x. HasLearned f.known t.list x.known) → IfOk r (λ _. length t.list ≡ count + 1)
     → IfOk r (λ _. refusal_of (after name.base f.known) e ≡ None)
 accepted name e a t f count (Err x) first few h told len learned longer = tt
@@ -114,7 +114,7 @@ refused_so name e a t known now count first few other h told len learned same =
 
 -- ---- what was seen
 
-pub seen_prints : (g : Given) (f : ForwarderValue) (s : SeenValue) (line : List ℕ) → f.name.base ≡ bare (config_of g) → f.known ≡ both_events g → IsLookup f g.lookup s → PrintsSeen s line → Prints g line
+pub seen_prints : (g : OneArguments) (f : ForwarderValue) (s : SeenValue) (line : List ℕ) → f.name.base ≡ bare (config_of g) → f.known ≡ both_events g → IsLookup f g.lookup s → PrintsSeen s line → PrintsMatch g line
 seen_prints g f s line base known sights h =
     let begun : IsPrefix (both_events g) s.list = subst (λ xs. IsPrefix xs s.list) known sights.2 in
     let whole : both_events g ≡ s.list = prefix_whole (both_events g) s.list begun (omega (arith, h.both)) in

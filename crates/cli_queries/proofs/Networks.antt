@@ -12,7 +12,7 @@ use Rattle.std.proofs.NetLemmas.Ipv4.{read_ipv4_complete}
 use Rattle.ospf_types.specs.declared.prefix.Prefix.{Prefix}
 use Rattle.ospf_types.specs.Text.{address_text, prefix_text}
 use Rattle.ospf_types.proofs.Addresses.{address_dotted}
-use Rattle.cli_queries.specs.Writing.{IsNetwork, IsNetworkOf, WritesNetwork, WritesNumber, network_at}
+use Rattle.cli_queries.specs.Writing.{IsNetworkWord, IsNetworkOf, WritesNetwork, WritesNumber, network_at}
 
 -- ---- the text of an address
 
@@ -65,13 +65,13 @@ module _ (word : List ℕ) (parts : Option (Bor (List ℕ) × Bor (List ℕ))) (
         none p.length (record { within = omega arith; spelled = (parts_are p w).1 })
 
     module _ (address long : ℕ) (fits : address < 2 ^ 32) (spelled : before.now ≡ address_text address) (number : WritesNumber after.now long) where
-      pub no_network : (IsNetwork (network_at address long) → ⊥) → (p : Prefix) → WritesNetwork word p → ⊥
+      pub no_network : (IsNetworkWord (network_at address long) → ⊥) → (p : Prefix) → WritesNetwork word p → ⊥
       no_network none p w =
           let short = w.network.length in
           let first : p.address ≡ address = sym (one_address address p.address fits w.network.address (sym spelled ∙ (parts_are p w).0)) in
           let second : p.length ≡ long = sym (decimal_injective long p.length (omega (arith, number.within)) (omega arith) (sym number.spelled ∙ (parts_are p w).1)) in
           let same : p ≡ network_at address long = λ i. record { address = first i; length = second i } in
-          none (subst IsNetwork same w.network)
+          none (subst IsNetworkWord same w.network)
 
       whole : word ≡ prefix_text (network_at address long)
       whole =

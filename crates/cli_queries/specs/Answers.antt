@@ -4,8 +4,8 @@ use Rattle.std.specs.Io.KnownBytes.{Appends}
 use Rattle.replay.specs.Writing.{AppendsPart}
 use Rattle.replay.specs.declared.writing.WriteError.{WriteError}
 use Rattle.replay.specs.declared.writing.WriteError.TheVariants.{Failed, Closed}
-use Rattle.cli_queries.specs.declared.answer.Answer.{Answer}
-use Rattle.cli_queries.specs.declared.answer.Answer.TheVariants as answer
+use Rattle.cli_queries.specs.declared.answer.CommandAnswer.{CommandAnswer}
+use Rattle.cli_queries.specs.declared.answer.CommandAnswer.TheVariants as answer
 use Rattle.cli_queries.specs.declared.command_fault.CommandFault.{CommandFault}
 use Rattle.cli_queries.specs.declared.command_fault.CommandFault.TheVariants as fault
 use Rattle.cli_queries.specs.Faults.{command_fault_text, status_of, fault_line}
@@ -21,7 +21,7 @@ printed text = record { status = 0; output = text; fault = [] }
 abbrev pub faulty : CommandFault → AnswerValue
 faulty f = record { status = status_of f; output = []; fault = fault_line (command_fault_text f) }
 
-abbrev pub value_of : Answer → AnswerValue
+abbrev pub value_of : CommandAnswer → AnswerValue
 value_of (answer.Printed text) = printed (string_bytes text)
 value_of (answer.Fault status line) = record { status = status; output = []; fault = string_bytes line }
 value_of answer.NoMemory = faulty fault.Memory
@@ -42,8 +42,8 @@ abbrev pub IsSaidOf : CommandFault → (status : ℕ) (old new : Option (List �
 IsSaidOf f status old new = (status ≡ 1) × (Appends old new (fault_line (command_fault_text f)) ⊎ AppendsPart old new (fault_line (command_fault_text f)))
 
 -- the whole output was written, and the fault, whole or in part
-abbrev pub IsWritten : AnswerValue → (status : ℕ) (output output_now fault fault_now : Option (List ℕ)) → Type 0
-IsWritten a status o on f fn = Appends o on a.output × IsSaid a.fault a.status status f fn
+abbrev pub IsAnswerWritten : AnswerValue → (status : ℕ) (output output_now fault fault_now : Option (List ℕ)) → Type 0
+IsAnswerWritten a status o on f fn = Appends o on a.output × IsSaid a.fault a.status status f fn
 
 -- A line on standard error says that the output is not written whole. If its pipe was closed,
 -- nothing was written there. The status is 1.
@@ -57,11 +57,11 @@ IsCutShort a status o on f fn = AppendsPart o on a.output × ((why : WriteError)
 
 -- The program wrote the answer: all that it wrote to both streams, and its status. The status is
 -- the answer's, or 1 if a writer failed.
-abbrev pub IsTold : AnswerValue → (status : ℕ) (output output_now fault fault_now : Option (List ℕ)) → Type 0
-IsTold a status o on f fn = IsWritten a status o on f fn ⊎ IsCutShort a status o on f fn
+abbrev pub IsAnswerPrinted : AnswerValue → (status : ℕ) (output output_now fault fault_now : Option (List ℕ)) → Type 0
+IsAnswerPrinted a status o on f fn = IsAnswerWritten a status o on f fn ⊎ IsCutShort a status o on f fn
 
 -- one of such answers was written
-pub record Tells (Is : AnswerValue → Type 0) (status : ℕ) (output output_now fault fault_now : Option (List ℕ)) : Type 0 where
+pub record PrintsAnswer (Is : AnswerValue → Type 0) (status : ℕ) (output output_now fault fault_now : Option (List ℕ)) : Type 0 where
   pub answer : AnswerValue
   pub is : Is answer
-  pub told : IsTold answer status output output_now fault fault_now
+  pub told : IsAnswerPrinted answer status output output_now fault fault_now

@@ -11,7 +11,7 @@ use Rattle.event_state.specs.declared.event.Event.TheVariants as event
 use Rattle.route_table.specs.declared.table.Match.{Match}
 use Rattle.event_state.specs.declared.refusal.Refusal.{Refusal}
 use Rattle.ospf_types.specs.Configs.{config_fault_of}
-use Rattle.engine.specs.Cores.{IsFaultOf}
+use Rattle.engine.specs.Cores.{IsConfigFaultOf}
 use Rattle.event_state.specs.Bases.{bare}
 use Rattle.event_state.specs.Steps.{standard_limits}
 use Rattle.event_state.specs.Refusals.{IsRefusalOf}
@@ -26,11 +26,11 @@ use Rattle.cli_queries.specs.declared.argument_values.OneInput.{OneInput}
 use Rattle.cli_queries.specs.declared.command_fault.CommandFault.{CommandFault}
 use Rattle.cli_queries.specs.declared.command_fault.CommandFault.TheVariants as fault
 use Rattle.cli_args.specs.Command.{OneTexts}
-use Rattle.cli_queries.specs.Words.{Writes, WritesLsa, HasWireFault, IsFirstFault, AreRead}
+use Rattle.cli_queries.specs.Words.{WritesAddress, WritesLsa, HasWireFault, IsFirstFault, AreArgumentsRead}
 use Rattle.cli_queries.specs.Answers.{AnswerValue, IsAnswer}
 
 -- the content of the words of the command
-pub record Given : Type 0 where
+pub record OneArguments : Type 0 where
   pub router : ℕ
   pub area : ℕ
   pub address : ℕ
@@ -38,41 +38,41 @@ pub record Given : Type 0 where
   pub lookup : ℕ
 
 -- the input that was read
-abbrev pub given_by : OneInput → Lsa → Given
+abbrev pub given_by : OneInput → Lsa → OneArguments
 given_by input lsa = record { router = input.router; area = input.area; address = input.address; lsa = lsa; lookup = input.lookup }
 
 -- the words say this
-pub record Say (words : OneTexts) (g : Given) : Type 0 where
-  pub router : Writes words.router g.router
-  pub area : Writes words.area g.area
-  pub address : Writes words.address g.address
+pub record Say (words : OneTexts) (g : OneArguments) : Type 0 where
+  pub router : WritesAddress words.router g.router
+  pub area : WritesAddress words.area g.area
+  pub address : WritesAddress words.address g.address
   pub lsa : WritesLsa words.lsa g.lsa
-  pub lookup : Writes words.lookup g.lookup
+  pub lookup : WritesAddress words.lookup g.lookup
 
 -- the router has one area, which is no stub area and has no ranges
 abbrev pub one_area : ℕ → ℕ → Config
 one_area router area = record { router = router; compat = false; areas = record { id = area; stub = None; ranges = [] } ∷ [] }
 
-abbrev pub config_of : Given → Config
+abbrev pub config_of : OneArguments → Config
 config_of g = one_area g.router g.area
 
 -- interface 1 comes up, with no peer
-abbrev pub interface_event : Given → Event
+abbrev pub interface_event : OneArguments → Event
 interface_event g = event.Interface 1 g.area g.address 0 true
 
 -- the LSA is installed in the area
-abbrev pub install_event : Given → Event
+abbrev pub install_event : OneArguments → Event
 install_event g = event.Install (scope.Area g.area) g.lsa
 
-abbrev pub both_events : Given → List Event
+abbrev pub both_events : OneArguments → List Event
 both_events g = interface_event g ∷ install_event g ∷ []
 
 -- the state after such events
-abbrev pub state_after : Given → List Event → State
+abbrev pub state_after : OneArguments → List Event → State
 state_after g events = run_of (bare (config_of g)) standard_limits events
 
 -- each of the two events is taken, and the table is right for them
-pub record IsTableOf (g : Given) (t : TableValue) : Type 0 where
+pub record IsAnswerTable (g : OneArguments) (t : TableValue) : Type 0 where
   pub legal : IsLegalList (bare (config_of g)) standard_limits (both_events g)
   pub right : IsRight (state_after g (both_events g)) t
 
@@ -81,9 +81,9 @@ abbrev pub lookup_line : List ℕ → TableValue → Match → List ℕ
 lookup_line word t found = codes "lookup " ++ word ++ codes " " ++ decimal t.serial ++ codes " " ++ match_text found ++ codes "\n"
 
 -- the line has the match of the address in a table that is right for what was given
-pub record Prints (g : Given) (line : List ℕ) : Type 0 where
+pub record PrintsMatch (g : OneArguments) (line : List ℕ) : Type 0 where
   pub table : TableValue
-  pub right : IsTableOf g table
+  pub right : IsAnswerTable g table
   pub found : Match
   pub matched : IsMatch table.items g.lookup found
   pub printed : line ≡ lookup_line (address_text g.lookup) table found
@@ -97,18 +97,18 @@ pub record PrintsSeen (s : SeenValue) (line : List ℕ) : Type 0 where
   pub printed : line ≡ lookup_line (address_text s.address) s.table found
 
 -- The line has the match of the last word in a table that is right for what the words say.
-pub record Answer (words : OneTexts) (line : List ℕ) : Type 0 where
-  pub given : Given
+pub record HasAnswerLine (words : OneTexts) (line : List ℕ) : Type 0 where
+  pub given : OneArguments
   pub say : Say words given
   pub table : TableValue
-  pub right : IsTableOf given table
+  pub right : IsAnswerTable given table
   pub found : Match
   pub matched : IsMatch table.items given.lookup found
   pub printed : line ≡ lookup_line words.lookup table found
 
 -- the first of the two events that is not taken is refused so
-abbrev pub IsRefused : Given → Refusal → Type 0
-IsRefused g r = IsRefusalOf (state_after g []) (interface_event g) r
+abbrev pub IsEventRefused : OneArguments → Refusal → Type 0
+IsEventRefused g r = IsRefusalOf (state_after g []) (interface_event g) r
     ⊎ ((refusal_of (state_after g []) (interface_event g) ≡ None) × IsRefusalOf (state_after g (interface_event g ∷ [])) (install_event g) r)
 
 -- the list that was known is a prefix of the one that is known now, and so is the token's list; it
@@ -128,14 +128,14 @@ IsStepFault s e _ = ⊥
 
 -- the reason why no engine is opened
 abbrev pub IsOpenFault : Config → CommandFault → Type 0
-IsOpenFault config (fault.Config f) = IsFaultOf config f
+IsOpenFault config (fault.Config f) = IsConfigFaultOf config f
 IsOpenFault config fault.Place = config_fault_of config ≡ None
 IsOpenFault config _ = ⊥
 
 -- the reason why an engine gives no line for the input
-abbrev pub IsEngineFault : Given → CommandFault → Type 0
-IsEngineFault g (fault.Config f) = IsFaultOf (config_of g) f
-IsEngineFault g (fault.Refused r) = (config_fault_of (config_of g) ≡ None) × IsRefused g r
+abbrev pub IsEngineFault : OneArguments → CommandFault → Type 0
+IsEngineFault g (fault.Config f) = IsConfigFaultOf (config_of g) f
+IsEngineFault g (fault.Refused r) = (config_fault_of (config_of g) ≡ None) × IsEventRefused g r
 IsEngineFault g fault.Place = config_fault_of (config_of g) ≡ None
 IsEngineFault g fault.NoEntry = config_fault_of (config_of g) ≡ None
 IsEngineFault g fault.Memory = Unit {0}
@@ -146,10 +146,10 @@ IsEngineFault g _ = ⊥
 -- is read. Memory may run out anywhere.
 abbrev pub IsFault : OneTexts → CommandFault → Type 0
 IsFault words (fault.Word f) = IsFirstFault words f
-IsFault words (fault.Wire f) = AreRead words × HasWireFault words.lsa f
+IsFault words (fault.Wire f) = AreArgumentsRead words × HasWireFault words.lsa f
 IsFault words fault.Memory = Unit {0}
-IsFault words f = (g : Given) × Say words g × IsEngineFault g f
+IsFault words f = (g : OneArguments) × Say words g × IsEngineFault g f
 
 -- the answer of `abr one` with these words
 abbrev pub IsOneAnswer : OneTexts → AnswerValue → Type 0
-IsOneAnswer words = IsAnswer (Answer words) (IsFault words)
+IsOneAnswer words = IsAnswer (HasAnswerLine words) (IsFault words)

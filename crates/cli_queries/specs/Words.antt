@@ -15,7 +15,7 @@ use Rattle.ospf_types.specs.declared.prefix.Prefix.{Prefix}
 use Rattle.cli_queries.specs.Writing.{WritesNetwork}
 
 -- the word writes this address
-pub record Writes (word : List ℕ) (address : ℕ) : Type 0 where
+pub record WritesAddress (word : List ℕ) (address : ℕ) : Type 0 where
   pub within : address < 2 ^ 32
   pub spelled : word ≡ address_text address
 
@@ -60,7 +60,7 @@ IsFirstFault t NotANetwork = ⊥
 IsFirstFault t Memory = Unit {0}
 
 -- each word of `abr one` can be read
-pub record AreRead (t : OneTexts) : Type 0 where
+pub record AreArgumentsRead (t : OneTexts) : Type 0 where
   pub router : IsAddress t.router
   pub area : IsAddress t.area
   pub address : IsAddress t.address

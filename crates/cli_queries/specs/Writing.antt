@@ -10,14 +10,14 @@ pub record WritesNumber (word : List ℕ) (n : ℕ) : Type 0 where
   pub spelled : word ≡ decimal n
 
 -- the address has 32 bits, and those past the length are zero
-pub record IsNetwork (p : Prefix) : Type 0 where
+pub record IsNetworkWord (p : Prefix) : Type 0 where
   pub address : p.address < 2 ^ 32
   pub length : p.length ≤ 32
   pub masked : masked p.address p.length ≡ p.address
 
 -- the word is the text of the network
 pub record WritesNetwork (word : List ℕ) (p : Prefix) : Type 0 where
-  pub network : IsNetwork p
+  pub network : IsNetworkWord p
   pub spelled : word ≡ prefix_text p
 
 abbrev pub network_at : ℕ → ℕ → Prefix
@@ -25,7 +25,7 @@ network_at address length = record { address = address; length = length }
 
 -- it is a network, and the one with this address and length
 abbrev pub IsNetworkOf : ℕ → ℕ → Prefix → Type 0
-IsNetworkOf address length p = IsNetwork p × (p ≡ network_at address length)
+IsNetworkOf address length p = IsNetworkWord p × (p ≡ network_at address length)
 
 -- there is a digit, and neither a plus sign nor a zero before one
 pub record IsUnpadded (word : List ℕ) : Type 0 where

@@ -8,7 +8,7 @@ use std::alloc::{AllocError, Global};
 
 /// The answer of a command, which `print_answer` writes.
 #[derive(Debug, Drop)]
-pub enum Answer {
+pub enum CommandAnswer {
     /// A text for standard output, with status 0.
     Printed(String),
     /// A line for standard error, with its status.
@@ -18,16 +18,16 @@ pub enum Answer {
 }
 
 /// Returns the answer with the line `abr: FAULT`, or `NoMemory` if there is no memory for the line.
-pub fn answer_fault(alloc: Global, fault: CommandFault<'_>) -> Answer
+pub fn answer_fault(alloc: Global, fault: CommandFault<'_>) -> CommandAnswer
     ensures { (value_of result ≡ faulty fault.entry)
         ⊎ (value_of result ≡ faulty CommandFault.Memory) }
 {
     match line_of(alloc, fault) {
-        Ok(line) => Answer::Fault {
+        Ok(line) => CommandAnswer::Fault {
             status: fault.status(),
             line,
         },
-        Err(_) => Answer::NoMemory,
+        Err(_) => CommandAnswer::NoMemory,
     }
 }
 

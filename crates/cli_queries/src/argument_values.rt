@@ -4,7 +4,7 @@ ghost use Rattle.hex.specs.Hex.{decode_of};
 ghost use Rattle.cli_args.specs.Command.{texts_of};
 ghost use Rattle.cli_queries.specs.Writing.{WritesNetwork};
 ghost use Rattle.cli_queries.specs.Words.{IsAddress, IsBytesFault, IsFirstFault, IsNoNetwork};
-ghost use Rattle.cli_queries.specs.Words.{Writes, fault_text};
+ghost use Rattle.cli_queries.specs.Words.{WritesAddress, fault_text};
 
 use crate::network_of;
 use cli_args::OneWords;
@@ -60,11 +60,11 @@ impl fmt::Display for WordFault {
 ///
 /// Returns the fault of the first word that cannot be parsed, or `Memory` if memory runs out.
 pub fn read_one(alloc: Global, words: &OneWords<'_>) -> Result<OneInput, WordFault>
-    ensures router { IfOk result (λ i. Writes words.now.router.now i.router) }
-    ensures area { IfOk result (λ i. Writes words.now.area.now i.area) }
-    ensures address { IfOk result (λ i. Writes words.now.address.now i.address) }
+    ensures router { IfOk result (λ i. WritesAddress words.now.router.now i.router) }
+    ensures area { IfOk result (λ i. WritesAddress words.now.area.now i.area) }
+    ensures address { IfOk result (λ i. WritesAddress words.now.address.now i.address) }
     ensures lsa { IfOk result (λ i. decode_of words.now.lsa.now ≡ Ok i.lsa.items) }
-    ensures lookup { IfOk result (λ i. Writes words.now.lookup.now i.lookup) }
+    ensures lookup { IfOk result (λ i. WritesAddress words.now.lookup.now i.lookup) }
     ensures fault { IfErr result (IsFirstFault (texts_of words.now)) }
 {
     Ok(OneInput {
@@ -82,7 +82,7 @@ pub fn read_one(alloc: Global, words: &OneWords<'_>) -> Result<OneInput, WordFau
 ///
 /// Returns `NotAnAddress` if the word is not an address.
 pub fn read_address(word: &str) -> Result<u32, WordFault>
-    ensures ok { IfOk result (Writes word.now) }
+    ensures ok { IfOk result (WritesAddress word.now) }
     ensures fault { OnErr result (¬ IsAddress word.now) }
     ensures err { OnErr result (result ≡ Err WordFault.NotAnAddress) }
 {

@@ -1,12 +1,12 @@
 //! The command `decode`.
 ghost use Rattle.std.specs.Prelude.{◌≡◌, IfOk, IfErr, string_bytes};
-ghost use Rattle.cli_queries.specs.Answers.{Tells, value_of};
+ghost use Rattle.cli_queries.specs.Answers.{PrintsAnswer, value_of};
 ghost use Rattle.output_lines.specs.Words.{words_of as lsa_in_words};
 ghost use Rattle.cli_queries.specs.Decode.{Decodes, IsDecodeFault, IsDecodeAnswer};
 ghost use Rattle.cli_queries.specs.Decode.{decoded_text, front_text as front, ids_text as ids};
 ghost use Rattle.cli_queries.specs.Decode.{instance_text as instance};
 
-use crate::answer::{Answer, answer_fault};
+use crate::answer::{CommandAnswer, answer_fault};
 use crate::argument_values;
 use crate::command_fault::CommandFault;
 use crate::printing::print_answer;
@@ -22,11 +22,11 @@ use std::io;
 /// The short form has the lines `age A options OO kind K id ADDR router ADDR seq SSSSSSSS sum CCCC
 /// length L` and `body HEX`. The age is in seconds; Options, sequence number, checksum and body are
 /// in hexadecimal. In the long form each field of header and body has its name (RFC 2328, A.4).
-pub fn answer_decode(alloc: Global, word: &str, long: bool) -> Answer
+pub fn answer_decode(alloc: Global, word: &str, long: bool) -> CommandAnswer
     ensures { IsDecodeAnswer long word.now (value_of result) }
 {
     match decoded(alloc, word, long) {
-        Ok(lines) => Answer::Printed(lines),
+        Ok(lines) => CommandAnswer::Printed(lines),
         Err(fault) => answer_fault(alloc, fault),
     }
 }
@@ -42,7 +42,7 @@ pub fn decode<W: io::Write, F: io::Write>(
     out: &mut W,
     faults: &mut F,
 ) -> u8
-    ensures { Tells (IsDecodeAnswer long word.now) result (W.contents out.old) (W.contents out.new)
+    ensures { PrintsAnswer (IsDecodeAnswer long word.now) result (W.contents out.old) (W.contents out.new)
         (F.contents faults.old) (F.contents faults.new) }
 {
     print_answer(&answer_decode(alloc, word, long), out, faults)

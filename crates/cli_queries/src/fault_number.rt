@@ -1,9 +1,9 @@
 //! The command `fault`.
 ghost use Rattle.std.specs.Prelude.{◌≡◌, IfSome, IsNone, IfOk, IfErr, string_bytes};
-ghost use Rattle.cli_queries.specs.Answers.{Tells, value_of};
+ghost use Rattle.cli_queries.specs.Answers.{PrintsAnswer, value_of};
 ghost use Rattle.cli_queries.specs.Number.{Advises, HasNoAdvice, IsNumberAnswer, IsNumberFault};
 
-use crate::answer::{Answer, answer_fault};
+use crate::answer::{CommandAnswer, answer_fault};
 use crate::argument_values::WordFault;
 use crate::command_fault::CommandFault;
 use crate::printing::print_answer;
@@ -14,11 +14,11 @@ use std::io;
 /// Returns the answer of `fault`: a line that says what the number means and what to do.
 ///
 /// It is a fault if the word is not the number of a fault or a refusal.
-pub fn answer_number(alloc: Global, word: &str) -> Answer
+pub fn answer_number(alloc: Global, word: &str) -> CommandAnswer
     ensures { IsNumberAnswer word.now (value_of result) }
 {
     match advised(alloc, word) {
-        Ok(text) => Answer::Printed(text),
+        Ok(text) => CommandAnswer::Printed(text),
         Err(fault) => answer_fault(alloc, fault),
     }
 }
@@ -34,7 +34,7 @@ pub fn fault<W: io::Write, F: io::Write>(
     out: &mut W,
     faults: &mut F,
 ) -> u8
-    ensures { Tells (IsNumberAnswer word.now) result (W.contents out.old) (W.contents out.new)
+    ensures { PrintsAnswer (IsNumberAnswer word.now) result (W.contents out.old) (W.contents out.new)
         (F.contents faults.old) (F.contents faults.new) }
 {
     print_answer(&answer_number(alloc, word), out, faults)

@@ -33,7 +33,7 @@ mod reading;
 mod usage;
 
 pub use advising::advice;
-pub use answer::{Answer, line_of};
+pub use answer::{CommandAnswer, line_of};
 pub use argument_values::{WordFault, read_address, read_network};
 pub use command_fault::CommandFault;
 pub use decode_lsa::{answer_decode, decode};

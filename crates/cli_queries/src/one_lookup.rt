@@ -6,14 +6,14 @@ ghost use Rattle.event_state.specs.Steps.{refusal_of};
 ghost use Rattle.event_state.specs.declared.refusal.Refusal.TheVariants.{JournalFull};
 ghost use Rattle.ospf_types.specs.Configs.{config_fault_of};
 ghost use Rattle.engine.specs.Answers.{after};
-ghost use Rattle.cli_queries.specs.Answers.{Tells, value_of};
+ghost use Rattle.cli_queries.specs.Answers.{PrintsAnswer, value_of};
 ghost use Rattle.cli_args.specs.Command.{texts_of};
-ghost use Rattle.cli_queries.specs.One.{Answer as HasLine, HasLearned, IsFault, IsEngineFault};
-ghost use Rattle.cli_queries.specs.One.{IsOpenFault, IsStepFault, IsOneAnswer, Prints};
+ghost use Rattle.cli_queries.specs.One.{HasAnswerLine as HasLine, HasLearned, IsFault, IsEngineFault};
+ghost use Rattle.cli_queries.specs.One.{IsOpenFault, IsStepFault, IsOneAnswer, PrintsMatch};
 ghost use Rattle.cli_queries.specs.One.{PrintsSeen, Say, both_events, config_of, given_by};
 ghost use Rattle.cli_queries.specs.One.{one_area};
 
-use crate::answer::{Answer, answer_fault};
+use crate::answer::{CommandAnswer, answer_fault};
 use crate::argument_values::{OneInput, read_one};
 use crate::command_fault::CommandFault;
 use crate::printing::print_answer;
@@ -35,11 +35,11 @@ pub fn answer_one<S: Wait>(
     alloc: Global,
     hashing: RandomState,
     words: &OneWords<'_>,
-) -> Answer
+) -> CommandAnswer
     ensures { IsOneAnswer (texts_of words.now) (value_of result) }
 {
     match lookup_line(rt, alloc, hashing, words) {
-        Ok(line) => Answer::Printed(line),
+        Ok(line) => CommandAnswer::Printed(line),
         Err(fault) => answer_fault(alloc, fault),
     }
 }
@@ -57,7 +57,7 @@ pub fn one<S: Wait, W: io::Write, F: io::Write>(
     out: &mut W,
     faults: &mut F,
 ) -> u8
-    ensures { Tells (IsOneAnswer (texts_of words.now)) result (W.contents out.old)
+    ensures { PrintsAnswer (IsOneAnswer (texts_of words.now)) result (W.contents out.old)
         (W.contents out.new) (F.contents faults.old) (F.contents faults.new) }
 {
     print_answer(&answer_one(rt, alloc, hashing, words), out, faults)
@@ -99,7 +99,7 @@ fn look<S: Wait>(
     input: &OneInput,
     lsa: Checked,
 ) -> Result<String, CommandFault<'static>>
-    ensures line { IfOk result (λ line. Prints (given_by input.now lsa) (string_bytes line)) }
+    ensures line { IfOk result (λ line. PrintsMatch (given_by input.now lsa) (string_bytes line)) }
     ensures fault { IfErr result (IsEngineFault (given_by input.now lsa)) }
 {
     let config = one_area(alloc, input.router, input.area)?;
@@ -147,7 +147,7 @@ fn look_in<S: Wait>(
     requires sound { config_fault_of (config_of (given_by input.now lsa)) ≡ None }
     requires name { forwarder.name ≡ engine.now }
     requires known { forwarder.known ≡ [] }
-    ensures line { IfOk result (λ line. Prints (given_by input.now lsa) (string_bytes line)) }
+    ensures line { IfOk result (λ line. PrintsMatch (given_by input.now lsa) (string_bytes line)) }
     ensures fault { IfErr result (IsEngineFault (given_by input.now lsa)) }
 {
     let forwarder = take_both(rt, engine, forwarder, input, lsa)?;

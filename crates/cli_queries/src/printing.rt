@@ -1,7 +1,7 @@
 //! The output of the program.
-ghost use Rattle.cli_queries.specs.Answers.{IsTold, IsSaid, IsUnwrittenSaid, value_of, printed};
+ghost use Rattle.cli_queries.specs.Answers.{IsAnswerPrinted, IsSaid, IsUnwrittenSaid, value_of, printed};
 
-use crate::answer::Answer;
+use crate::answer::CommandAnswer;
 use replay::{WriteError, write_whole};
 use std::io;
 
@@ -15,19 +15,23 @@ const CANNOT_WRITE: &str = "abr: cannot write\n";
 /// It is the status of the answer, or 1 if a writer fails. If `out` fails, a line on `faults` says
 /// so. There is no such line if the error of `out` is of the kind `BrokenPipe`: the reading end of
 /// its pipe was closed.
-pub fn print_answer<W: io::Write, F: io::Write>(answer: &Answer, out: &mut W, faults: &mut F) -> u8
-    ensures { IsTold (value_of answer.now) result (W.contents out.old) (W.contents out.new)
+pub fn print_answer<W: io::Write, F: io::Write>(
+    answer: &CommandAnswer,
+    out: &mut W,
+    faults: &mut F,
+) -> u8
+    ensures { IsAnswerPrinted (value_of answer.now) result (W.contents out.old) (W.contents out.new)
         (F.contents faults.old) (F.contents faults.new) }
 {
     match answer {
-        Answer::Printed(text) => print(text.as_str(), out, faults),
-        Answer::Fault { status, line } => print_fault(line.as_str(), *status, faults),
-        Answer::NoMemory => print_fault(NO_MEMORY, 1, faults),
+        CommandAnswer::Printed(text) => print(text.as_str(), out, faults),
+        CommandAnswer::Fault { status, line } => print_fault(line.as_str(), *status, faults),
+        CommandAnswer::NoMemory => print_fault(NO_MEMORY, 1, faults),
     }
 }
 
 fn print<W: io::Write, F: io::Write>(text: &str, out: &mut W, faults: &mut F) -> u8
-    ensures { IsTold (printed text.now) result (W.contents out.old) (W.contents out.new)
+    ensures { IsAnswerPrinted (printed text.now) result (W.contents out.old) (W.contents out.new)
         (F.contents faults.old) (F.contents faults.new) }
 {
     match write_whole(out, text.as_bytes()) {

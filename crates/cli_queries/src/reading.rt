@@ -1,7 +1,7 @@
 //! The numbers and networks that words write. Each has one spelling, and no other word writes it.
 ghost use Rattle.std.specs.Prelude.{ℕ, ◌≡◌, ◌↔◌, IfSome, IsNone, IsTrue};
 ghost use Rattle.ospf_types.specs.declared.prefix.Prefix.{Prefix};
-ghost use Rattle.cli_queries.specs.Writing.{IsNetwork, IsNetworkOf, IsUnpadded, WritesNetwork};
+ghost use Rattle.cli_queries.specs.Writing.{IsNetworkWord, IsNetworkOf, IsUnpadded, WritesNetwork};
 ghost use Rattle.cli_queries.specs.Writing.{WritesNumber, network_at};
 
 use ospf_types::address::Address;
@@ -34,7 +34,7 @@ pub fn network_of(word: &str) -> Option<Prefix>
 // Returns the network with this address and length, or `None` if there is no such network.
 fn prefix_of(address: u32, length: u32) -> Option<Prefix>
     ensures some { IfSome result (IsNetworkOf address length) }
-    ensures none { IsNone result → ¬ IsNetwork (network_at address length) }
+    ensures none { IsNone result → ¬ IsNetworkWord (network_at address length) }
 {
     if length > 32 {
         return None;

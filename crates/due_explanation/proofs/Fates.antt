@@ -11,7 +11,7 @@ use Rattle.ospf_types.specs.Inter.{LSInfinity}
 use Rattle.ospf_types.specs.Summaries.{IsGreatest}
 use Rattle.ospf_types.proofs.Elements.{no_element, first_element, later_element, first_or_later}
 use Rattle.external.specs.AsbrRoute.{PreferredValue}
-use Rattle.summaries.specs.Giving.{Advertises, GivesIn, InterGives, IntraGives, IsComponentIn, IsOutside, PreferredGives, RangeGives, RangeGivesBy}
+use Rattle.summaries.specs.Giving.{Advertises, GivesIn, InterGives, IntraGives, IsComponentIn, IsOutsideRanges, PreferredGives, RangeGives, RangeGivesBy}
 use Rattle.summaries.specs.Inputs.{SummaryInputsValue}
 use Rattle.due_explanation.proofs.Ranges.{not_outside}
 use Rattle.due_explanation.specs.Sources.{AreNetworkSources, AreRangeSources, GivesAmong, GivesInto, IsEntrySource, IsInterFate, IsIntraFate, IsPreferredSource, IsRangeFate, IsRangeSource, IsRouteFate, listed}
@@ -31,7 +31,7 @@ route_given cost verdict.Given is finite = refl
 route_given cost f is finite = absurd is
 
 module _ (areas : List AreaConfig) (p : Prefix) (through cost : ℕ) where
-  pub intra_given : (f : DueVerdict) → IsIntraFate areas p through cost f → cost < LSInfinity → IsOutside areas through p → f ≡ verdict.Given
+  pub intra_given : (f : DueVerdict) → IsIntraFate areas p through cost f → cost < LSInfinity → IsOutsideRanges areas through p → f ≡ verdict.Given
   intra_given verdict.Infinity is finite outside = absurd (let low : LSInfinity ≤ cost = is in omega (arith, low, finite))
   intra_given (verdict.InRange r) is finite outside = not_outside areas through p r is.1 outside
   intra_given verdict.Given is finite outside = refl
@@ -86,7 +86,7 @@ module _ (v : SummaryInputsValue) (area : ℕ) (p : Prefix) where
         let through : t.area ≡ g.1 = some_same (sym is.2 ∙ ap (λ (e : Entry). e.area) same ∙ g.3.through_area) in
         let cost : is.0.cost ≡ g.0.cost = ap (λ (e : Entry). e.cost) same in
         let finite : is.0.cost < LSInfinity = subst (λ (m : ℕ). m < LSInfinity) (sym cost) g.3.finite in
-        let outside : IsOutside v.areas t.area p = subst (λ (id : ℕ). IsOutside v.areas id p) (sym through) g.4 in
+        let outside : IsOutsideRanges v.areas t.area p = subst (λ (id : ℕ). IsOutsideRanges v.areas id p) (sym through) g.4 in
         (t, refl, ((λ e. g.3.foreign (sym through ∙ e)), intra_given v.areas p t.area is.0.cost t.verdict is.5 finite outside, is.4 ∙ ap Some (cost ∙ g.5))),
   )
 

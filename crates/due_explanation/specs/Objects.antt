@@ -3,7 +3,7 @@
 use Rattle.std.specs.Prelude.{ℕ, ◌++◌, List, [], ◌∷◌, Option, Some, None, codes, if◌then◌else◌}
 use Rattle.serde_json.specs.Data.{Data, null, string}
 use Rattle.ospf_types.specs.declared.key.Dest.{Dest}
-use Rattle.output_lines.specs.Members.{Member, object_of, number_data, address_data}
+use Rattle.output_lines.specs.Members.{JsonMember, object_of, number_data, address_data}
 use Rattle.output_lines.specs.Keys.{dest_data}
 use Rattle.summary_lists.specs.Lists.{kind_of}
 use Rattle.due_explanation.specs.declared.due.DueExplained.{DueExplained}
@@ -12,7 +12,7 @@ use Rattle.due_explanation.specs.ReasonLines.{step_text, is_taken, reason_text, 
 use Rattle.due_explanation.specs.Words.{source_kind_text}
 
 -- the section that decides, and the reason; nothing where there is none
-abbrev pub reason_members : Option (List ℕ) → List Member
+abbrev pub reason_members : Option (List ℕ) → List JsonMember
 reason_members None = []
 reason_members (Some reason) = (codes "reason", string reason) ∷ (codes "step", string step_text) ∷ []
 

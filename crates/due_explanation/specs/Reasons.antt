@@ -39,8 +39,8 @@ IsStubReason (Some stub) d metric reason.StubHides = (p : Prefix) × (d ≡ Net 
 IsStubReason (Some stub) d metric r = ⊥
 
 -- all sources, and the verdict on each in the area where the summary is due at this metric
-abbrev pub AreSettled : SummaryInputsValue → AreaConfig → Dest → Option ℕ → List DueSource → Type 0
-AreSettled v a d metric sources = (alone : List DueSource) × AreSources v d alone × (sources ≡ map (settled a.id metric) alone)
+abbrev pub AreSourcesSettled : SummaryInputsValue → AreaConfig → Dest → Option ℕ → List DueSource → Type 0
+AreSourcesSettled v a d metric sources = (alone : List DueSource) × AreSources v d alone × (sources ≡ map (settled a.id metric) alone)
 
 abbrev pub IsReason : SummaryInputsValue → AreaConfig → Dest → Option ℕ → DueReason → Type 0
 IsReason v a d metric reason.NotConfigured = ⊥
@@ -49,7 +49,7 @@ IsReason v a d metric reason.NotActive = AreSeveral v.active × (Contains v.acti
 IsReason v a d metric reason.StubRouter = IsServed v.active a.id × IsStubReason a.stub d metric reason.StubRouter
 IsReason v a d metric reason.StubDefault = IsServed v.active a.id × IsStubReason a.stub d metric reason.StubDefault
 IsReason v a d metric reason.StubHides = IsServed v.active a.id × IsStubReason a.stub d metric reason.StubHides
-IsReason v a d metric (reason.Sources sources) = IsServed v.active a.id × MaySend a.stub d × AreSettled v a d metric sources.items
+IsReason v a d metric (reason.Sources sources) = IsServed v.active a.id × MaySend a.stub d × AreSourcesSettled v a d metric sources.items
 
 -- the metric at which the summary is due in the area, and why
 pub record IsExplainedIn (v : SummaryInputsValue) (a : AreaConfig) (d : Dest) (x : DueExplained) : Type 0 where

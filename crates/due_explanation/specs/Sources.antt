@@ -13,7 +13,7 @@ use Rattle.ospf_types.specs.Inter.{LSInfinity}
 use Rattle.active_ranges.specs.Active.{HasCost, HasRange}
 use Rattle.active_ranges.specs.Lists.{IsGreatestBelow}
 use Rattle.external.specs.AsbrRoute.{PreferredValue}
-use Rattle.summaries.specs.Giving.{Advertises, IsOutside}
+use Rattle.summaries.specs.Giving.{Advertises, IsOutsideRanges}
 use Rattle.summaries.specs.Inputs.{SummaryInputsValue}
 use Rattle.due_explanation.specs.declared.due.DueVerdict.{DueVerdict}
 use Rattle.due_explanation.specs.declared.due.DueVerdict.TheVariants as verdict
@@ -47,7 +47,7 @@ HasRangeAround id p a = (around : Prefix) × IsRangeOf id p a around
 abbrev pub IsIntraFate : List AreaConfig → Prefix → ℕ → ℕ → DueVerdict → Type 0
 IsIntraFate areas p through cost verdict.Infinity = LSInfinity ≤ cost
 IsIntraFate areas p through cost (verdict.InRange r) = (cost < LSInfinity) × IsRangeAround areas through p r
-IsIntraFate areas p through cost verdict.Given = (cost < LSInfinity) × IsOutside areas through p
+IsIntraFate areas p through cost verdict.Given = (cost < LSInfinity) × IsOutsideRanges areas through p
 IsIntraFate areas p through cost _ = ⊥
 
 -- the area's range with this prefix, where this is the greatest cost of its networks

@@ -1,7 +1,7 @@
 //! The address ranges of the areas (RFC 2328, 3.5), looked up by a network or by their prefix.
 ghost use Rattle.std.specs.Prelude.{◌↔◌, IfNone, IfSome, IsTrue};
 ghost use Rattle.active_ranges.specs.Active.{HasRange};
-ghost use Rattle.summaries.specs.Giving.{IsOutside};
+ghost use Rattle.summaries.specs.Giving.{IsOutsideRanges};
 ghost use Rattle.due_explanation.specs.Sources.{HasRangeAround, IsRangeAround, IsRangeOf};
 
 use ospf_types::config::AreaConfig;
@@ -10,7 +10,7 @@ use ospf_types::prefix::Prefix;
 /// Returns the range that covers the network, of the area with this Area ID, or `None`.
 pub(crate) fn range_around(areas: &[AreaConfig], id: u32, network: Prefix) -> Option<Prefix>
     ensures some { IfSome result (IsRangeAround areas.now id network) }
-    ensures none { IfNone result (IsOutside areas.now id network) }
+    ensures none { IfNone result (IsOutsideRanges areas.now id network) }
 {
     for area in areas {
         if let Some(range) = range_of(area, id, network) {

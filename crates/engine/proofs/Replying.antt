@@ -12,18 +12,18 @@ use Rattle.event_core.specs.Cores.{CoreValue, IsCore, IsTaken, state_of}
 use Rattle.event_core.specs.declared.reply.Reply.{Reply}
 use Rattle.event_core.specs.declared.reply.Status.TheVariants.{Current, Behind}
 use Rattle.publication.specs.Names.{Name}
-use Rattle.publication.specs.Published.{IsLegal}
+use Rattle.publication.specs.Published.{IsLegalHistory}
 use Rattle.publication.specs.Told.{TokenValue}
 use Rattle.publication.proofs.Prefixes.{prefix_shorter, prefix_whole, take_prefix}
-use Rattle.engine.specs.Answers.{Answers, Replies, after}
-use Rattle.engine.specs.EngineStates.{Held, Tells}
+use Rattle.engine.specs.Answers.{IsAnswerTo, IsReplyTo, after}
+use Rattle.engine.specs.EngineStates.{Held, IsTokenFor}
 use Rattle.engine.specs.declared.answer.Answer.{Answer}
 use Rattle.engine.proofs.Runs.{accepted_whole, legal_core, legal_more, looks_across, serial_whole, whole_state}
 
 -- for a core whose base these events were rolled into
 module _ (first : Base) (rolled : List Event) (old : CoreValue) (is : IsRolled first standard_limits rolled old.base) (limits : old.limits ≡ standard_limits) where
   -- the reply to an event that the core takes is one to the whole list, which is legal
-  pub replied : (new : CoreValue) (e : Event) (r s : Reply) → IsCore old → IsTaken old e r new → s.serial ≡ r.serial → s.changed ≡ r.changed → Replies first (rolled ++ old.journal) e s
+  pub replied : (new : CoreValue) (e : Event) (r s : Reply) → IsCore old → IsTaken old e r new → s.serial ≡ r.serial → s.changed ≡ r.changed → IsReplyTo first (rolled ++ old.journal) e s
   replied new e r s core taken serial changed =
       let list = rolled ++ old.journal in
       let more : rolled ++ (old.journal ++ e ∷ []) ≡ list ++ e ∷ [] = sym (append_assoc rolled old.journal (e ∷ [])) in
@@ -63,22 +63,22 @@ whole_list n called name list had whole same_name same count begins is =
     prefix_whole list whole (subst (IsPrefix list) same begins) (omega (arith, base, count, is))
 
 pub tells_whole : (called : Name) (had : List Event) (n : ℕ) (told : Option TokenValue) (name : Name) (whole : List Event) → called ≡ name → had ≡ whole → n ≡ name.base.serial + length whole
-    → IfSome told (Tells called had n) → IfSome told (λ t. (t.name ≡ name) × (t.list ≡ whole))
+    → IfSome told (IsTokenFor called had n) → IfSome told (λ t. (t.name ≡ name) × (t.list ≡ whole))
 tells_whole called had n None name whole same_name same count is = tt
 tells_whole called had n (Some t) name whole same_name same count is = (is.0 ∙ same_name, whole_list n called name t.list had whole same_name same count is.1 is.2)
 
-by_told : (name : Name) (before : List Event) (e : Event) (a : Answer) (told : Option TokenValue) → a.told ≡ told → IsLegal name.base (before ++ e ∷ [])
+by_told : (name : Name) (before : List Event) (e : Event) (a : Answer) (told : Option TokenValue) → a.told ≡ told → IsLegalHistory name.base (before ++ e ∷ [])
     → MatchOption told (a.reply.state ≡ Behind) (λ _. a.reply.state ≡ Current)
     → IfSome told (λ t. (t.name ≡ name) × (t.list ≡ before ++ e ∷ []))
-    → MatchOption a.told (a.reply.state ≡ Behind) (λ t. (a.reply.state ≡ Current) × (t.name ≡ name) × (t.list ≡ before ++ e ∷ []) × IsLegal name.base t.list)
+    → MatchOption a.told (a.reply.state ≡ Behind) (λ t. (a.reply.state ≡ Current) × (t.name ≡ name) × (t.list ≡ before ++ e ∷ []) × IsLegalHistory name.base t.list)
 by_told name before e a None same legal state is = rw same state
-by_told name before e a (Some t) same legal state is = rw same (state, is.0, is.1, subst (IsLegal name.base) (sym is.1) legal)
+by_told name before e a (Some t) same legal state is = rw same (state, is.0, is.1, subst (IsLegalHistory name.base) (sym is.1) legal)
 
-pub answers : (name : Name) (before : List Event) (e : Event) (a : Answer) (told : Option TokenValue) (engine_state : Held) (serial : ℕ) → a.reply.serial ≡ serial → Replies name.base before e a.reply
+pub answers : (name : Name) (before : List Event) (e : Event) (a : Answer) (told : Option TokenValue) (engine_state : Held) (serial : ℕ) → a.reply.serial ≡ serial → IsReplyTo name.base before e a.reply
     → a.told ≡ told
     → MatchOption told (a.reply.state ≡ Behind) (λ _. a.reply.state ≡ Current)
     → engine_state.name ≡ name → engine_state.list ≡ before ++ e ∷ []
-    → IfSome told (Tells engine_state.name engine_state.list serial) → Answers name e a
+    → IfSome told (IsTokenFor engine_state.name engine_state.list serial) → IsAnswerTo name e a
 answers name before e a told engine_state serial as_said replies same state same_name whole is =
     let more = legal_more name.base before e replies.legal replies.accepted in
     let count : serial ≡ name.base.serial + length (before ++ e ∷ []) = omega (arith, as_said, replies.serial, length-append before (e ∷ [])) in (
@@ -94,7 +94,7 @@ unpublished first n list published count short other is = other (omega (arith, c
 
 -- a token for the serial of a beginning has that beginning
 pub tells_beside : (name : Name) (had : List Event) (n : ℕ) (told : Option TokenValue) (published list : List Event) → IsPrefix list had → n ≡ name.base.serial + length list → length published ≤ length list
-    → IfNone told (¬ (n ≡ name.base.serial + length published)) → IfSome told (Tells name had n) → MatchOption told (list ≢ []) (λ t. (t.name ≡ name) × (t.list ≡ list))
+    → IfNone told (¬ (n ≡ name.base.serial + length published)) → IfSome told (IsTokenFor name had n) → MatchOption told (list ≢ []) (λ t. (t.name ≡ name) × (t.list ≡ list))
 tells_beside name had n None published list begins count short none some = unpublished name.base.serial n list published count short none
 tells_beside name had n (Some t) published list begins count short none some =
     let long : length t.list ≡ length list = omega (arith, count, some.2) in
@@ -103,7 +103,7 @@ tells_beside name had n (Some t) published list begins count short none some =
 -- A token for the whole list has its list, and it is the published one. If there is none, less is
 -- published.
 pub told_whole : (n : ℕ) (told : Option TokenValue) (name : Name) (whole published : List Event) → n ≡ name.base.serial + length whole
-    → IfNone told (¬ (n ≡ name.base.serial + length published)) → IfSome told (Tells name whole n) → IfSome told (λ t. t.list ≡ published)
+    → IfNone told (¬ (n ≡ name.base.serial + length published)) → IfSome told (IsTokenFor name whole n) → IfSome told (λ t. t.list ≡ published)
     → MatchOption told (¬ (length whole ≡ length published)) (λ t. (t.list ≡ whole) × (t.list ≡ published))
 told_whole n None name whole published count none some same = λ e. none (omega (arith, count, e))
 told_whole n (Some t) name whole published count none some same = (prefix_whole t.list whole some.1 (omega (arith, count, some.2)), same)

@@ -13,12 +13,12 @@ use Rattle.event_state.specs.Rolls.{IsRolled}
 use Rattle.event_state.specs.States.{State}
 use Rattle.event_state.specs.Steps.{opening, run_of, standard_limits}
 use Rattle.event_core.specs.Cores.{CoreValue, IsCore, Rolls, state_of, IsRollRefusal as IsCoreRefusal}
-use Rattle.publication.specs.Lines.{Line}
+use Rattle.publication.specs.Lines.{HistoryLine}
 use Rattle.publication.specs.Names.{Name}
 use Rattle.publication.specs.declared.published_table.PublishedTable.{PublishedTable}
 use Rattle.publication.specs.declared.published_table.Update.{Update}
 use Rattle.publication.proofs.Prefixes.{prefix_self, prefix_take}
-use Rattle.engine.specs.EngineStates.{Held, IsBegun, IsKept, IsFresh, IsRollRefusal, list_of}
+use Rattle.engine.specs.EngineStates.{Held, IsHistoryBegun, IsEngineKept, IsFresh, IsRollRefusal, list_of}
 use Rattle.engine.proofs.Runs.{legal_core, serial_whole, whole_state}
 
 -- a part of a list after another
@@ -36,7 +36,7 @@ begun_as rolled journal list n long begins =
     prefix_take list (rolled ++ journal) begins ∙ ap (λ (k : ℕ). take k (rolled ++ journal)) long ∙ take_past rolled journal n
 
 -- the whole list is begun, where all of it was built
-pub whole_begun : (rolled : Line) (core : CoreValue) (list : List Event) → core.built ≡ length core.journal → list ≡ list_of rolled core → IsBegun rolled core list
+pub whole_begun : (rolled : HistoryLine) (core : CoreValue) (list : List Event) → core.built ≡ length core.journal → list ≡ list_of rolled core → IsHistoryBegun rolled core list
 whole_begun rolled core list built is = record {
   within = omega (arith, ap length is, length-append rolled.list core.journal);
   begins = subst (λ (l : List Event). IsPrefix l (list_of rolled core)) (sym is) (prefix_self (list_of rolled core));
@@ -58,15 +58,15 @@ rolled_base first rolled old new is limits core rolls =
     }
 
 -- the published, or written, list is the whole list before and after
-rolled_begun : (old new : CoreValue) (rolled next : Line) (list : List Event) → Rolls old new → next.list ≡ list_of rolled old → list ≡ list_of rolled old → IsBegun next new list
+rolled_begun : (old new : CoreValue) (rolled next : HistoryLine) (list : List Event) → Rolls old new → next.list ≡ list_of rolled old → list ≡ list_of rolled old → IsHistoryBegun next new list
 rolled_begun old new rolled next list rolls same is =
     whole_begun next new list (rolls.built ∙ sym (ap length rolls.journal))
     (is ∙ sym same ∙ sym (append-nil next.list) ∙ ap (λ (j : List Event). next.list ++ j) (sym rolls.journal))
 
-pub rolled_kept : (old new : CoreValue) (history rolled next : Line) (shown : PublishedTable) (known : Option Name) → IsCore old → Rolls old new → next ≡ history
-    → shown.front.list ≡ list_of rolled old → history.list ≡ list_of rolled old → IsKept old history rolled shown known → IsKept new history next shown known
+pub rolled_kept : (old new : CoreValue) (history rolled next : HistoryLine) (shown : PublishedTable) (known : Option Name) → IsCore old → Rolls old new → next ≡ history
+    → shown.front.list ≡ list_of rolled old → history.list ≡ list_of rolled old → IsEngineKept old history rolled shown known → IsEngineKept new history next shown known
 rolled_kept old new history rolled next shown known core rolls as_written published written kept =
-    let same : next.list ≡ list_of rolled old = ap (λ (l : Line). l.list) as_written ∙ written in
+    let same : next.list ≡ list_of rolled old = ap (λ (l : HistoryLine). l.list) as_written ∙ written in
     record {
       book = kept.book;
       base = subst (λ (list : List Event). IsRolled shown.base standard_limits list new.base) (sym same) (rolled_base shown.base rolled.list old new kept.base kept.limits core rolls);
@@ -78,19 +78,19 @@ rolled_kept old new history rolled next shown known core rolls as_written publis
     }
 
 -- the whole list is unchanged
-pub rolled_list : (old new : CoreValue) (history rolled next : Line) → Rolls old new → next ≡ history → history.list ≡ list_of rolled old → list_of next new ≡ list_of rolled old
+pub rolled_list : (old new : CoreValue) (history rolled next : HistoryLine) → Rolls old new → next ≡ history → history.list ≡ list_of rolled old → list_of next new ≡ list_of rolled old
 rolled_list old new history rolled next rolls as_written written =
-    ap (λ (j : List Event). next.list ++ j) rolls.journal ∙ append-nil next.list ∙ ap (λ (l : Line). l.list) as_written ∙ written
+    ap (λ (j : List Event). next.list ++ j) rolls.journal ∙ append-nil next.list ∙ ap (λ (l : HistoryLine). l.list) as_written ∙ written
 
 -- and so nothing follows
-pub rolled_fresh : (old new : CoreValue) (history rolled next : Line) (shown : PublishedTable) (pending : List Update) → Rolls old new → next ≡ history → IsFresh false old history rolled shown pending
+pub rolled_fresh : (old new : CoreValue) (history rolled next : HistoryLine) (shown : PublishedTable) (pending : List Update) → Rolls old new → next ≡ history → IsFresh false old history rolled shown pending
     → IsFresh false new history next shown pending
 rolled_fresh old new history rolled next shown pending rolls as_written fresh =
     let same = sym (rolled_list old new history rolled next rolls as_written fresh.2) in
     (fresh.0, fresh.1 ∙ same, fresh.2 ∙ same)
 
 -- where a core is not rolled, less is published than was taken; or all of it is, and memory ran out
-pub roll_refusal : (core : CoreValue) (rolled : Line) (shown : PublishedTable) (d : Held) (r : Refusal) → core.built ≡ length core.journal → shown.front.list ≡ list_of rolled core
+pub roll_refusal : (core : CoreValue) (rolled : HistoryLine) (shown : PublishedTable) (d : Held) (r : Refusal) → core.built ≡ length core.journal → shown.front.list ≡ list_of rolled core
     → d.published ≡ shown.front.list → d.list ≡ list_of rolled core → IsCoreRefusal core r → IsRollRefusal d r
 roll_refusal core rolled shown d r current whole published list (inl behind) = absurd (behind.1 current)
 roll_refusal core rolled shown d r current whole published list (inr none) = inr (none.0, published ∙ whole ∙ sym list)

@@ -21,7 +21,7 @@ use Rattle.event_core.specs.Cores.{CoreValue, IsCore}
 use Rattle.event_state.proofs.Lasting.{taken_lasts, refusal_lasts}
 use Rattle.event_state.proofs.Rolls.{taken_append, whole_content, whole_legal, whole_refusal, whole_serial}
 use Rattle.route_table.specs.Right.{IsRoutingTable}
-use Rattle.publication.specs.Published.{IsLegal, IsTableFor}
+use Rattle.publication.specs.Published.{IsLegalHistory, IsTableFor}
 
 taken_take : (s : State) (n : ℕ) (events : List Event) → AreTaken s events → AreTaken s (take n events)
 taken_take s zero events taken = tt
@@ -29,7 +29,7 @@ taken_take s (suc n) [] taken = tt
 taken_take s (suc n) (e ∷ events) taken = (taken.0, taken_take (step s e) n events taken.1)
 
 -- a legal list with an event that is accepted then is legal
-pub legal_more : (base : Base) (events : List Event) (e : Event) → IsLegal base events → lasting_refusal_of (run_of base standard_limits events) e ≡ None → IsLegal base (events ++ e ∷ [])
+pub legal_more : (base : Base) (events : List Event) (e : Event) → IsLegalHistory base events → lasting_refusal_of (run_of base standard_limits events) e ≡ None → IsLegalHistory base (events ++ e ∷ [])
 legal_more base events e legal accepted = taken_append (opening base standard_limits) events (e ∷ []) legal (accepted, tt)
 
 -- ---- what is seen of a state rests neither on its base nor on its journal
@@ -73,10 +73,10 @@ module _ (first : Base) (rolled : List Event) (c : CoreValue) (is : IsRolled fir
   legal_own : IsCore c → IsLegalList c.base standard_limits c.journal
   legal_own core = subst (λ (l : Limits). IsLegalList c.base l c.journal) limits core.legal
 
-  pub legal_core : IsCore c → IsLegal first (rolled ++ c.journal)
+  pub legal_core : IsCore c → IsLegalHistory first (rolled ++ c.journal)
   legal_core core = whole_legal first standard_limits rolled c.base is c.journal (legal_own core)
 
-  pub legal_built : IsCore c → IsLegal first (rolled ++ take c.built c.journal)
+  pub legal_built : IsCore c → IsLegalHistory first (rolled ++ take c.built c.journal)
   legal_built core =
       whole_legal first standard_limits rolled c.base is (take c.built c.journal) (taken_take (opening c.base standard_limits) c.built c.journal (legal_own core))
 

@@ -6,10 +6,10 @@ use Rattle.publication.specs.Names.{Name}
 use Rattle.event_state.specs.declared.event.Event.{Event}
 use Rattle.engine.specs.declared.answer.Answer.{Answer}
 use Rattle.engine.specs.declared.answer.Refused.{Refused}
-use Rattle.engine.specs.declared.workers.Job.{Job}
+use Rattle.engine.specs.declared.workers.WorkerJob.{WorkerJob}
 use Rattle.engine.proofs.Zips.{zip_through}
 
-pub of_lists : {E : Type 0} (name : Name) (r : Result (Vec (Vec (Result Answer Refused) Global) Global) E) (lists : List (Vec Event Global)) (jobs : List Job)
+pub of_lists : {E : Type 0} (name : Name) (r : Result (Vec (Vec (Result Answer Refused) Global) Global) E) (lists : List (Vec Event Global)) (jobs : List WorkerJob)
     → AllZip (λ events job. job.events ≡ events) lists jobs
     → IfOk r (λ all. AllZip (λ job answers. AreAnswered name job.events.items answers.items) jobs all.items)
     → IfOk r (λ all. AllZip (λ events answers. AreAnswered name events.items answers.items) lists all.items)

@@ -14,7 +14,7 @@ use Rattle.event_core.specs.declared.reply.Reply.{Reply}
 use Rattle.event_core.specs.declared.reply.Status.TheVariants.{Current, Behind}
 use Rattle.event_core.specs.Right.{IsDueIn}
 use Rattle.publication.specs.Names.{Name}
-use Rattle.publication.specs.Published.{IsLegal}
+use Rattle.publication.specs.Published.{IsLegalHistory}
 use Rattle.publication.specs.Told.{TokenValue}
 use Rattle.engine.specs.declared.answer.Answer.{Answer}
 use Rattle.engine.specs.declared.answer.Refused.{Refused}
@@ -25,24 +25,24 @@ abbrev pub after : Base → List Event → State
 after base list = run_of base standard_limits list
 
 -- the reply to the event after these, which are legal
-pub record Replies (base : Base) (before : List Event) (e : Event) (r : Reply) : Type 0 where
-  pub legal : IsLegal base before
+pub record IsReplyTo (base : Base) (before : List Event) (e : Event) (r : Reply) : Type 0 where
+  pub legal : IsLegalHistory base before
   pub accepted : lasting_refusal_of (after base before) e ≡ None
   pub serial : r.serial ≡ base.serial + length before + 1
   pub changed : (r.changed ≡ false) ↔ LooksAlike (after base before) (after base (before ++ e ∷ []))
 
 -- The reply to the event after some legal list. It has a token exactly if the status is Current,
 -- and the token's list is that list and the event
-abbrev pub Answers : Name → Event → Answer → Type 0
-Answers name e a =
-    (before : List Event) × Replies name.base before e a.reply
-    × MatchOption a.told (a.reply.state ≡ Behind) (λ t. (a.reply.state ≡ Current) × (t.name ≡ name) × (t.list ≡ before ++ e ∷ []) × IsLegal name.base t.list)
+abbrev pub IsAnswerTo : Name → Event → Answer → Type 0
+IsAnswerTo name e a =
+    (before : List Event) × IsReplyTo name.base before e a.reply
+    × MatchOption a.told (a.reply.state ≡ Behind) (λ t. (a.reply.state ≡ Current) × (t.name ≡ name) × (t.list ≡ before ++ e ∷ []) × IsLegalHistory name.base t.list)
 
 -- The event is refused after some legal list, which is the list of the token if there is one. If
 -- there is none, something was taken before
 abbrev pub Refusals : Name → Event → Refused → Type 0
 Refusals name e r =
-    (list : List Event) × IsLegal name.base list × IsLastingRefusalOf (after name.base list) e r.refusal
+    (list : List Event) × IsLegalHistory name.base list × IsLastingRefusalOf (after name.base list) e r.refusal
     × MatchOption r.told (list ≢ []) (λ t. (t.name ≡ name) × (t.list ≡ list))
 
 -- the area is configured
@@ -53,12 +53,12 @@ HasArea config id = (a : AreaConfig) × Contains config.areas a × (a.id ≡ id)
 -- one. If there is none, something was taken before
 abbrev pub IsDueListOf : Name → ℕ → DueList → Type 0
 IsDueListOf name area d =
-    (list : List Event) × IsLegal name.base list × (d.serial ≡ name.base.serial + length list) × IsDueIn (after name.base list) area (Some d.list.items)
+    (list : List Event) × IsLegalHistory name.base list × (d.serial ≡ name.base.serial + length list) × IsDueIn (after name.base list) area (Some d.list.items)
     × MatchOption d.told (list ≢ []) (λ t. (t.name ≡ name) × (t.list ≡ list))
 
 -- the answer of one event
 abbrev pub IsAnswered : Name → Event → Result Answer Refused → Type 0
-IsAnswered name e r = MatchResult r (Answers name e) (Refusals name e)
+IsAnswered name e r = MatchResult r (IsAnswerTo name e) (Refusals name e)
 
 -- each event has its own answer, at its place
 abbrev pub AreAnswered : Name → List Event → List (Result Answer Refused) → Type 0

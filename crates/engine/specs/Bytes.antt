@@ -7,7 +7,7 @@ use Rattle.lsa_codec.specs.Faults.{fault_of}
 use Rattle.lsa_codec.specs.Spelling.{Spells}
 use Rattle.event_state.specs.declared.event.Event.TheVariants as event
 use Rattle.publication.specs.Names.{Name}
-use Rattle.engine.specs.Answers.{Answers, Refusals}
+use Rattle.engine.specs.Answers.{IsAnswerTo, Refusals}
 use Rattle.engine.specs.declared.answer.Answer.{Answer}
 use Rattle.engine.specs.declared.bytes_fault.BytesFault.{BytesFault}
 use Rattle.engine.specs.declared.bytes_fault.BytesFault.TheVariants as bytes
@@ -18,7 +18,7 @@ AreReadAs given l = (fault_of given ≡ None) × Spells given l
 
 -- the answer to the install of the LSA that is read
 abbrev pub AreInstalled : Name → Scope → List ℕ → Answer → Type 0
-AreInstalled name at given answer = (l : Lsa) × AreReadAs given l × Answers name (event.Install at l) answer
+AreInstalled name at given answer = (l : Lsa) × AreReadAs given l × IsAnswerTo name (event.Install at l) answer
 
 -- they have this fault as their first, or memory was refused; or the install of the LSA that is
 -- read is refused

@@ -5,16 +5,16 @@ use Rattle.atomic_table.specs.Table.{State, Step, Me}
 use Rattle.engine.specs.EngineStates.{Held}
 use Rattle.publication.specs.Names.{Name}
 
-abbrev pub Fits : Name → Option Held → Type 0
-Fits name slot = IfSome slot (λ d. d.name ≡ name)
+abbrev pub FitsSlot : Name → Option Held → Type 0
+FitsSlot name slot = IfSome slot (λ d. d.name ≡ name)
 
 -- the slot is at home if the word is 0
 abbrev pub Locks : Name → State (Option Held) Name → Type 0
-Locks name s = (n : ℕ) × (s.words ≡ n ∷ []) × (n ≡ 0 → (x : Option Held) × (s.homes ≡ some x ∷ []) × Fits name x)
+Locks name s = (n : ℕ) × (s.words ≡ n ∷ []) × (n ≡ 0 → (x : Option Held) × (s.homes ≡ some x ∷ []) × FitsSlot name x)
 
 -- a swap that finds 0 takes the slot
 abbrev pub Took : Step (Option Held) → Me (Option Held) Name → ℕ → Me (Option Held) Name → Type 0
-Took st m n m' = (n ≡ 0 → (x : Option Held) × (m'.1 ≡ (0, x) ∷ []) × Fits m.0 x) × (n ≢ 0 → m'.1 ≡ [])
+Took st m n m' = (n ≡ 0 → (x : Option Held) × (m'.1 ≡ (0, x) ∷ []) × FitsSlot m.0 x) × (n ≢ 0 → m'.1 ≡ [])
 
 -- a store gives it back
 abbrev pub Gave : Step (Option Held) → Me (Option Held) Name → ℕ → Me (Option Held) Name → Type 0

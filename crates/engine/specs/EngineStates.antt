@@ -10,7 +10,7 @@ use Rattle.event_core.specs.Cores.{CoreValue}
 use Rattle.event_core.specs.declared.reply.Status.{Status}
 use Rattle.event_core.specs.declared.reply.Status.TheVariants.{Current, Behind}
 use Rattle.route_table.specs.Deltas.{Lead}
-use Rattle.publication.specs.Lines.{Line}
+use Rattle.publication.specs.Lines.{HistoryLine}
 use Rattle.publication.specs.Names.{Name}
 use Rattle.publication.specs.Published.{IsShownRight, name_of}
 use Rattle.publication.specs.Forwarders.{ForwarderValue}
@@ -43,29 +43,29 @@ abbrev pub IsRollRefusal : Held → Refusal → Type 0
 IsRollRefusal d r = ((r ≡ refusal.NotCurrent) × (length d.published < length d.list)) ⊎ ((r ≡ refusal.Memory) × (d.published ≡ d.list))
 
 -- the events that were rolled into the core's base, and those of its journal
-abbrev pub list_of : Line → CoreValue → List Event
+abbrev pub list_of : HistoryLine → CoreValue → List Event
 list_of rolled core = rolled.list ++ core.journal
 
 -- a beginning of these that has all that were rolled, and no more than was built
-pub record IsBegun (rolled : Line) (core : CoreValue) (list : List Event) : Type 0 where
+pub record IsHistoryBegun (rolled : HistoryLine) (core : CoreValue) (list : List Event) : Type 0 where
   pub within : length rolled.list ≤ length list
   pub begins : IsPrefix list (list_of rolled core)
   pub built : length list ≤ length rolled.list + core.built
 
 -- The core, the author of the history, the history at the last roll, the published table, and what
 -- the writer knows. Nothing is said of updates that are pending: a whole table clears.
-pub record IsKept (core : CoreValue) (history rolled : Line) (shown : PublishedTable) (known : Option Name) : Type 0 where
+pub record IsEngineKept (core : CoreValue) (history rolled : HistoryLine) (shown : PublishedTable) (known : Option Name) : Type 0 where
   pub book : history.book ≡ shown.front.book
   pub base : IsRolled shown.base standard_limits rolled.list core.base
   pub known_is : known ≡ Some (name_of shown)
   pub limits : core.limits ≡ standard_limits
   pub right : IsShownRight shown
-  pub published : IsBegun rolled core shown.front.list
-  pub written : IsBegun rolled core history.list
+  pub published : IsHistoryBegun rolled core shown.front.list
+  pub written : IsHistoryBegun rolled core history.list
 
 -- if it is stale, less is published than was taken; otherwise nothing is pending, and the published
 -- list and the author's are the whole list
-abbrev pub IsFresh : Bool → CoreValue → Line → Line → PublishedTable → List Update → Type 0
+abbrev pub IsFresh : Bool → CoreValue → HistoryLine → HistoryLine → PublishedTable → List Update → Type 0
 IsFresh stale core history rolled shown pending =
     MatchBool stale (length shown.front.list < length (list_of rolled core))
     ((pending ≡ []) × (shown.front.list ≡ list_of rolled core) × (history.list ≡ list_of rolled core))
@@ -78,8 +78,8 @@ CanFollow core shown pending =
     × Lead shown.table.items core.table.items (those_of core.table.items core.changes)
 
 -- a token of an engine's state for this serial: it is for a beginning of the list
-abbrev pub Tells : Name → List Event → ℕ → TokenValue → Type 0
-Tells name list serial t = (t.name ≡ name) × IsPrefix t.list list × (serial ≡ name.base.serial + length t.list)
+abbrev pub IsTokenFor : Name → List Event → ℕ → TokenValue → Type 0
+IsTokenFor name list serial t = (t.name ≡ name) × IsPrefix t.list list × (serial ≡ name.base.serial + length t.list)
 
 -- the serials of the last published event, of the last that the table and the due summaries
 -- reflect, and of the last that was taken
@@ -94,7 +94,7 @@ last_serial d = d.name.base.serial + length d.list
 
 -- it has this name, the events that were rolled and those of the core's journal, and reflects as
 -- many as the core
-abbrev pub IsStateOf : Name → Line → CoreValue → Held → Type 0
+abbrev pub IsStateOf : Name → HistoryLine → CoreValue → Held → Type 0
 IsStateOf name rolled core d = (d.name ≡ name) × (d.list ≡ list_of rolled core) × (d.built ≡ length rolled.list + core.built)
 
 -- it begins with the core, and has published no event

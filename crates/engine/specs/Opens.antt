@@ -12,7 +12,7 @@ use Rattle.event_state.specs.declared.event.Event.{Event}
 use Rattle.event_state.specs.Rolls.{IsRolled}
 use Rattle.publication.specs.Forwarders.{ForwarderValue}
 use Rattle.publication.specs.Names.{Name}
-use Rattle.publication.specs.Published.{IsLegal}
+use Rattle.publication.specs.Published.{IsLegalHistory}
 use Rattle.engine.specs.EngineStates.{AreReaders}
 use Rattle.engine.specs.declared.open_fault.OpenFault.{OpenFault}
 use Rattle.engine.specs.declared.open_fault.OpenFault.TheVariants as opens
@@ -42,7 +42,7 @@ IsOpenFaultFrom base readers opens.Place = (base_fault_of standard_limits base �
 
 -- the serial after a legal list
 abbrev pub IsRolledSerial : Base → ℕ → Type 0
-IsRolledSerial base serial = (list : List Event) × IsLegal base list × (serial ≡ base.serial + length list)
+IsRolledSerial base serial = (list : List Event) × IsLegalHistory base list × (serial ≡ base.serial + length list)
 
 -- the configuration has no fault, and the number of readers is allowed
 abbrev pub CanOpen : Config → ℕ → Type 0

@@ -9,7 +9,7 @@ ghost use Rattle.event_state.specs.Rolls.{IsRolled};
 ghost use Rattle.event_state.specs.Steps.{standard_limits};
 ghost use Rattle.event_state.specs.declared.event.Event.{Event as EventValue};
 ghost use Rattle.publication.specs.Forwarders.{ForwarderValue};
-ghost use Rattle.publication.specs.Published.{IsLegal};
+ghost use Rattle.publication.specs.Published.{IsLegalHistory};
 ghost use Rattle.engine.specs.Answers.{IsAnswered, IsDueListOf, IsForArea};
 ghost use Rattle.engine.specs.EngineStates.{AreReaders};
 ghost use Rattle.engine.specs.Opens.{AreNew, CanOpen, CanOpenFrom, IsLastFault, IsNewAdded};
@@ -164,7 +164,7 @@ impl Engine {
     /// Publishes the whole table if the published one is behind, and rebuilds it before if the core
     /// is behind. Returns a token of the whole history if its table is published.
     pub fn catch_up<R: Wait>(&self, rt: &R) -> Option<Told>
-        ensures { IfSome result (λ t. (t.name ≡ self.now) × IsLegal self.now.base t.list) }
+        ensures { IfSome result (λ t. (t.name ≡ self.now) × IsLegalHistory self.now.base t.list) }
     {
         let door = self.door.lock(rt);
         let (engine_state, _state, told) = self.slot.take(rt).catch_up(rt);

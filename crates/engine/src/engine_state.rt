@@ -7,14 +7,14 @@ ghost use Rattle.left_right.specs.Sides.{view as known_to};
 ghost use Rattle.event_state.specs.Steps.{standard_limits};
 ghost use Rattle.event_state.specs.Rolls.{IsRolled};
 ghost use Rattle.event_state.specs.declared.event.Event.{Event as EventValue};
-ghost use Rattle.engine.specs.Answers.{Answers, Refusals, IsDueListOf, IsForArea, IsReplyWith};
+ghost use Rattle.engine.specs.Answers.{IsAnswerTo, Refusals, IsDueListOf, IsForArea, IsReplyWith};
 ghost use Rattle.event_core.specs.Cores.{IsCore};
-ghost use Rattle.engine.specs.EngineStates.{AreReaders, IsAsBefore, IsKept, IsBegun, IsListAfter};
+ghost use Rattle.engine.specs.EngineStates.{AreReaders, IsAsBefore, IsEngineKept, IsHistoryBegun, IsListAfter};
 ghost use Rattle.engine.specs.EngineStates.{IsOpenedOver, IsRollRefusal, IsSplitInto, IsStateOf};
 ghost use Rattle.engine.specs.EngineStates.{IsTokenAt, IsTokenOfAll, KnowsPublished, CanFollow};
-ghost use Rattle.engine.specs.EngineStates.{CatchesUp, Tells, built_serial, last_serial, list_of};
+ghost use Rattle.engine.specs.EngineStates.{CatchesUp, IsTokenFor, built_serial, last_serial, list_of};
 ghost use Rattle.engine.specs.EngineStates.{published_serial};
-ghost use Rattle.publication.specs.Published.{IsLegal, name_of};
+ghost use Rattle.publication.specs.Published.{IsLegalHistory, name_of};
 ghost use Rattle.event_state.specs.declared.refusal.Refusal.TheVariants.{Memory as NoMemory};
 ghost use Rattle.event_state.specs.declared.refusal.Refusal.TheVariants.{NoArea};
 ghost use Rattle.event_core.specs.declared.reply.Status.TheVariants.{Current, Behind};
@@ -58,14 +58,14 @@ impl Model for EngineState {
     ghost use Rattle.std.specs.Prelude.{◌+◌, drop, length};
     ghost use Rattle.left_right.specs.Sides.{view as known_to};
     ghost use Rattle.event_core.specs.Cores.{IsCore};
-    ghost use Rattle.engine.specs.EngineStates.{Held, IsKept, IsFresh, list_of};
+    ghost use Rattle.engine.specs.EngineStates.{Held, IsEngineKept, IsFresh, list_of};
     ghost use Rattle.publication.specs.Published.{name_of};
 
     ghost Value = { Held };
 
     ghost view = { λ d. record { name = name_of d.parts.writer.desk.shown.value; list = list_of d.parts.rolled d.parts.core; built = length d.parts.rolled.list + d.parts.core.built; published = d.parts.writer.desk.shown.value.front.list } };
 
-    ghost invariant = { λ d. IsCore d.parts.core × IsKept d.parts.core d.parts.history d.parts.rolled d.parts.writer.desk.shown.value (known_to d.parts.writer.desk.place) × IsFresh d.stale d.parts.core d.parts.history d.parts.rolled d.parts.writer.desk.shown.value (drop d.parts.writer.behind d.parts.writer.log.items) };
+    ghost invariant = { λ d. IsCore d.parts.core × IsEngineKept d.parts.core d.parts.history d.parts.rolled d.parts.writer.desk.shown.value (known_to d.parts.writer.desk.place) × IsFresh d.stale d.parts.core d.parts.history d.parts.rolled d.parts.writer.desk.shown.value (drop d.parts.writer.behind d.parts.writer.log.items) };
 }
 
 // Appends to the history the events of the journal that it lacks. The journal comes after the
@@ -86,10 +86,10 @@ fn follow(history: &mut History, rolled: &HistoryPrefix, journal: &[Event])
 // Appends to the history the events of the journal that it lacks, and returns true if the core is
 // current. Otherwise it returns false.
 fn follow_built(history: &mut History, rolled: &HistoryPrefix, core: &Core) -> bool
-    requires written { IsBegun rolled.now core.now history.old.list }
+    requires written { IsHistoryBegun rolled.now core.now history.old.list }
     ensures kept { IsCore core.now }
     ensures book { history.new.book ≡ history.old.book }
-    ensures written { IsBegun rolled.now core.now history.new.list }
+    ensures written { IsHistoryBegun rolled.now core.now history.new.list }
     ensures whole { IsTrue result → (history.new.list ≡ list_of rolled.now core.now)
         × (core.now.built ≡ length core.now.journal) }
 {
@@ -105,7 +105,7 @@ fn follow_built(history: &mut History, rolled: &HistoryPrefix, core: &Core) -> b
 impl EngineParts {
     // Publishes the whole table if the core is current. The publication may fail.
     fn publish_whole<R: Wait>(self, rt: &R) -> EngineState
-        requires kept { IsKept self.core self.history self.rolled self.writer.desk.shown.value
+        requires kept { IsEngineKept self.core self.history self.rolled self.writer.desk.shown.value
             (known_to self.writer.desk.place) }
         requires behind { length self.writer.desk.shown.value.front.list
             < length (list_of self.rolled self.core) }
@@ -140,7 +140,7 @@ impl EngineParts {
 
     // Publishes the changes of the table if the core is current. The publication may fail.
     fn publish_changes<R: Wait>(self, rt: &R) -> EngineState
-        requires kept { IsKept self.core self.history self.rolled self.writer.desk.shown.value
+        requires kept { IsEngineKept self.core self.history self.rolled self.writer.desk.shown.value
             (known_to self.writer.desk.place) }
         requires behind { length self.writer.desk.shown.value.front.list
             < length (list_of self.rolled self.core) }
@@ -184,7 +184,7 @@ impl EngineParts {
     // Publishes the changes of an event, or the whole table. `state` is the status of the core's
     // reply to the event.
     fn publish<R: Wait>(self, rt: &R, stale: bool, state: Status) -> EngineState
-        requires kept { IsKept self.core self.history self.rolled self.writer.desk.shown.value
+        requires kept { IsEngineKept self.core self.history self.rolled self.writer.desk.shown.value
             (known_to self.writer.desk.place) }
         requires behind { length self.writer.desk.shown.value.front.list
             < length (list_of self.rolled self.core) }
@@ -207,7 +207,7 @@ impl EngineState {
     // Returns a token of the published history, if its serial is this one.
     fn told(&self, serial: u64) -> Option<Told>
         ensures none { IfNone result (¬ (serial ≡ published_serial self.now)) }
-        ensures some { IfSome result (Tells self.now.name self.now.list serial) }
+        ensures some { IfSome result (IsTokenFor self.now.name self.now.list serial) }
         ensures published { IfSome result (λ t. t.list ≡ self.now.published) }
     {
         let shown = self.parts.writer.published();
@@ -234,7 +234,7 @@ impl EngineState {
     ) -> (EngineState, Result<Answer, Refused>)
         ensures name { result.0.name ≡ self.name }
         ensures journal { IsListAfter self event result.1 result.0 }
-        ensures answer { MatchResult result.1 (Answers self.name event) (Refusals self.name event) }
+        ensures answer { MatchResult result.1 (IsAnswerTo self.name event) (Refusals self.name event) }
         ensures told { IfErr result.1 (λ r. IsTokenOfAll result.0 r.told) }
         ensures grows { IsPrefix self.published result.0.published }
         ensures gate { IfOk result.1 (λ _. G.passed gate.now worker place) }
@@ -362,7 +362,7 @@ impl EngineState {
     /// Memory. Nothing is changed then.
     pub fn roll(self) -> (EngineState, Result<u64, Refusal>)
         ensures same { IsAsBefore self result.0 }
-        ensures legal { IfOk result.1 (λ _. IsLegal self.name.base self.list) }
+        ensures legal { IfOk result.1 (λ _. IsLegalHistory self.name.base self.list) }
         ensures serial { IfOk result.1 (λ serial. serial ≡ last_serial self) }
         ensures current { OnOk result.1 (self.published ≡ self.list) }
         ensures refused { IfErr result.1 (IsRollRefusal self) }

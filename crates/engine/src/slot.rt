@@ -3,7 +3,7 @@
 //! Contracts know the content of a plain lock only by its type, so it has no name. The slot knows
 //! the name of its engine.
 ghost use Rattle.std.specs.Prelude.{◌≡◌, IfOk, IfSome};
-ghost use Rattle.engine.specs.EngineSlots.{Fits};
+ghost use Rattle.engine.specs.EngineSlots.{FitsSlot};
 
 use crate::EngineState;
 use atomic_table::{Play, Table, TableRule};
@@ -74,8 +74,8 @@ impl EngineSlot {
 
     // Puts the new content into the slot, and returns the old one.
     fn swap<R: Wait>(&self, rt: &R, new: Option<EngineState>) -> Option<EngineState>
-        requires { Fits self.now new }
-        ensures { Fits self.now result }
+        requires { FitsSlot self.now new }
+        ensures { FitsSlot self.now result }
     {
         let shared = &self.table.shared;
         for _ in rt.forever() {

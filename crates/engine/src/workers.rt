@@ -22,7 +22,7 @@ pub type Answers = Vec<Result<Answer, Refused>>;
 
 /// The events of a worker, and a list with room for their answers.
 #[derive(Drop)]
-pub struct Job {
+pub struct WorkerJob {
     pub events: Vec<Event>,
     pub answers: Answers,
     ghost empty: { answers.items ≡ [] },
@@ -30,20 +30,26 @@ pub struct Job {
 }
 
 // Creates the job of a list, with room for the answers.
-fn prepared(alloc: Global, events: Vec<Event>) -> Result<Job, AllocError>
+fn prepared(alloc: Global, events: Vec<Event>) -> Result<WorkerJob, AllocError>
     ensures { IfOk result (λ j. j.events ≡ events) }
 {
     let answers = Vec::with_capacity(alloc, events.len())?;
-    Ok(Job { events, answers })
+    Ok(WorkerJob { events, answers })
 }
 
 // Submits the events of a worker in order, each through the gate.
-fn work<R: Wait, G: Gate>(rt: &R, engine: &Engine, gate: &G, worker: usize, job: Job) -> Answers
+fn work<R: Wait, G: Gate>(
+    rt: &R,
+    engine: &Engine,
+    gate: &G,
+    worker: usize,
+    job: WorkerJob,
+) -> Answers
     ensures answered { AreAnswered engine.now job.events.items result.items }
     ensures gate { HavePassed (G.came gate.now) (G.passed gate.now) (G.left gate.now)
         worker 0 result.items }
 {
-    let Job {
+    let WorkerJob {
         events,
         mut answers,
     } = job;
@@ -80,7 +86,7 @@ fn start<'s, E, R: Threads + Wait + Sync, G: Gate>(
     engine: &'s Engine,
     gate: &'s G,
     worker: usize,
-    job: Job,
+    job: WorkerJob,
 ) -> Option<Child<'s>>
     ensures { IfSome result (λ h. (h.promise.engine.now ≡ engine.now)
         × (h.promise.events.value.items ≡ job.events.items)) }
@@ -100,7 +106,7 @@ fn start_all<'s, E, R: Threads + Wait + Sync, G: Gate>(
     rt: &'s R,
     engine: &'s Engine,
     gate: &'s G,
-    jobs: Vec<Job>,
+    jobs: Vec<WorkerJob>,
     children: &mut Vec<Child<'s>>,
 ) -> bool
     requires empty { children.old.items ≡ [] }
@@ -167,7 +173,7 @@ fn run_all<'s, E, R: Threads + Wait + Sync, G: Gate>(
     rt: &'s R,
     engine: &'s Engine,
     gate: &'s G,
-    jobs: Vec<Job>,
+    jobs: Vec<WorkerJob>,
     room: Room<'s>,
 ) -> Result<Vec<Answers>, Refusal>
     requires empty { (room.children.items ≡ []) × (room.all.items ≡ []) }
@@ -195,7 +201,7 @@ fn run_with_room<'s, E, R: Threads + Wait + Sync, G: Gate>(
     alloc: Global,
     engine: &'s Engine,
     gate: &'s G,
-    jobs: Vec<Job>,
+    jobs: Vec<WorkerJob>,
 ) -> Result<Vec<Answers>, Refusal>
     ensures answers { IfOk result (λ all. AllZip
         (λ job answers. AreAnswered engine.now job.events.items answers.items)
@@ -209,7 +215,7 @@ fn run_with_room<'s, E, R: Threads + Wait + Sync, G: Gate>(
 }
 
 // Creates the jobs of the lists, with room for their answers.
-fn all_prepared(alloc: Global, lists: Vec<Vec<Event>>) -> Result<Vec<Job>, AllocError>
+fn all_prepared(alloc: Global, lists: Vec<Vec<Event>>) -> Result<Vec<WorkerJob>, AllocError>
     ensures { IfOk result (λ jobs.
         AllZip (λ events job. job.events ≡ events) lists.items jobs.items) }
 {
@@ -226,7 +232,7 @@ fn run<R: Threads + Wait + Sync, G: Gate>(
     alloc: Global,
     engine: &Engine,
     gate: &G,
-    jobs: Vec<Job>,
+    jobs: Vec<WorkerJob>,
 ) -> Result<Vec<Answers>, Refusal>
     ensures answers { IfOk result (λ all. AllZip
         (λ job answers. AreAnswered engine.now job.events.items answers.items)

@@ -12,7 +12,7 @@ use Rattle.ospf_types.proofs.Elements.{no_element, contains_more}
 use Rattle.route_choice.proofs.ChosenAnew.{sorted_without}
 use Rattle.route_table.specs.declared.table.Item.{Item}
 use Rattle.calculation.specs.Calculations.{CalculationValue, IsItemOf, IsNewItemOf}
-use Rattle.event_core.specs.Following.{AreOtherItems, IsOneMore}
+use Rattle.event_core.specs.Following.{AreOtherItems, IsItemAdded}
 
 -- this many first networks are done
 pub record AreOthersTo (c : CalculationValue) (table : FinMap network_cmp Item) (networks : List Prefix) (count : ℕ) (items : List (Prefix × Option Item)) : Type 0 where
@@ -89,9 +89,9 @@ module _ (c : CalculationValue) (table : FinMap network_cmp Item) (networks : Li
         keys_pushed (e ∷ es) = ap (λ (ps : List Prefix). e.0 ∷ ps) (keys_pushed es)
 
     -- one network more
-    pub others_more : IsOneMore c table p before after → AreOthersTo c table networks (i + 1) after
+    pub others_more : IsItemAdded c table p before after → AreOthersTo c table networks (i + 1) after
     others_more step = elim step [ inl same ↦ stays same.0 same.1 | inr new ↦ joins new.0 new.1 new.2 new.3 ]
 
 -- a new item is one more
-pub one_more : (c : CalculationValue) (table : FinMap network_cmp Item) (p : Prefix) (before after : List (Prefix × Option Item)) (new : Prefix × Option Item) → after ≡ before ++ new ∷ [] → IsNewItemOf c table p (Some new) → IsOneMore c table p before after
+pub one_more : (c : CalculationValue) (table : FinMap network_cmp Item) (p : Prefix) (before after : List (Prefix × Option Item)) (new : Prefix × Option Item) → after ≡ before ++ new ∷ [] → IsNewItemOf c table p (Some new) → IsItemAdded c table p before after
 one_more c table p before after new pushed is = inr (new.1, pushed ∙ ap (λ (q : Prefix). before ++ (q, new.1) ∷ []) is.0, is.1, is.2)

@@ -7,7 +7,7 @@ use Rattle.route_table.specs.Tables.{TableValue}
 use Rattle.event_state.specs.Held.{AreFit}
 use Rattle.event_state.specs.declared.base.Base.{Base}
 use Rattle.event_state.specs.Rolls.{since, IsBaseOf}
-use Rattle.event_state.specs.States.{State, AreApart, LooksAlike, serial_of}
+use Rattle.event_state.specs.States.{State, AreAreasApart, LooksAlike, serial_of}
 use Rattle.calculation.specs.Calculations.{IsCalculationOf, IsTableOf}
 use Rattle.calculation.specs.Trees.{StatesDifferAmong}
 use Rattle.calculation.specs.Summaries.{AreSummariesFor}
@@ -44,7 +44,7 @@ forgotten_routes : (s : State) (r : RoutesValue) → AreRoutesOf s r → AreRout
 forgotten_routes s r are = record { calculation = are.calculation; table = are.table; serial = are.serial; summaries = are.summaries }
 
 -- no two areas have one Area ID, since at most their ranges are others
-pub still_apart : (s t : State) (keys : List (Scope × Key)) (ids : List ℕ) (ranged : Bool) → AreFit s.config.areas s.databases → StatesDifferAmong keys ids ranged s t → AreApart t.config.areas
+pub still_apart : (s t : State) (keys : List (Scope × Key)) (ids : List ℕ) (ranged : Bool) → AreFit s.config.areas s.databases → StatesDifferAmong keys ids ranged s t → AreAreasApart t.config.areas
 still_apart s t keys ids ranged fit differ = apart_kept s.config.areas t.config.areas (sym (areas_kept t.config s.config differ.areas)) fit.apart
 
 pub still_routes : (s : State) (old mid : RoutesValue) → mid ≡ forgotten old → AreRoutesOf s old → AreRoutesOf s mid

@@ -6,7 +6,7 @@ use Rattle.event_state.specs.declared.event.Event.TheVariants as event
 use Rattle.event_state.specs.States.{State}
 use Rattle.calculation.specs.Active.{RangesDifferAt}
 use Rattle.calculation.specs.Trees.{StatesDifferAmong}
-use Rattle.event_core.specs.declared.affected.Affected.{Affected}
+use Rattle.event_core.specs.declared.affected.AffectedInputs.{AffectedInputs}
 
 -- the range that the event sets or drops: its Area ID and its prefix
 abbrev pub range_of : Event → Option (ℕ × Prefix)
@@ -19,9 +19,9 @@ range_of (event.Interface id area address peer up) = None
 range_of event.Second = None
 
 -- from the state before to the one after no LSA and no interface differs but those that are named
-abbrev pub IsNamedBetween : Affected → State → State → Type 0
+abbrev pub IsNamedBetween : AffectedInputs → State → State → Type 0
 IsNamedBetween named before after = StatesDifferAmong named.keys.items named.interfaces.items (is_some named.range) before after
 
 -- and no range but the named one
-abbrev pub IsRangeNamedBetween : Affected → State → State → Type 0
+abbrev pub IsRangeNamedBetween : AffectedInputs → State → State → Type 0
 IsRangeNamedBetween named before after = RangesDifferAt named.range before.config.areas after.config.areas

@@ -141,8 +141,8 @@ Runs old [] (r ∷ rs) new = ⊥
 Runs old (e ∷ es) [] new = ⊥
 
 -- the first fault that the configuration has, or Memory where it has none
-abbrev pub IsFaultOf : Config → ConfigFault → Type 0
-IsFaultOf config f = (config_fault_of config ≡ Some f) ⊎ ((f ≡ Memory) × (config_fault_of config ≡ None))
+abbrev pub IsConfigFaultOf : Config → ConfigFault → Type 0
+IsConfigFaultOf config f = (config_fault_of config ≡ Some f) ⊎ ((f ≡ Memory) × (config_fault_of config ≡ None))
 
 -- the first fault that the base has; or Memory, before which only a fault of the configuration is
 -- looked for

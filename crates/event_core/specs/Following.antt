@@ -50,8 +50,8 @@ pub record AreOtherItems (c : CalculationValue) (table : map.FinMap network_cmp 
   pub others : (p : Prefix) → Contains networks p → ((item : Option Item) → Contains items (p, item) → ⊥) → IsItemOf c p (map.get table p)
 
 -- the item that the network is to have is added, if the table has another one
-abbrev pub IsOneMore : CalculationValue → map.FinMap network_cmp Item → Prefix → List (Prefix × Option Item) → List (Prefix × Option Item) → Type 0
-IsOneMore c table p before after =
+abbrev pub IsItemAdded : CalculationValue → map.FinMap network_cmp Item → Prefix → List (Prefix × Option Item) → List (Prefix × Option Item) → Type 0
+IsItemAdded c table p before after =
     ((after ≡ before) × IsItemOf c p (map.get table p))
     ⊎ ((item : Option Item) × (after ≡ before ++ (p, item) ∷ []) × IsItemOf c p item × (map.get table p ≢ item))
 

@@ -14,7 +14,7 @@ use std::alloc::Global;
 
 /// The LSAs, interfaces or address range that an event may change.
 #[derive(Drop)]
-pub(crate) struct Affected {
+pub(crate) struct AffectedInputs {
     /// The LSAs, by their keys.
     pub(crate) keys: Vec<(Scope, Key)>,
     /// The interfaces, by their ids.
@@ -25,7 +25,11 @@ pub(crate) struct Affected {
 
 /// Returns what the event may change. If memory runs out, returns the event's refusal, or 30 Memory
 /// if it has no other.
-pub(crate) fn affected_by(alloc: Global, state: &State, event: &Event) -> Result<Affected, Refusal>
+pub(crate) fn affected_by(
+    alloc: Global,
+    state: &State,
+    event: &Event,
+) -> Result<AffectedInputs, Refusal>
     ensures named { IfOk result (λ named.
         IsNamedBetween named state.now (step state.now event.now)) }
     ensures ranges { IfOk result (λ named.
@@ -39,7 +43,7 @@ pub(crate) fn affected_by(alloc: Global, state: &State, event: &Event) -> Result
     }
 }
 
-fn changed_by(alloc: Global, state: &State, event: &Event) -> Result<Affected, Memory>
+fn changed_by(alloc: Global, state: &State, event: &Event) -> Result<AffectedInputs, Memory>
     ensures named { IfOk result (λ named.
         IsNamedBetween named state.now (step state.now event.now)) }
     ensures ranges { IfOk result (λ named.
@@ -47,13 +51,13 @@ fn changed_by(alloc: Global, state: &State, event: &Event) -> Result<Affected, M
     ensures range { IfOk result (λ named. named.range ≡ range_of event.now) }
 {
     if let Event::Interface { id, .. } = event {
-        return Ok(Affected {
+        return Ok(AffectedInputs {
             keys: Vec::new(alloc),
             interfaces: Vec::from_slice(alloc, &[*id])?,
             range: None,
         });
     }
-    Ok(Affected {
+    Ok(AffectedInputs {
         keys: state.affected_lsas(alloc, event)?,
         interfaces: Vec::new(alloc),
         range: range_of(event),

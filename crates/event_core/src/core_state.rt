@@ -8,7 +8,7 @@ ghost use Rattle.calculation.specs.Calculations.{IsCalculationOf};
 ghost use Rattle.summaries.specs.DueSummaries.{lists_of};
 ghost use Rattle.event_core.specs.Right.{IsDueIn, list_under};
 ghost use Rattle.event_core.specs.Cores.{IsBaseFaultOf, IsCore, IsCurrent, IsOpening};
-ghost use Rattle.event_core.specs.Cores.{IsQuietSecond, DoesNothing, IsFaultOf, IsRollRefusal};
+ghost use Rattle.event_core.specs.Cores.{IsQuietSecond, DoesNothing, IsConfigFaultOf, IsRollRefusal};
 ghost use Rattle.event_core.specs.Cores.{Rolls, Applies, NamesChanges, HasBoundedWork};
 ghost use Rattle.event_core.specs.Cores.{MatchesStatus, Runs, built_state, state_of};
 ghost use Rattle.event_state.specs.Bases.{bare};
@@ -92,7 +92,7 @@ impl Core {
     ///
     /// Returns the first fault of the configuration (40 to 44), or 30 Memory.
     pub fn open(alloc: Global, config: Config, hashing: RandomState) -> Result<Core, ConfigFault>
-        ensures fault { IfErr result (IsFaultOf config) }
+        ensures fault { IfErr result (IsConfigFaultOf config) }
         ensures opens { IfOk result (IsOpening (bare config) standard_limits) }
         ensures kept { IfOk result IsCore }
     {
@@ -107,7 +107,7 @@ impl Core {
         hashing: RandomState,
     ) -> Result<Core, ConfigFault>
         requires { limits.area_lsas ≤ max_routers }
-        ensures fault { IfErr result (IsFaultOf config) }
+        ensures fault { IfErr result (IsConfigFaultOf config) }
         ensures opens { IfOk result (IsOpening (bare config) limits) }
         ensures kept { IfOk result IsCore }
     {

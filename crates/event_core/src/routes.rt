@@ -6,7 +6,7 @@ ghost use Rattle.std.specs.Map.{keys_of};
 ghost use Rattle.ospf_types.specs.Network.{network_cmp};
 ghost use Rattle.vertex_graph.specs.Graphs.{max_routers};
 ghost use Rattle.event_state.specs.Held.{AreFit};
-ghost use Rattle.event_state.specs.States.{AreApart, State as StateValue, LooksAlike, serial_of};
+ghost use Rattle.event_state.specs.States.{AreAreasApart, State as StateValue, LooksAlike, serial_of};
 ghost use Rattle.summaries.specs.DueSummaries.{lists_of};
 ghost use Rattle.calculation.specs.Active.{RangesDifferAt};
 ghost use Rattle.calculation.specs.Calculations.{IsCalculationOf, IsTableOf};
@@ -14,11 +14,11 @@ ghost use Rattle.calculation.specs.Trees.{StatesDifferAmong};
 ghost use Rattle.calculation.specs.Summaries.{AreSummariesFor};
 ghost use Rattle.calculation.specs.Totals.{IsBuildWork};
 ghost use Rattle.calculation.specs.Works.{IsEventWork};
-ghost use Rattle.event_core.specs.Following.{AreRoutesOf, AreOtherItems, IsOneMore, IsStill};
+ghost use Rattle.event_core.specs.Following.{AreRoutesOf, AreOtherItems, IsItemAdded, IsStill};
 ghost use Rattle.event_core.specs.Following.{TellsChanges, no_work};
 ghost use Rattle.event_core.specs.Affected.{IsNamedBetween, IsRangeNamedBetween};
 
-use crate::affected::Affected;
+use crate::affected::AffectedInputs;
 use calculation::Calculation;
 use event_state::State;
 use ospf_types::memory::Memory;
@@ -80,7 +80,7 @@ impl Routes {
         hashing: RandomState,
     ) -> Result<Routes, Memory>
         requires few { state.now.limits.area_lsas ≤ max_routers }
-        requires apart { AreApart state.now.config.areas }
+        requires apart { AreAreasApart state.now.config.areas }
         ensures right { IfOk result (AreRoutesOf state.now) }
         ensures work { IfOk result (λ routes. routes.work ≡ no_work) }
         ensures changes { IfOk result (λ routes. routes.changes ≡ []) }
@@ -109,7 +109,7 @@ impl Routes {
         hashing: RandomState,
     ) -> Result<Touched, Memory>
         requires few { state.now.limits.area_lsas ≤ max_routers }
-        requires apart { AreApart state.now.config.areas }
+        requires apart { AreAreasApart state.now.config.areas }
         ensures right { OnOk result (AreRoutesOf state.now self.new) }
         ensures fit { OnOk result (AreFit state.now.config.areas state.now.databases) }
         ensures built { IfOk result (IsBuildWork state.now) }
@@ -138,7 +138,7 @@ impl Routes {
         hashing: RandomState,
     ) -> Result<(), Memory>
         requires few { state.now.limits.area_lsas ≤ max_routers }
-        requires apart { AreApart state.now.config.areas }
+        requires apart { AreAreasApart state.now.config.areas }
         ensures right { OnOk result (AreRoutesOf state.now self.new) }
         ensures fit { OnOk result (AreFit state.now.config.areas state.now.databases) }
         ensures built { OnOk result (IsBuildWork state.now self.new.work) }
@@ -163,7 +163,7 @@ impl Routes {
         alloc: Global,
         state: &State,
         changed: bool,
-        named: Affected,
+        named: AffectedInputs,
     ) -> Result<(), Memory>
         requires few { state.now.limits.area_lsas ≤ max_routers }
         requires before { (before : StateValue) × AreFit before.config.areas before.databases
@@ -251,7 +251,7 @@ impl Routes {
     // Updates the calculation, the items of the table and the due summaries. The change of the
     // table is the last step that can run out of memory: by then the plan has reserved the memory
     // of the due summaries.
-    fn follow(&mut self, alloc: Global, state: &State, named: Affected) -> Result<(), Memory>
+    fn follow(&mut self, alloc: Global, state: &State, named: AffectedInputs) -> Result<(), Memory>
         requires few { state.now.limits.area_lsas ≤ max_routers }
         requires before { (before : StateValue) × AreRoutesOf before self.old
             × IsNamedBetween named before state.now × IsRangeNamedBetween named before state.now }
@@ -268,7 +268,7 @@ impl Routes {
         ensures changes { OnErr result (self.new.changes ≡ self.old.changes) }
         ensures due_changes { OnErr result (self.new.due_changes ≡ self.old.due_changes) }
     {
-        let Affected {
+        let AffectedInputs {
             keys,
             interfaces,
             range,
@@ -301,7 +301,7 @@ fn from_scratch(
     hashing: RandomState,
 ) -> Result<(Calculation, Table, DueSummaries, Touched), Memory>
     requires few { state.now.limits.area_lsas ≤ max_routers }
-    requires apart { AreApart state.now.config.areas }
+    requires apart { AreAreasApart state.now.config.areas }
     ensures calculation { IfOk result (λ built. IsCalculationOf state.now built.0) }
     ensures items { IfOk result (λ built. IsTableOf built.0 built.1.items) }
     ensures serial { IfOk result (λ built. built.1.serial ≡ serial_of state.now) }
@@ -347,7 +347,7 @@ impl TableUpdate<'_> {
         next: &mut usize,
         items: &mut Vec<NewItem>,
     ) -> Result<(), Memory>
-        ensures { OnOk result (IsOneMore self.entry.calculation.now self.entry.table.now.items
+        ensures { OnOk result (IsItemAdded self.entry.calculation.now self.entry.table.now.items
             network items.old.items items.new.items) }
     {
         let Some(item) = self.calculation.new_item(alloc, self.table, network, next)? else {

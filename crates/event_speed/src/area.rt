@@ -1,6 +1,6 @@
 //! A small area that changes at random, and the LSAs of its routers.
 
-use crate::bytes::{Head, MAX_AGE, link, lsa};
+use crate::bytes::{HeaderFields, MAX_AGE, link, lsa};
 use crate::choices::{below, metric_below, one_in};
 use crate::routers::{BORDER, BOUNDARY, NETWORKS, ROUTERS, member, point, router_id, stub};
 use anyhow::Result;
@@ -170,7 +170,7 @@ impl Area {
         let mut body = Vec::from_slice(alloc, &[flags(place), 0, high, low])?;
         body.extend_from_slice(&links)?;
         let router = router_id(self.number, place);
-        let head = Head {
+        let head = HeaderFields {
             age,
             kind: 1,
             id: router,
@@ -223,7 +223,7 @@ impl Area {
             }
         }
         let designated = self.designated(network);
-        let head = Head {
+        let head = HeaderFields {
             age,
             kind: 2,
             id: member(self.number, network, designated),

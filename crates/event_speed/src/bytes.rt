@@ -9,7 +9,7 @@ pub const MAX_AGE: u16 = 3600;
 
 /// Fields of the header of an LSA.
 #[derive(Clone, Copy)]
-pub struct Head {
+pub struct HeaderFields {
     pub age: u16,
     pub kind: u8,
     pub id: u32,
@@ -23,7 +23,7 @@ pub struct Head {
 /// # Errors
 ///
 /// Returns an error if the LSA has a fault, or if memory runs out.
-pub fn lsa(alloc: Global, head: Head, body: &[u8]) -> Result<Checked> {
+pub fn lsa(alloc: Global, head: HeaderFields, body: &[u8]) -> Result<Checked> {
     let length = u16::try_from(body.len())?.wrapping_add(20);
     let mut bytes = Vec::from_slice(alloc, &header(head, length))?;
     bytes.extend_from_slice(body)?;
@@ -38,7 +38,7 @@ pub fn lsa(alloc: Global, head: Head, body: &[u8]) -> Result<Checked> {
 }
 
 // Returns the bytes of the header, with checksum 0.
-fn header(head: Head, length: u16) -> [u8; 20] {
+fn header(head: HeaderFields, length: u16) -> [u8; 20] {
     let [old, age] = head.age.to_be_bytes();
     let [a, b, c, d] = head.id.to_be_bytes();
     let [e, f, g, h] = head.router.to_be_bytes();

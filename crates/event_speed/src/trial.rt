@@ -2,7 +2,7 @@
 //! that opens its base.
 
 use crate::area::Area;
-use crate::bytes::{Head, external, lsa, summary};
+use crate::bytes::{HeaderFields, external, lsa, summary};
 use crate::choices::{below, one_in};
 use crate::routers::{BORDER, BOUNDARY, NETWORKS, ROUTERS, member, point, router_id, stub};
 use anyhow::Result;
@@ -280,7 +280,7 @@ fn summary_event(
     } else {
         (3, 0x1e00_0000u32.wrapping_add(number << 16), 0xffff_0000)
     };
-    let head = Head {
+    let head = HeaderFields {
         age: 1,
         kind,
         id,
@@ -316,7 +316,7 @@ fn external_event(
         below(random, 5)
     };
     let body = external(0xffff_ff00, one_in(random, 2), metric, forward);
-    let head = Head {
+    let head = HeaderFields {
         age: 1,
         kind: 5,
         id: 0x3000_0000u32.wrapping_add(below(random, 8) << 8),

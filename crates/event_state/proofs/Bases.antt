@@ -22,7 +22,7 @@ use Rattle.ospf_types.specs.Lsa.{Lsa, key_of}
 use Rattle.ospf_types.proofs.Elements.{first_element, later_element, no_element, first_or_later}
 use Rattle.event_state.proofs.Sorted.{value_from}
 use Rattle.lsdb.specs.Databases.{Database}
-use Rattle.lsdb.specs.Contents.{IsSound}
+use Rattle.lsdb.specs.Contents.{IsDatabaseSound}
 use Rattle.event_state.specs.States.{State, place_of, database_of, lsas_of}
 use Rattle.event_state.specs.declared.base.Base.{Base}
 use Rattle.event_state.specs.Bases.{is_scope, keyed, lsas_under, held_in, databases_in, interfaces_in}
@@ -99,7 +99,7 @@ none_under at t (l ∷ ls) is = rw is (none_under at t ls is)
 
 -- ---- what a sound database has under its keys
 
-module _ (d : Database) (sound : IsSound d) where
+module _ (d : Database) (sound : IsDatabaseSound d) where
   -- every entry is under its own key
   own_keys : (es : List (Key × Lsa)) → ((k : Key) (l : Lsa) → Contains es (k, l) → k ≡ key_of l) → map (λ (e : Key × Lsa). (key_of e.1, e.1)) es ≡ es
   own_keys [] own = refl
@@ -181,7 +181,7 @@ module _ (s : State) (q : Key) where
       (ap (find key_cmp q) (all_under scope.As scope.As (lsas_of (database_of s scope.As)) refl))
 
 -- the database of a scope belongs to the LSAs listed
-pub held_again : (s : State) (ids : List ℕ) (at : Scope) (d : Database) → IsSound d → database_of s at ≡ Some d → ((a : ℕ) → at ≡ scope.Area a → Contains ids a) → held_in (lsas_in s ids) at ≡ d
+pub held_again : (s : State) (ids : List ℕ) (at : Scope) (d : Database) → IsDatabaseSound d → database_of s at ≡ Some d → ((a : ℕ) → at ≡ scope.Area a → Contains ids a) → held_in (lsas_in s ids) at ≡ d
 held_again s ids (scope.Area a) d sound is there =
     same_map key_total key_exact (held_in (lsas_in s ids) (scope.Area a)) d (λ q.
     get-from_entries key_total (keyed (lsas_under (lsas_in s ids) (scope.Area a))) q ∙ area_found s q a ids (there a refl)

@@ -8,7 +8,7 @@ use Rattle.ospf_types.specs.declared.config.AreaConfig.{AreaConfig}
 use Rattle.ospf_types.specs.declared.fault.ConfigFault.{ConfigFault}
 use Rattle.ospf_types.specs.declared.fault.ConfigFault.TheVariants as fault
 use Rattle.ospf_types.specs.FirstOf.{first_of}
-use Rattle.event_state.specs.States.{AreApart}
+use Rattle.event_state.specs.States.{AreAreasApart}
 use Rattle.ospf_types.specs.Configs.{config_fault_of, has_alike, has_overlap, has_wrong_areas, is_costly, is_stub_backbone}
 
 -- where no line of the table holds, its first does not
@@ -37,7 +37,7 @@ fails_at p (x ∷ xs) (suc k) d e lt = fails_at p xs k d (left_false (p x) (list
 differs : (x y : ℕ) → (x == y) ≡ false → x ≢ y
 differs x y e same = elim (eqb_tells x y) [ inl t ↦ absurd (cc t.0) | inr t ↦ absurd (t.1 same) ]
 
-apart_from_alike : (areas : List AreaConfig) → has_alike areas ≡ false → AreApart areas
+apart_from_alike : (areas : List AreaConfig) → has_alike areas ≡ false → AreAreasApart areas
 apart_from_alike [] e i j d lt in' = absurd (omega arith)
 apart_from_alike (a ∷ areas) e zero zero d lt in' = absurd (omega arith)
 apart_from_alike (a ∷ areas) e zero (suc j) d lt in' =
@@ -49,7 +49,7 @@ apart_from_alike (a ∷ areas) e (suc i) (suc j) d lt in' =
     apart_from_alike areas h.1 i j d (omega arith) (omega arith)
 
 -- no two areas have one Area ID
-pub sound_apart : (config : Config) → config_fault_of config ≡ None → AreApart config.areas
+pub sound_apart : (config : Config) → config_fault_of config ≡ None → AreAreasApart config.areas
 sound_apart config e =
     let h = left_false (length config.areas == 0) (nat_lt 16 (length config.areas) || has_alike config.areas) (no_wrong_areas config e) in
     apart_from_alike config.areas (left_false (nat_lt 16 (length config.areas)) (has_alike config.areas) h.1).1

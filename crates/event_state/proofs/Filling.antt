@@ -31,7 +31,7 @@ use Rattle.event_state.specs.Bases.{is_scope, keyed, lsas_under, held_in, databa
 use Rattle.event_state.specs.BaseFaults.{has_twice, is_same_id, is_same_place, is_same_address}
 use Rattle.event_state.specs.Changes.{IsChange, lsas_in, limits_in, empty_values, no_database}
 use Rattle.event_state.specs.Held.{AreFilled, AreInterfaces}
-use Rattle.event_state.specs.States.{State, AreApart, place_of}
+use Rattle.event_state.specs.States.{State, AreAreasApart, place_of}
 use Rattle.event_state.specs.Steps.{IsAccepted, has_address, is_out_of_scope, limit_of}
 use Rattle.event_state.proofs.Bases.{same_lists, front_at, last_at, front_long}
 use Rattle.event_state.proofs.Configs.{sound_apart}
@@ -71,7 +71,7 @@ length_in : (xs : List (Scope × Lsa)) (areas : List AreaConfig) → length (dat
 length_in xs areas = front_long (λ (a : AreaConfig). held_in xs (scope.Area a.id)) areas (held_in xs scope.As)
 
 -- where no two areas have one Area ID, each place belongs to a scope
-scope_there : (areas : List AreaConfig) (j : ℕ) → AreApart areas → j < length areas + 1 → (at : Scope) × (place_of areas at ≡ Some j)
+scope_there : (areas : List AreaConfig) (j : ℕ) → AreAreasApart areas → j < length areas + 1 → (at : Scope) × (place_of areas at ≡ Some j)
 scope_there areas j apart lt = elim (cases_lt j (length areas)) [
   | inl inside ↦ (scope.Area (get_or areas j no_area).id, place_at areas j no_area apart inside)
   | inr past ↦ (scope.As, ap Some (let last : length areas ≡ j = omega (arith, lt, past) in last))
@@ -84,7 +84,7 @@ other_scope areas at other k j here there apart =
       | false ↦ λ e. refl
     ] refl
 
-databases_push : (areas : List AreaConfig) (xs : List (Scope × Lsa)) (at : Scope) (l : Lsa) (k : ℕ) → AreApart areas → place_of areas at ≡ Some k → find key_cmp (key_of l) (keyed (lsas_under xs at)) ≡ None
+databases_push : (areas : List AreaConfig) (xs : List (Scope × Lsa)) (at : Scope) (l : Lsa) (k : ℕ) → AreAreasApart areas → place_of areas at ≡ Some k → find key_cmp (key_of l) (keyed (lsas_under xs at)) ≡ None
     → set (databases_in xs areas) k (insert (held_in xs at) (key_of l) l) ≡ databases_in (xs ++ (at, l) ∷ []) areas
 databases_push areas xs at l k apart place none =
     let old = databases_in xs areas in

@@ -25,8 +25,8 @@ use Rattle.lsa_codec.proofs.Ages.{IsLegal-with_age}
 use Rattle.event_state.proofs.Aging.{get-all_aged, all_aged_empty}
 use Rattle.event_state.specs.declared.limits.Limits.{Limits}
 use Rattle.event_state.specs.Changes.{lsas_in, limits_in, empty_values, aged_value}
-use Rattle.event_state.specs.States.{AreApart, place_of}
-use Rattle.event_state.specs.Held.{IsHeld, IsFit, AreFit, AreKept, AreLimited, AreWithin}
+use Rattle.event_state.specs.States.{AreAreasApart, place_of}
+use Rattle.event_state.specs.Held.{IsHeld, IsFit, AreFit, AreKept, AreLimited, AreWithinLimits}
 use Rattle.event_state.specs.Steps.{is_out_of_scope}
 use Rattle.ospf_types.proofs.Maps.{entries-from_entries}
 use Rattle.event_state.proofs.Places.{place_within, places_apart, area_at}
@@ -145,7 +145,7 @@ held_new config limits ds is =
     record {
       kept = subst (AreKept config.areas) (sym lsas) (record { places = places_new config.areas; fit = λ at k e. fit_new config.areas at k e; reached = λ k lt. inr (all_empty config.areas k) });
       limited = subst (AreLimited config.areas limits) (sym most) (limited_new config.areas limits);
-      within = subst (λ (d : List Database). AreWithin d (limits_in ds)) (sym lsas) (λ k. omega (arith, ap len (all_empty config.areas k) ∙ none_empty));
+      within = subst (λ (d : List Database). AreWithinLimits d (limits_in ds)) (sym lsas) (λ k. omega (arith, ap len (all_empty config.areas k) ∙ none_empty));
     }
 
 -- ---- a change to one database
@@ -173,7 +173,7 @@ kept_changed areas ds at k d h place new = record {
       ];
 }
 
-within_changed : (ds : List Database) (most : List ℕ) (k : ℕ) (d : Database) → k < length ds → AreWithin ds most → len d ≤ get_or most k 0 → AreWithin (set ds k d) most
+within_changed : (ds : List Database) (most : List ℕ) (k : ℕ) (d : Database) → k < length ds → AreWithinLimits ds most → len d ≤ get_or most k 0 → AreWithinLimits (set ds k d) most
 within_changed ds most k d lt h small j =
     elim (cases_eq j k) [
       | inl same ↦
@@ -190,7 +190,7 @@ held_change config limits ds new at k change h place keeps small lsas most = rec
   limited = subst (AreLimited config.areas limits) (sym most) h.limited;
   within =
       let changed = within_changed (lsas_in ds) (limits_in ds) k (change (get_or (lsas_in ds) k empty)) (omega (arith, place_within config.areas at k place, h.kept.places)) h.within small in
-      subst (λ (list : List Database). AreWithin list (limits_in new)) (sym lsas) (subst (AreWithin (set (lsas_in ds) k (change (get_or (lsas_in ds) k empty)))) (sym most) changed);
+      subst (λ (list : List Database). AreWithinLimits list (limits_in new)) (sym lsas) (subst (AreWithinLimits (set (lsas_in ds) k (change (get_or (lsas_in ds) k empty)))) (sym most) changed);
 }
 
 -- ---- a second
@@ -219,7 +219,7 @@ kept_later areas ds h = record {
       subst (IsFit at) (sym is) (fit_all_aged at (get_or ds k empty) (h.fit at k e));
 }
 
-within_later : (ds : List DatabaseValue) → AreWithin (lsas_in ds) (limits_in ds) → AreWithin (lsas_in (map aged_value ds)) (limits_in (map aged_value ds))
+within_later : (ds : List DatabaseValue) → AreWithinLimits (lsas_in ds) (limits_in ds) → AreWithinLimits (lsas_in (map aged_value ds)) (limits_in (map aged_value ds))
 within_later ds h k =
     let none : all_aged empty ≡ empty = all_aged_empty in
     let is : get_or (map all_aged (lsas_in ds)) k empty ≡ all_aged (get_or (lsas_in ds) k empty) = ap (get_or (map all_aged (lsas_in ds)) k) (sym none) ∙ mapped_at all_aged (lsas_in ds) k empty in
@@ -236,5 +236,5 @@ held_later config limits ds h = record {
 
 -- ---- areas of different Area IDs
 
-pub fit_apart : (areas : List AreaConfig) (ds : List Database) → AreKept areas ds → AreApart areas → AreFit areas ds
+pub fit_apart : (areas : List AreaConfig) (ds : List Database) → AreKept areas ds → AreAreasApart areas → AreFit areas ds
 fit_apart areas ds h apart = record { apart = apart; places = h.places; fit = h.fit }

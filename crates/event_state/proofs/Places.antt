@@ -10,7 +10,7 @@ use Rattle.std.proofs.lemmas.List.Quantifiers.{position-Some}
 use Rattle.ospf_types.specs.declared.config.AreaConfig.{AreaConfig}
 use Rattle.ospf_types.specs.declared.key.Scope.{Scope}
 use Rattle.ospf_types.specs.declared.key.Scope.TheVariants as scope
-use Rattle.event_state.specs.States.{AreApart, place_of}
+use Rattle.event_state.specs.States.{AreAreasApart, place_of}
 
 not_same : (x y : ℕ) → x ≢ y → (x == y) ≡ false
 not_same x y h = elim (eqb_tells x y) [ inl t ↦ absurd (h t.1) | inr t ↦ t.0 ]
@@ -44,7 +44,7 @@ area_at areas id k e =
     (found.0, same_number _ _ found.1)
 
 -- where no two areas have one Area ID, each has its own place
-pub place_at : (areas : List AreaConfig) (k : ℕ) (d : AreaConfig) → AreApart areas → k < length areas → place_of areas (scope.Area (get_or areas k d).id) ≡ Some k
+pub place_at : (areas : List AreaConfig) (k : ℕ) (d : AreaConfig) → AreAreasApart areas → k < length areas → place_of areas (scope.Area (get_or areas k d).id) ≡ Some k
 place_at areas k d apart lt =
     elim (place_of areas (scope.Area (get_or areas k d).id)) as (λ o. place_of areas (scope.Area (get_or areas k d).id) ≡ o → IsSome o → o ≡ Some k) [
       | None ↦ λ e some. absurd cc

@@ -25,11 +25,11 @@ use Rattle.ospf_types.proofs.Elements.{no_element, first_element, later_element,
 use Rattle.ospf_types.proofs.Orders.{key_total}
 use Rattle.ospf_types.specs.Configs.{config_fault_of}
 use Rattle.lsdb.specs.Databases.{Database}
-use Rattle.lsdb.specs.Contents.{IsSound}
+use Rattle.lsdb.specs.Contents.{IsDatabaseSound}
 use Rattle.event_state.specs.declared.base.Base.{Base}
 use Rattle.event_state.specs.Bases.{is_scope, lsas_under}
 use Rattle.event_state.specs.BaseFaults.{base_fault_of, has_twice, is_same_id, is_same_place, is_same_address}
-use Rattle.event_state.specs.Held.{AreFit, AreKept, AreLimited, AreWithin, AreInterfaces}
+use Rattle.event_state.specs.Held.{AreFit, AreKept, AreLimited, AreWithinLimits, AreInterfaces}
 use Rattle.event_state.specs.Listings.{AreAreaIds, lsas_at, lsas_of_areas, lsas_in}
 use Rattle.event_state.specs.Rolls.{CanBeRolled}
 use Rattle.event_state.specs.States.{State, place_of, database_of, lsas_of}
@@ -115,7 +115,7 @@ and_false true b e = e
 and_false false b e = refl
 
 -- a sound database lists no key twice
-block_once : (at : Scope) (d : Database) → IsSound d → has_twice is_same_place (map (λ (l : Lsa). (at, l)) (values d)) ≡ false
+block_once : (at : Scope) (d : Database) → IsDatabaseSound d → has_twice is_same_place (map (λ (l : Lsa). (at, l)) (values d)) ≡ false
 block_once at d sound =
     let own : (e : Key × Lsa) → Contains (entries d) e → e.0 ≡ key_of e.1 = λ e c. sound.under_own_key e.0 e.1 (value_from d e.0 e.1 key_total c) in
     keys_told at (entries d) own
@@ -251,7 +251,7 @@ module _ (s : State) (ids : List ℕ) (fit : AreFit s.config.areas s.databases) 
   as_number : length (lsas_under (lsas_in s ids) scope.As) ≤ length (lsas_of (database_of s scope.As))
   as_number = omega (arith, under_append (lsas_of_areas s ids) (lsas_at s scope.As) scope.As, past_areas scope.As ids (λ n c. refl), own_block scope.As (lsas_of (database_of s scope.As)))
 
-  module _ (most : List ℕ) (limited : AreLimited s.config.areas s.limits most) (within : AreWithin s.databases most) where
+  module _ (most : List ℕ) (limited : AreLimited s.config.areas s.limits most) (within : AreWithinLimits s.databases most) where
     held_number : (at : Scope) (o : Option ℕ) → place_of s.config.areas at ≡ o → length (lsas_of (option_map (λ k. get_or s.databases k empty) o)) ≤ limit_of s.limits at
     held_number at None e = omega arith
     held_number at (Some k) e = omega (arith, len-entries (get_or s.databases k empty), length-map (entries (get_or s.databases k empty)) (λ (e : Key × Lsa). e.1), within k, limited at k e)
@@ -283,7 +283,7 @@ module _ (s : State) (ids : List ℕ) (fit : AreFit s.config.areas s.databases) 
     }
 
 -- a base that is the state as it is has no fault
-pub can_be_rolled : (s : State) (most : List ℕ) → AreKept s.config.areas s.databases → AreLimited s.config.areas s.limits most → AreWithin s.databases most → AreInterfaces s.config.areas s.interfaces
+pub can_be_rolled : (s : State) (most : List ℕ) → AreKept s.config.areas s.databases → AreLimited s.config.areas s.limits most → AreWithinLimits s.databases most → AreInterfaces s.config.areas s.interfaces
     → config_fault_of s.config ≡ None → CanBeRolled s
 can_be_rolled s most kept limited within interfaces sound b is =
     let ids = is.lsas.0 in

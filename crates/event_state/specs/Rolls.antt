@@ -6,7 +6,7 @@ use Rattle.event_state.specs.declared.base.Base.{Base}
 use Rattle.event_state.specs.declared.event.Event.{Event}
 use Rattle.event_state.specs.declared.limits.Limits.{Limits}
 use Rattle.event_state.specs.BaseFaults.{base_fault_of}
-use Rattle.event_state.specs.States.{AreApart, State, serial_of}
+use Rattle.event_state.specs.States.{AreAreasApart, State, serial_of}
 use Rattle.event_state.specs.Steps.{opening, run_of, IsLegalList}
 use Rattle.event_state.specs.Listings.{AreLsas}
 
@@ -29,7 +29,7 @@ pub record IsRolled (first : Base) (limits : Limits) (rolled : List Event) (b : 
 
 -- if no two areas have one Area ID, the state is that with which the base begins
 abbrev pub BeginsAgain : (old : State) (base : Base) (new : State) → Type 0
-BeginsAgain old base new = AreApart old.config.areas → new ≡ opening base old.limits
+BeginsAgain old base new = AreAreasApart old.config.areas → new ≡ opening base old.limits
 
 -- a base that is the state as it is has no fault
 abbrev pub CanBeRolled : State → Type 0

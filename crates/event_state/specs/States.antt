@@ -42,8 +42,8 @@ abbrev pub TellsInterface : BTreeMap ℕ Interface → ℕ → Interface → (ch
 TellsInterface m id i changed = (changed ≡ false) ↔ (get (interfaces_of m) id ≡ Some i)
 
 -- no two areas have one Area ID
-abbrev pub AreApart : List AreaConfig → Type 0
-AreApart areas = (i j : ℕ) (d : AreaConfig) → i < j → j < length areas → (slice_index_or areas i d).id ≢ (slice_index_or areas j d).id
+abbrev pub AreAreasApart : List AreaConfig → Type 0
+AreAreasApart areas = (i j : ℕ) (d : AreaConfig) → i < j → j < length areas → (slice_index_or areas i d).id ≢ (slice_index_or areas j d).id
 
 -- the place of the scope's database: the AS's comes after those of the areas
 abbrev pub place_of : List AreaConfig → Scope → Option ℕ

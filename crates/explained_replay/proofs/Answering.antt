@@ -5,12 +5,12 @@ use Rattle.event_core.specs.Cores.{CoreValue}
 use Rattle.recording.specs.declared.line.Line.{Line}
 use Rattle.recording.specs.Recordings.{RecordingValue}
 use Rattle.replay.specs.Pages.{IsRunTo}
-use Rattle.replay.specs.Parts.{IsRead}
+use Rattle.replay.specs.Parts.{IsRecordingRead}
 use Rattle.replay.specs.Runs.{IsOpened}
 use Rattle.replay.specs.Writing.{AppendsPart}
 use Rattle.replay.specs.declared.fault.ReplayFault.{ReplayFault}
 use Rattle.explained_replay.specs.declared.question.Explaining.{Explaining}
-use Rattle.explained_replay.specs.Outputs.{Explains, ExplainsPart, IsAnswer, IsAnswered}
+use Rattle.explained_replay.specs.Outputs.{Explains, ExplainsPart, IsCoreAnswer, IsQuestionAnswered}
 
 -- the fault of a writer that took a part only
 pub part_of : (r : Result (Unit {0}) ReplayFault) (e : ReplayFault) (P : Type 0) → OnErr r P → r ≡ Err e → P
@@ -18,8 +18,8 @@ part_of (Ok u) e P part is = cc
 part_of (Err x) e P part is = part
 
 module _ (e : Explaining) (r : RecordingValue) (lines : List Line) (opened closed : CoreValue) (text shown : List ℕ) (is_text : shown ≡ text) (same_base : opened.base ≡ r.base) (same_lines : lines ≡ r.lines)
-    (opening : IsOpened opened.base opened) (run : IsRunTo opened lines closed) (answer : IsAnswer e.question e.format closed text) (before after old new : Option (List ℕ)) (read : IsRead before after r) where
-  answered : IsAnswered e r text
+    (opening : IsOpened opened.base opened) (run : IsRunTo opened lines closed) (answer : IsCoreAnswer e.question e.format closed text) (before after old new : Option (List ℕ)) (read : IsRecordingRead before after r) where
+  answered : IsQuestionAnswered e r text
   answered = record {
     opened = opened;
     opening = subst (λ b. IsOpened b opened) same_base opening;

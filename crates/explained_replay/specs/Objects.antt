@@ -10,7 +10,7 @@ use Rattle.route_table.specs.declared.table.Item.{Item}
 use Rattle.route_table.specs.declared.table.Item.TheVariants as item
 use Rattle.route_table.specs.declared.table.Match.{Match}
 use Rattle.route_table.specs.declared.table.Match.TheVariants as found
-use Rattle.output_lines.specs.Members.{Member, object_of, number_data, address_data, network_data, hex_data}
+use Rattle.output_lines.specs.Members.{JsonMember, object_of, number_data, address_data, network_data, hex_data}
 use Rattle.output_lines.specs.Routes.{route_data, path_data}
 use Rattle.output_lines.specs.Keys.{scope_data}
 use Rattle.explanation.specs.declared.explained.Candidate.{Candidate}
@@ -86,19 +86,19 @@ offer_data (Summary metric) = string (codes "summary")
 offer_data (AsExternal metric e) = string (codes "external")
 
 -- the members that only an external metric has
-abbrev pub external_members : OfferKind → List Member
+abbrev pub external_members : OfferKind → List JsonMember
 external_members (AsExternal metric e) = (codes "external_type", number_data (external_type e)) ∷ (codes "forwarding", address_data e.forwarding) ∷ []
 external_members _ = []
 
 -- the metric; the LSA of a transit network has none
-abbrev pub metric_members : OfferKind → List Member
+abbrev pub metric_members : OfferKind → List JsonMember
 metric_members (Stub metric) = (codes "metric", number_data metric) ∷ []
 metric_members Transit = []
 metric_members (Summary metric) = (codes "metric", number_data metric) ∷ []
 metric_members (AsExternal metric e) = (codes "metric", number_data metric) ∷ []
 
 -- an offer at this cost
-abbrev pub offered_members : Option ℕ → Offer → List Member
+abbrev pub offered_members : Option ℕ → Offer → List JsonMember
 offered_members cost o =
     (codes "cost", cost_data cost)
     ∷ external_members o.kind

@@ -34,17 +34,17 @@ pub record IsDueAnswer (area : ℕ) (d : Dest) (format : Format) (c : CoreValue)
   pub lines : text ≡ due_explanation_text format area d due
 
 -- the answer to the question about a core
-abbrev pub IsAnswer : Question → Format → CoreValue → (text : List ℕ) → Type 0
-IsAnswer (Address address) format c text = IsAddressAnswer address format c text
-IsAnswer (Due area d) format c text = IsDueAnswer area d format c text
+abbrev pub IsCoreAnswer : Question → Format → CoreValue → (text : List ℕ) → Type 0
+IsCoreAnswer (Address address) format c text = IsAddressAnswer address format c text
+IsCoreAnswer (Due area d) format c text = IsDueAnswer area d format c text
 
 -- the recording was run to its end, and this is the answer then
-pub record IsAnswered (e : Explaining) (r : RecordingValue) (text : List ℕ) : Type 0 where
+pub record IsQuestionAnswered (e : Explaining) (r : RecordingValue) (text : List ℕ) : Type 0 where
   pub opened : CoreValue
   pub opening : IsOpened r.base opened
   pub closed : CoreValue
   pub run : IsRunTo opened r.lines closed
-  pub answer : IsAnswer e.question e.format closed text
+  pub answer : IsCoreAnswer e.question e.format closed text
 
 -- all the bytes that a reader had were a recording, and a writer's known bytes grew by the answer
 pub record Explains (e : Explaining) (before after old new : Option (List ℕ)) : Type 0 where
@@ -53,7 +53,7 @@ pub record Explains (e : Explaining) (before after old new : Option (List ℕ)) 
   pub recording : RecordingValue
   pub text : IsText bytes recording
   pub answer : List ℕ
-  pub is : IsAnswered e recording answer
+  pub is : IsQuestionAnswered e recording answer
   pub written : Appends old new answer
 
 -- all bytes of the reader were a recording, and the writer's known bytes grew by a beginning of the
@@ -64,5 +64,5 @@ pub record ExplainsPart (e : Explaining) (before after old new : Option (List �
   pub recording : RecordingValue
   pub text : IsText bytes recording
   pub answer : List ℕ
-  pub is : IsAnswered e recording answer
+  pub is : IsQuestionAnswered e recording answer
   pub written : AppendsPart old new answer

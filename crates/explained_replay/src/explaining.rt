@@ -8,7 +8,7 @@ ghost use Rattle.replay.specs.Advance.{ShowsProgress};
 ghost use Rattle.replay.specs.Inputs.{ReadsAll};
 ghost use Rattle.replay.specs.Writing.{AppendsPart};
 ghost use Rattle.explained_replay.specs.declared.question.Question.TheVariants as question;
-ghost use Rattle.explained_replay.specs.Outputs.{Explains, ExplainsPart, IsAnswer};
+ghost use Rattle.explained_replay.specs.Outputs.{Explains, ExplainsPart, IsCoreAnswer};
 
 use crate::question::{Explaining, Question};
 use crate::{Explained, put_explanation};
@@ -72,7 +72,7 @@ pub fn explain_one<R: io::Read, W: io::Write, F: io::Write>(
 
 // Returns the answer to the question about the core.
 fn answer(alloc: Global, format: Format, question: Question, core: &Core) -> Result<String, Memory>
-    ensures { IfOk result (λ text. IsAnswer question format core.now (string_bytes text)) }
+    ensures { IfOk result (λ text. IsCoreAnswer question format core.now (string_bytes text)) }
 {
     match question {
         Question::Address(address) => answer_address(alloc, format, address, core),
@@ -88,7 +88,7 @@ fn answer_address(
     address: u32,
     core: &Core,
 ) -> Result<String, Memory>
-    ensures { IfOk result (λ text. IsAnswer (question.Address address) format core.now
+    ensures { IfOk result (λ text. IsCoreAnswer (question.Address address) format core.now
         (string_bytes text)) }
 {
     let Some(candidates) = explain(alloc, core, address)? else {
@@ -112,7 +112,7 @@ fn answer_due(
     dest: &Dest,
     core: &Core,
 ) -> Result<String, Memory>
-    ensures { IfOk result (λ text. IsAnswer (question.Due area dest.now) format core.now
+    ensures { IfOk result (λ text. IsCoreAnswer (question.Due area dest.now) format core.now
         (string_bytes text)) }
 {
     let Some(due) = explain_due(alloc, core, area, *dest)? else {

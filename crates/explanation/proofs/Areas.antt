@@ -7,7 +7,7 @@ use Rattle.ospf_types.specs.declared.config.AreaConfig.{AreaConfig}
 use Rattle.ospf_types.specs.declared.key.Scope.TheVariants.{Area}
 use Rattle.area_trees.specs.Areas.{AreaTreeValue}
 use Rattle.intra.specs.Inputs.{AreaValue}
-use Rattle.event_state.specs.States.{AreApart, State, place_of}
+use Rattle.event_state.specs.States.{AreAreasApart, State, place_of}
 use Rattle.event_state.proofs.Places.{place_at}
 use Rattle.route_layers.specs.Trees.{AreTreesOf, areas_with}
 use Rattle.route_layers.proofs.InputsAre.{ready_of}
@@ -36,7 +36,7 @@ as_many s [] (t ∷ trees) are = absurd are
 as_many s (x ∷ areas) [] are = absurd are
 as_many s (x ∷ areas) (t ∷ trees) are = ap suc (as_many s areas trees are.1)
 
-module _ (s : State) (trees : List AreaTreeValue) (are : AreTreesOf s s.config.areas trees) (apart : AreApart s.config.areas) where
+module _ (s : State) (trees : List AreaTreeValue) (are : AreTreesOf s s.config.areas trees) (apart : AreAreasApart s.config.areas) where
   placed : (k : ℕ) (a : AreaValue) → k < length (areas_with s s.config.areas trees) → get_or (areas_with s s.config.areas trees) k a ≡ a → place_of s.config.areas (Area a.id) ≡ Some k
   placed k a lt here =
       let at = at_place s s.config.areas trees are k a lt here in

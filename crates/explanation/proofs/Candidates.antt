@@ -23,13 +23,13 @@ use Rattle.explanation.specs.declared.trace.Trace.{Trace}
 use Rattle.explanation.specs.Judging.{IsJudged, IsRivalsOf}
 use Rattle.explanation.specs.Groups.{AreOfNetwork, offers_for}
 use Rattle.explanation.specs.Networks.{by_networks}
-use Rattle.explanation.specs.Outside.{AreForwarded, AreOutside, AreTracesAs, AreWithin}
-use Rattle.explanation.specs.Explained.{AddsJudged, AddsNetwork, AreCandidates, AreInOrder, AreNetworks, AreTracesFor, IsCandidate, MakesMore, offers_of}
+use Rattle.explanation.specs.Outside.{AreForwarded, AreOutside, AreTracesAs, AreTracesWithin}
+use Rattle.explanation.specs.Explained.{AddsJudged, AddsNetwork, AreCandidates, AreCandidatesInOrder, AreNetworks, AreTracesFor, IsCandidate, MakesMore, offers_of}
 use Rattle.explanation.proofs.OfNetwork.{just_those}
 
 module _ (w : Layers) (o : Offer) (paths : List Path) where
   -- the traces of an offer of an area
-  pub within_as : (area : ℕ) (traces : List Trace) (k : OfferKind) → ((metric : ℕ) (external : ExternalFields) → k ≡ kind.AsExternal metric external → ⊥) → AreWithin w area o paths traces → AreTracesAs w o (Area area) k paths traces
+  pub within_as : (area : ℕ) (traces : List Trace) (k : OfferKind) → ((metric : ℕ) (external : ExternalFields) → k ≡ kind.AsExternal metric external → ⊥) → AreTracesWithin w area o paths traces → AreTracesAs w o (Area area) k paths traces
   within_as area traces (kind.Stub metric) other are = are
   within_as area traces kind.Transit other are = are
   within_as area traces (kind.Summary metric) other are = are
@@ -146,7 +146,7 @@ module _ (w : Layers) (all : List Offer) where
         ];
       }
 
-  pub all_in_order : (networks : List Prefix) (i : ℕ) (candidates : List Candidate) → length networks ≤ i → IsStrictlySortedBy network_cmp networks → IsDone (take i networks) candidates → AreInOrder all candidates
+  pub all_in_order : (networks : List Prefix) (i : ℕ) (candidates : List Candidate) → length networks ≤ i → IsStrictlySortedBy network_cmp networks → IsDone (take i networks) candidates → AreCandidatesInOrder all candidates
   all_in_order networks i candidates past ascend done = record { networks = networks; ascend = ascend; listed = done.listed ∙ ap (by_networks all) (take_all i networks past) }
 
   pub all_done : (networks : List Prefix) (i : ℕ) (candidates : List Candidate) → length networks ≤ i → AreNetworks all networks → IsDone (take i networks) candidates → AreCandidates w all all candidates

@@ -5,12 +5,12 @@ use Rattle.std.proofs.lemmas.List.{get_or-map, length-map, map-append, take_all,
 use Rattle.std.proofs.lemmas.List.Elements.{All-contains, All-push, Contains-append_left, Contains-push}
 use Rattle.ospf_types.proofs.Elements.{contains_at, contains_more, no_element}
 use Rattle.ospf_types.specs.declared.prefix.Prefix.{Prefix}
-use Rattle.explanation.specs.declared.forward.ForwardingMatch.{ForwardingMatch}
+use Rattle.explanation.specs.declared.forward.TracedMatch.{TracedMatch}
 use Rattle.explanation.specs.declared.grouping.Group.{Group}
 use Rattle.explanation.specs.declared.layers.Layers.{Layers}
 use Rattle.explanation.specs.declared.offer.Offer.{Offer}
 use Rattle.explanation.specs.declared.trace.Trace.{Trace}
-use Rattle.explanation.specs.Giving.{Adds}
+use Rattle.explanation.specs.Giving.{AddsTraces}
 use Rattle.explanation.specs.Groups.{AreGroups, network_of, networks_in, offers_for}
 use Rattle.explanation.specs.Networks.{IsTakenAmong, all_offers, all_wanted}
 use Rattle.explanation.specs.Offers.{IsPlaceOf, is_one_of}
@@ -18,18 +18,18 @@ use Rattle.explanation.specs.Outside.{AddsForward, AreAllOf, AreForwards, AreMat
 use Rattle.explanation.proofs.Rivals.{some_same}
 
 -- the value at the network's place
-pub found_at : (networks : List Prefix) (forwards : List ForwardingMatch) → networks_of forwards ≡ networks → (place : ℕ) (p : Prefix) → IsPlaceOf networks p place → (f : ForwardingMatch) → f ≡ get_or forwards place f → Contains forwards f × (f.network ≡ p)
+pub found_at : (networks : List Prefix) (forwards : List TracedMatch) → networks_of forwards ≡ networks → (place : ℕ) (p : Prefix) → IsPlaceOf networks p place → (f : TracedMatch) → f ≡ get_or forwards place f → Contains forwards f × (f.network ≡ p)
 found_at networks forwards listed place p is f here =
-    let size : length forwards ≡ length networks = sym (length-map forwards (λ (x : ForwardingMatch). x.network)) ∙ ap (λ (ps : List Prefix). length ps) listed in
+    let size : length forwards ≡ length networks = sym (length-map forwards (λ (x : TracedMatch). x.network)) ∙ ap (λ (ps : List Prefix). length ps) listed in
     let within : place < length forwards = subst (λ (n : ℕ). place < n) (sym size) is.0 in (
       contains_at forwards place f within here,
-      ap (λ (x : ForwardingMatch). x.network) here ∙ sym (get_or-map (λ (x : ForwardingMatch). x.network) forwards place f f.network within) ∙ ap (λ (ps : List Prefix). get_or ps place f.network) listed ∙ is.1 f.network,
+      ap (λ (x : TracedMatch). x.network) here ∙ sym (get_or-map (λ (x : TracedMatch). x.network) forwards place f f.network within) ∙ ap (λ (ps : List Prefix). get_or ps place f.network) listed ∙ is.1 f.network,
     )
 
 module _ (w : Layers) where
   -- ---- what an offer gives, if it is taken
 
-  pub gives_taken : (by : Offer) → IsTakenAmong w (all_offers w by.network.address) by → (before after : List Trace) → Adds (GivesRoute w by) before after → Adds (GivesTaken w by) before after
+  pub gives_taken : (by : Offer) → IsTakenAmong w (all_offers w by.network.address) by → (before after : List Trace) → AddsTraces (GivesRoute w by) before after → AddsTraces (GivesTaken w by) before after
   gives_taken by taken before after (own, inl (area, e, route, within), is) = (own, inl (area, e, route, taken, within), is)
   gives_taken by taken before after (own, inr (none, nothing), is) = (own, inr (λ area e route it. none area e route, nothing), is)
 
@@ -72,24 +72,24 @@ module _ (w : Layers) where
   pub no_forwards : (groups : List Group) → AreForwards w (networks_in (take 0 groups)) []
   no_forwards groups = record { listed = refl; right = λ j d lt. absurd (no_element d (j, lt, refl)) }
 
-  pub one_forward : (groups : List Group) (i : ℕ) (g : Group) (before after : List ForwardingMatch) → i < length groups → g ≡ get_or groups i g → AddsForward w g.network before after
+  pub one_forward : (groups : List Group) (i : ℕ) (g : Group) (before after : List TracedMatch) → i < length groups → g ≡ get_or groups i g → AddsForward w g.network before after
       → AreForwards w (networks_in (take i groups)) before → AreForwards w (networks_in (take (i + 1) groups)) after
   one_forward groups i g before after lt here (f, of, traces, added) are =
       let cut : take (i + 1) groups ≡ take i groups ++ g ∷ [] = take_more groups i g lt ∙ ap (λ (x : Group). take i groups ++ x ∷ []) (sym here) in
       subst (AreForwards w (networks_in (take (i + 1) groups))) (sym added) (record {
-        listed = map-append (λ (x : ForwardingMatch). x.network) before (f ∷ [])
+        listed = map-append (λ (x : TracedMatch). x.network) before (f ∷ [])
             ∙ ap (λ (ps : List Prefix). ps ++ f.network ∷ []) are.listed
             ∙ ap (λ (p : Prefix). networks_in (take i groups) ++ p ∷ []) of
             ∙ sym (map-append network_of (take i groups) (g ∷ []))
             ∙ ap networks_in (sym cut);
-        right = All-push (λ (x : ForwardingMatch). AreNetworkTraces w x.network x.traces.items) before f are.right (subst (λ (p : Prefix). AreNetworkTraces w p f.traces.items) (sym of) traces);
+        right = All-push (λ (x : TracedMatch). AreNetworkTraces w x.network x.traces.items) before f are.right (subst (λ (p : Prefix). AreNetworkTraces w p f.traces.items) (sym of) traces);
       })
 
-  pub all_forwards : (networks : List Prefix) (groups : List Group) (i : ℕ) (forwards : List ForwardingMatch) → length groups ≤ i → networks_in groups ≡ networks → AreForwards w (networks_in (take i groups)) forwards → AreForwards w networks forwards
+  pub all_forwards : (networks : List Prefix) (groups : List Group) (i : ℕ) (forwards : List TracedMatch) → length groups ≤ i → networks_in groups ≡ networks → AreForwards w (networks_in (take i groups)) forwards → AreForwards w networks forwards
   all_forwards networks groups i forwards past listed are = subst (λ (ps : List Prefix). AreForwards w ps forwards) (ap networks_in (take_all i groups past) ∙ listed) are
 
   -- the traces that are found for the network lead to it
-  pub traces_found : (networks : List Prefix) (forwards : List ForwardingMatch) → AreForwards w networks forwards → (p : Prefix) (traces : List Trace) → HasTraces forwards p traces → AreNetworkTraces w p traces
+  pub traces_found : (networks : List Prefix) (forwards : List TracedMatch) → AreForwards w networks forwards → (p : Prefix) (traces : List Trace) → HasTraces forwards p traces → AreNetworkTraces w p traces
   traces_found networks forwards are p traces has =
-      let right = All-contains (λ (f : ForwardingMatch). AreNetworkTraces w f.network f.traces.items) forwards has.0 are.right has.1 in
+      let right = All-contains (λ (f : TracedMatch). AreNetworkTraces w f.network f.traces.items) forwards has.0 are.right has.1 in
       subst (AreNetworkTraces w p) (sym has.3) (subst (λ (q : Prefix). AreNetworkTraces w q has.0.traces.items) has.2 right)

@@ -11,7 +11,7 @@ use Rattle.ospf_types.specs.Network.{network_cmp}
 use Rattle.ospf_types.specs.RangeChanges.{is_same_prefix}
 use Rattle.explanation.specs.declared.grouping.Group.{Group}
 use Rattle.explanation.specs.declared.offer.Offer.{Offer}
-use Rattle.explanation.specs.Groups.{AreGroups, IsOneMore, network_of, networks_in, offers_for}
+use Rattle.explanation.specs.Groups.{AreGroups, IsOfferAdded, network_of, networks_in, offers_for}
 use Rattle.explanation.specs.Offers.{IsPlaceOf}
 use Rattle.explanation.proofs.OfNetwork.{more_of, prefix_same, same_of, same_prefix}
 use Rattle.explanation.proofs.Searching.{one_place}
@@ -42,7 +42,7 @@ module _ (networks : List Prefix) (ordered : IsStrictlySortedBy network_cmp netw
           none (subst (Contains networks) (sym (network_at j d within) ∙ sym same) (Contains-get_or networks j d.network (omega (arith, within, as_many)))));
     }
 
-    pub one_put : (place : ℕ) → IsPlaceOf networks o.network place → (after : List Group) → IsOneMore place o groups after → AreGroups networks (take (i + 1) offers) after
+    pub one_put : (place : ℕ) → IsPlaceOf networks o.network place → (after : List Group) → IsOfferAdded place o groups after → AreGroups networks (take (i + 1) offers) after
     one_put place at after (new, put, is) =
         let there : place < length groups = omega (arith, at.0, as_many) in
         let of : new.network ≡ o.network = (is new).0 ∙ network_at place new there ∙ at.1 new.network in

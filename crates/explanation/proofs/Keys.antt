@@ -7,9 +7,9 @@ use Rattle.explanation.specs.declared.verdict.Verdict.TheVariants as verdict
 use Rattle.explanation.specs.declared.layers.Layers.{Layers}
 use Rattle.explanation.specs.declared.offer.Offer.{Offer}
 use Rattle.explanation.specs.declared.offered.ExternalKey.{ExternalKey}
-use Rattle.explanation.specs.Offered.{IsBoundaryReached, IsExternalKey, IsFit, IsForwardedKey, LacksKey, LeadsNowhere}
+use Rattle.explanation.specs.Offered.{IsBoundaryReached, IsExternalKey, HasNoFault, IsForwardedKey, LacksKey, LeadsNowhere}
 
-module _ (w : Layers) (o : Offer) (metric : ℕ) (external : ExternalFields) (fit : IsFit w o metric) (reached : IsBoundaryReached w o.source.key.router) where
+module _ (w : Layers) (o : Offer) (metric : ℕ) (external : ExternalFields) (fit : HasNoFault w o metric) (reached : IsBoundaryReached w o.source.key.router) where
   pub reached_key : (r : Result ExternalKey Verdict) → IfOk r (IsForwardedKey w metric external) → IfOk r (IsExternalKey w o metric external)
   reached_key (Ok key) (class, distance, leads, is) = (fit, reached, (class, distance, leads o.source.key.router, is))
   reached_key (Err f) is = tt

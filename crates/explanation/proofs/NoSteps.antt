@@ -6,7 +6,7 @@ use Rattle.std.proofs.lemmas.Bool.{eqb-true}
 use Rattle.std.proofs.lemmas.List.{nil_from_length}
 use Rattle.ospf_types.specs.declared.entry.Vertex.{Vertex}
 use Rattle.ospf_types.specs.declared.hop.NextHop.{NextHop}
-use Rattle.vertex_graph.specs.Link.{Link}
+use Rattle.vertex_graph.specs.GraphLink.{GraphLink}
 use Rattle.area_trees.specs.LeastPaths.{HasHop, IsPathOver}
 use Rattle.intra.specs.Inputs.{AreaValue}
 use Rattle.explanation.specs.Layers.{AreAreas, HasArea}
@@ -21,7 +21,7 @@ some_items v some none =
     absurd cc
 
 -- with no steps the vertex has not the next hop
-no_hop : (a : AreaValue) (v : Vertex) (h : NextHop) (links : List Link) → IsPathOver a.tree.area.graph v h links → AreLinkSteps a links [] → HasHop a.tree.area.graph v h → ⊥
+no_hop : (a : AreaValue) (v : Vertex) (h : NextHop) (links : List GraphLink) → IsPathOver a.tree.area.graph v h links → AreLinkSteps a links [] → HasHop a.tree.area.graph v h → ⊥
 no_hop a v h [] none are = none
 no_hop a v h (l ∷ links) path are = absurd are
 

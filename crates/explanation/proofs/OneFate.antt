@@ -15,7 +15,7 @@ use Rattle.explanation.specs.declared.offer.Offer.{Offer}
 use Rattle.explanation.specs.declared.offer.OfferKind.{OfferKind}
 use Rattle.explanation.specs.declared.offer.OfferKind.TheVariants as kind
 use Rattle.explanation.specs.declared.offered.ExternalKey.{ExternalKey}
-use Rattle.explanation.specs.Judging.{IsCostWithin, IsFateWithin, IsGreatestId, IsJudged, IsJudgedAs, IsJudgedIn, IsJudgedWithin, IsRivalsOf, LacksCostWithin}
+use Rattle.explanation.specs.Judging.{IsInternalCost, IsFateWithin, IsGreatestId, IsJudged, IsJudgedAs, IsJudgedIn, IsJudgedWithin, IsRivalsOf, LacksCostWithin}
 use Rattle.explanation.specs.Layers.{AreAreas, internal_at}
 use Rattle.explanation.specs.Groups.{AreOfNetwork}
 use Rattle.explanation.specs.Networks.{IsTakenAmong}
@@ -90,13 +90,13 @@ module _ (w : Layers) (are : AreAreas w.areas.now) where
     has_summary metric c verdict.Own x lacks = x.1.2 lacks.1.2
     has_summary metric c _ x lacks = lacks.1
 
-    one_within : (k : OfferKind) (c d : ℕ) → IsCostWithin w area o k c → IsCostWithin w area o k d → c ≡ d
+    one_within : (k : OfferKind) (c d : ℕ) → IsInternalCost w area o k c → IsInternalCost w area o k d → c ≡ d
     one_within (kind.Stub metric) c d x y = one_stub metric c d x y
     one_within kind.Transit c d x y = one_cost w are area o c d x y
     one_within (kind.Summary metric) c d x y = one_summary metric c d x y
     one_within (kind.AsExternal metric external) c d x y = absurd x
 
-    has_within : (k : OfferKind) (c : ℕ) (f : Verdict) → IsCostWithin w area o k c → LacksCostWithin w area o k f → ⊥
+    has_within : (k : OfferKind) (c : ℕ) (f : Verdict) → IsInternalCost w area o k c → LacksCostWithin w area o k f → ⊥
     has_within (kind.Stub metric) c f x lacks = has_stub metric c f x lacks
     has_within kind.Transit c f x lacks = has_cost w are area o c f x lacks
     has_within (kind.Summary metric) c f x lacks = has_summary metric c f x lacks
@@ -109,8 +109,8 @@ module _ (w : Layers) (are : AreAreas w.areas.now) where
     never_taken (kind.AsExternal metric external) lacks = absurd cc
 
     module _ (e : Entry) (greatest : Option ℕ) where
-      one_in : (cost : Option ℕ) (judged : Judged) → IsJudgedIn (IsCostWithin w area o o.kind) (LacksCostWithin w area o o.kind) (λ c. c) (IsFateWithin (Some e) greatest o area) (record { cost = cost; verdict = verdict.Taken })
-          → IsJudgedIn (IsCostWithin w area o o.kind) (LacksCostWithin w area o o.kind) (λ c. c) (IsFateWithin (Some e) greatest o area) judged → judged.verdict ≡ verdict.Taken
+      one_in : (cost : Option ℕ) (judged : Judged) → IsJudgedIn (IsInternalCost w area o o.kind) (LacksCostWithin w area o o.kind) (λ c. c) (IsFateWithin (Some e) greatest o area) (record { cost = cost; verdict = verdict.Taken })
+          → IsJudgedIn (IsInternalCost w area o o.kind) (LacksCostWithin w area o o.kind) (λ c. c) (IsFateWithin (Some e) greatest o area) judged → judged.verdict ≡ verdict.Taken
       one_in cost judged (inl taken) (inl is) = alone e greatest o area taken.0 judged.verdict taken.3 (subst (λ (c : ℕ). IsFateWithin (Some e) greatest o area c judged.verdict) (one_within o.kind is.0 taken.0 is.1 taken.1) is.3)
       one_in cost judged (inl taken) (inr is) = absurd (has_within o.kind taken.0 judged.verdict taken.1 is.1)
       one_in cost judged (inr taken) is = absurd (never_taken o.kind taken.1)

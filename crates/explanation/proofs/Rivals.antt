@@ -7,7 +7,7 @@ use Rattle.ospf_types.specs.declared.entry.Entry.{Entry}
 use Rattle.explanation.specs.declared.layers.Layers.{Layers}
 use Rattle.explanation.specs.declared.offer.Offer.{Offer}
 use Rattle.explanation.specs.declared.offered.ExternalKey.{ExternalKey}
-use Rattle.explanation.specs.Judging.{HasKey, HasNoKey, IsGreater, IsGreatestId, IsLeastKey, IsLesser, IsTransitAt, IsWeighedBy, rank}
+use Rattle.explanation.specs.Judging.{HasExternalKey, HasNoKey, IsGreater, IsGreatestId, IsLeastKey, IsLesser, IsTransitAt, IsWeighedBy, rank}
 
 pub some_same : {A : Type 0} (x y : A) → Some x ≡ Some y → x ≡ y
 some_same x y e = ap (λ o. unwrap_or o x) e
@@ -40,15 +40,15 @@ module _ (w : Layers) where
   lighter least found below o (inr none) = inr none
 
   pub more_key : (offers : List Offer) (i : ℕ) (o : Offer) (least : Option ExternalKey) (key found : ExternalKey) → i < length offers → o ≡ get_or offers i o
-      → IsLeastKey w (take i offers) least → HasKey w o.kind o key → IsLesser least key found → IsLeastKey w (take (i + 1) offers) (Some found)
+      → IsLeastKey w (take i offers) least → HasExternalKey w o.kind o key → IsLesser least key found → IsLeastKey w (take (i + 1) offers) (Some found)
   more_key offers i o least key found lt is are has lesser = record {
     no_greater = λ x c. elim ((contains_more offers i o x lt is).0 c) [
       | inl before ↦ lighter least found (below_least least key found lesser) x (are.no_greater x before)
       | inr here ↦ subst (IsWeighedBy w (Some found)) (sym here) (inl (key, found, has, refl, below_key least key found lesser))
     ];
     one = λ k e. let same = some_same found k e in elim (either least key found lesser) [
-      | inl old ↦ let was = are.one found old in (was.0, (contains_more offers i o was.0 lt is).1 (inl was.1), subst (HasKey w was.0.kind was.0) same was.2)
-      | inr new ↦ (o, (contains_more offers i o o lt is).1 (inr refl), subst (HasKey w o.kind o) (sym new ∙ same) has)
+      | inl old ↦ let was = are.one found old in (was.0, (contains_more offers i o was.0 lt is).1 (inl was.1), subst (HasExternalKey w was.0.kind was.0) same was.2)
+      | inr new ↦ (o, (contains_more offers i o o lt is).1 (inr refl), subst (HasExternalKey w o.kind o) (sym new ∙ same) has)
     ];
   }
 

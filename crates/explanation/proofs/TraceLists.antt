@@ -2,10 +2,10 @@
 use Rattle.std.proofs.Common.{◌≡◌, ◌<◌, ◌≤◌, ◌+◌, ℕ, List, [], ◌∷◌, ◌++◌, take, length, get_or, refl, sym, ap, subst, ◌∙◌}
 use Rattle.std.proofs.lemmas.List.{append-nil, append_assoc, take_all, take_more}
 use Rattle.explanation.specs.declared.trace.Trace.{Trace}
-use Rattle.explanation.specs.Giving.{Adds, AreOfEach}
+use Rattle.explanation.specs.Giving.{AddsTraces, AreOfEach}
 
 -- it gives nothing
-pub adds_none : (Gives : List Trace → Type 0) (before : List Trace) → Gives [] → Adds Gives before before
+pub adds_none : (Gives : List Trace → Type 0) (before : List Trace) → Gives [] → AddsTraces Gives before before
 adds_none Gives before none = ([], none, sym (append-nil before))
 
 module _ {A : Type 0} (Gives : A → List Trace → Type 0) where
@@ -17,7 +17,7 @@ module _ {A : Type 0} (Gives : A → List Trace → Type 0) where
   one_more (y ∷ ys) x before own are gives =
       (are.0, are.1 ++ own, are.2, ap (λ (ts : List Trace). ts ++ own) are.3 ∙ append_assoc are.0 are.1 own, one_more ys x are.1 own are.4 gives)
 
-  pub more_each : (xs : List A) (i : ℕ) (x : A) (before after : List Trace) → i < length xs → x ≡ get_or xs i x → AreOfEach Gives (take i xs) before → Adds (Gives x) before after → AreOfEach Gives (take (i + 1) xs) after
+  pub more_each : (xs : List A) (i : ℕ) (x : A) (before after : List Trace) → i < length xs → x ≡ get_or xs i x → AreOfEach Gives (take i xs) before → AddsTraces (Gives x) before after → AreOfEach Gives (take (i + 1) xs) after
   more_each xs i x before after lt here are adds =
       let cut : take i xs ++ x ∷ [] ≡ take (i + 1) xs = sym (take_more xs i x lt ∙ ap (λ (z : A). take i xs ++ z ∷ []) (sym here)) in
       subst (λ (ts : List Trace). AreOfEach Gives (take (i + 1) xs) ts) (sym adds.2)

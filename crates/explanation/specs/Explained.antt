@@ -42,7 +42,7 @@ offers_of candidates = map (λ (c : Candidate). c.offer) candidates
 
 -- The candidates are in the order of their networks: by address, then by length. Those of one
 -- network are in the order of all offers.
-pub record AreInOrder (all : List Offer) (candidates : List Candidate) : Type 0 where
+pub record AreCandidatesInOrder (all : List Offer) (candidates : List Candidate) : Type 0 where
   pub networks : List Prefix
   pub ascend : IsStrictlySortedBy network_cmp networks
   pub listed : offers_of candidates ≡ by_networks all networks
@@ -54,7 +54,7 @@ pub record IsExplained (s : State) (address : ℕ) (candidates : List Candidate)
   pub right : AreLayers s layers.calculation.now layers.areas.now
   pub active : AreActive s layers.active.now
   pub candidates_are : AreCandidates layers (all_offers layers address) (all_offers layers address) candidates
-  pub in_order : AreInOrder (all_offers layers address) candidates
+  pub in_order : AreCandidatesInOrder (all_offers layers address) candidates
 
 -- the verdict on this offer among these rivals is added
 abbrev pub AddsJudged : Layers → Option Entry → Option ℕ → Option ExternalKey → Offer → List Candidate → List Candidate → Type 0

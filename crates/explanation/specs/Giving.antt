@@ -8,9 +8,9 @@ AreOfEach Gives [] traces = traces ≡ []
 AreOfEach Gives (x ∷ xs) traces = (own rest : List Trace) × Gives x own × (traces ≡ own ++ rest) × AreOfEach Gives xs rest
 
 -- one trace of this kind; none just where there is no such path
-abbrev pub GivesOne : (Trace → Type 0) → Type 0 → List Trace → Type 0
-GivesOne IsTrace Leads traces = ((t : Trace) × IsTrace t × (traces ≡ t ∷ [])) ⊎ ((Leads → ⊥) × (traces ≡ []))
+abbrev pub GivesOneTrace : (Trace → Type 0) → Type 0 → List Trace → Type 0
+GivesOneTrace IsTrace Leads traces = ((t : Trace) × IsTrace t × (traces ≡ t ∷ [])) ⊎ ((Leads → ⊥) × (traces ≡ []))
 
 -- the traces that are given are added
-abbrev pub Adds : (List Trace → Type 0) → List Trace → List Trace → Type 0
-Adds Gives before after = (own : List Trace) × Gives own × (after ≡ before ++ own)
+abbrev pub AddsTraces : (List Trace → Type 0) → List Trace → List Trace → Type 0
+AddsTraces Gives before after = (own : List Trace) × Gives own × (after ≡ before ++ own)

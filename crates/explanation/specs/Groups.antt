@@ -29,6 +29,6 @@ abbrev pub AreEmpty : List Prefix → List Group → Type 0
 AreEmpty networks groups = AreGroups networks [] groups
 
 -- the group at the place has one offer more
-abbrev pub IsOneMore : ℕ → Offer → List Group → List Group → Type 0
-IsOneMore place o before after = (g : Group) × (after ≡ slice_set before place g)
+abbrev pub IsOfferAdded : ℕ → Offer → List Group → List Group → Type 0
+IsOfferAdded place o before after = (g : Group) × (after ≡ slice_set before place g)
     × ((d : Group) → (g.network ≡ (get_or before place d).network) × (g.offers.items ≡ (get_or before place d).offers.items ++ o ∷ []))

@@ -51,9 +51,9 @@ IsGreater None id found = found ≡ id
 IsGreater (Some greatest) id found = (greatest ≤ found) × (id ≤ found) × ((found ≡ greatest) ⊎ (found ≡ id))
 
 -- it is the key of an AS-external-LSA
-abbrev pub HasKey : Layers → OfferKind → Offer → ExternalKey → Type 0
-HasKey w (kind.AsExternal metric external) o key = IsExternalKey w o metric external key
-HasKey w _ o key = ⊥
+abbrev pub HasExternalKey : Layers → OfferKind → Offer → ExternalKey → Type 0
+HasExternalKey w (kind.AsExternal metric external) o key = IsExternalKey w o metric external key
+HasExternalKey w _ o key = ⊥
 
 -- it is no AS-external-LSA, or has no key for some reason
 abbrev pub HasNoKey : Layers → OfferKind → Offer → Type 0
@@ -62,12 +62,12 @@ HasNoKey w _ o = Unit {0}
 
 -- the offer has a key, and this is no greater; or it has none
 abbrev pub IsWeighedBy : Layers → Option ExternalKey → Offer → Type 0
-IsWeighedBy w least o = ((key other : ExternalKey) × HasKey w o.kind o key × (least ≡ Some other) × (rank other ≤ rank key)) ⊎ HasNoKey w o.kind o
+IsWeighedBy w least o = ((key other : ExternalKey) × HasExternalKey w o.kind o key × (least ≡ Some other) × (rank other ≤ rank key)) ⊎ HasNoKey w o.kind o
 
 -- the least key of the AS-external-LSAs among these offers
 pub record IsLeastKey (w : Layers) (offers : List Offer) (least : Option ExternalKey) : Type 0 where
   pub no_greater : (o : Offer) → Contains offers o → IsWeighedBy w least o
-  pub one : (key : ExternalKey) → least ≡ Some key → (o : Offer) × Contains offers o × HasKey w o.kind o key
+  pub one : (key : ExternalKey) → least ≡ Some key → (o : Offer) × Contains offers o × HasExternalKey w o.kind o key
 
 -- a transit network in the area of the route, and at its cost
 abbrev pub IsTransitAt : Layers → Entry → Offer → Type 0
@@ -121,11 +121,11 @@ abbrev pub IsJudgedIn : {X : Type 0} → (X → Type 0) → (Verdict → Type 0)
 IsJudgedIn {X} Has Lacks cost_of IsFate judged = ((x : X) × Has x × (judged.cost ≡ Some (cost_of x)) × IsFate x judged.verdict) ⊎ ((judged.cost ≡ None) × Lacks judged.verdict)
 
 -- the cost of an offer within the AS, or why it has none
-abbrev pub IsCostWithin : Layers → ℕ → Offer → OfferKind → ℕ → Type 0
-IsCostWithin w area o (kind.Stub metric) cost = IsStubCost w area o metric cost
-IsCostWithin w area o kind.Transit cost = IsTransitCost w area o cost
-IsCostWithin w area o (kind.Summary metric) cost = IsSummaryCost w area o metric cost
-IsCostWithin w area o (kind.AsExternal metric external) cost = ⊥
+abbrev pub IsInternalCost : Layers → ℕ → Offer → OfferKind → ℕ → Type 0
+IsInternalCost w area o (kind.Stub metric) cost = IsStubCost w area o metric cost
+IsInternalCost w area o kind.Transit cost = IsTransitCost w area o cost
+IsInternalCost w area o (kind.Summary metric) cost = IsSummaryCost w area o metric cost
+IsInternalCost w area o (kind.AsExternal metric external) cost = ⊥
 
 abbrev pub LacksCostWithin : Layers → ℕ → Offer → OfferKind → Verdict → Type 0
 LacksCostWithin w area o (kind.Stub metric) f = LacksStubCost w area o f
@@ -135,7 +135,7 @@ LacksCostWithin w area o (kind.AsExternal metric external) f = f ≡ verdict.Not
 
 -- an offer within the AS, by the scope of its LSA
 abbrev pub IsJudgedWithin : Layers → Option Entry → Option ℕ → Offer → Scope → Judged → Type 0
-IsJudgedWithin w internal greatest o (Area area) judged = IsJudgedIn (IsCostWithin w area o o.kind) (LacksCostWithin w area o o.kind) (λ c. c) (IsFateWithin internal greatest o area) judged
+IsJudgedWithin w internal greatest o (Area area) judged = IsJudgedIn (IsInternalCost w area o o.kind) (LacksCostWithin w area o o.kind) (λ c. c) (IsFateWithin internal greatest o area) judged
 IsJudgedWithin w internal greatest o As judged = (judged.cost ≡ None) × (judged.verdict ≡ verdict.NotExamined)
 
 abbrev pub IsJudgedAs : Layers → Option Entry → Option ℕ → Option ExternalKey → Offer → OfferKind → Judged → Type 0

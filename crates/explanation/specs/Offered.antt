@@ -79,22 +79,22 @@ IsUnfit w o metric verdict.Own = (metric < LSInfinity) × (o.age < MaxAge) × (o
 IsUnfit w o metric _ = ⊥
 
 -- none of that
-abbrev pub IsFit : Layers → Offer → ℕ → Type 0
-IsFit w o metric = (o.age < MaxAge) × (metric < LSInfinity) × (o.source.key.router ≢ root_of w)
+abbrev pub HasNoFault : Layers → Offer → ℕ → Type 0
+HasNoFault w o metric = (o.age < MaxAge) × (metric < LSInfinity) × (o.source.key.router ≢ root_of w)
 
 -- the cost of a summary: the distance of its border router and the metric
 abbrev pub IsSummaryCost : Layers → ℕ → Offer → ℕ → ℕ → Type 0
 IsSummaryCost w area o metric cost =
-    (is_examined w.active.now area ≡ true) × IsFit w o metric × (IsActiveIn w.calculation.now.active o.network → ⊥)
+    (is_examined w.active.now area ≡ true) × HasNoFault w o metric × (IsActiveIn w.calculation.now.active o.network → ⊥)
     × ((r : ReachedValue) × IsBorderReached w area o.source.key.router r × (cost ≡ r.distance + metric))
 
 -- the reason why a summary has no cost: the first step that rejects it, in the order of 16.2
 abbrev pub LacksSummaryCost : Layers → ℕ → Offer → ℕ → Verdict → Type 0
 LacksSummaryCost w area o metric verdict.NotExamined = is_examined w.active.now area ≡ false
 LacksSummaryCost w area o metric verdict.ActiveRange =
-    (is_examined w.active.now area ≡ true) × IsFit w o metric × IsActiveIn w.calculation.now.active o.network
+    (is_examined w.active.now area ≡ true) × HasNoFault w o metric × IsActiveIn w.calculation.now.active o.network
 LacksSummaryCost w area o metric verdict.NoBorderRouter =
-    (is_examined w.active.now area ≡ true) × IsFit w o metric × (IsActiveIn w.calculation.now.active o.network → ⊥)
+    (is_examined w.active.now area ≡ true) × HasNoFault w o metric × (IsActiveIn w.calculation.now.active o.network → ⊥)
     × ((r : ReachedValue) → IsBorderReached w area o.source.key.router r → ⊥)
 LacksSummaryCost w area o metric f = (is_examined w.active.now area ≡ true) × IsUnfit w o metric f
 
@@ -118,7 +118,7 @@ IsBoundaryReached w router = (p : PreferredValue) × (get w.calculation.now.exte
 
 -- the key by which an AS-external-LSA is compared
 abbrev pub IsExternalKey : Layers → Offer → ℕ → ExternalFields → ExternalKey → Type 0
-IsExternalKey w o metric external key = IsFit w o metric × IsBoundaryReached w o.source.key.router
+IsExternalKey w o metric external key = HasNoFault w o metric × IsBoundaryReached w o.source.key.router
     × ((class : PathClass) × (distance : ℕ) × LeadsAt w o.source.key.router external.forwarding (class_number class) distance × (key ≡ key_by external.is_type_2 metric class distance))
 
 -- its key if it has a forwarding address, whatever the AS boundary router
@@ -132,6 +132,6 @@ LeadsNowhere w address = (0 < address) × ((f : ForwardValue) (way : WayValue) �
 
 -- the reason why it is not compared: the first step that rejects it, in the order of 16.4
 abbrev pub LacksKey : Layers → Offer → ℕ → ExternalFields → Verdict → Type 0
-LacksKey w o metric external verdict.NoBoundaryRouter = IsFit w o metric × (get w.calculation.now.external.preferred o.source.key.router ≡ None)
-LacksKey w o metric external verdict.NoForward = IsFit w o metric × IsBoundaryReached w o.source.key.router × LeadsNowhere w external.forwarding
+LacksKey w o metric external verdict.NoBoundaryRouter = HasNoFault w o metric × (get w.calculation.now.external.preferred o.source.key.router ≡ None)
+LacksKey w o metric external verdict.NoForward = HasNoFault w o metric × IsBoundaryReached w o.source.key.router × LeadsNowhere w external.forwarding
 LacksKey w o metric external f = IsUnfit w o metric f

@@ -25,7 +25,7 @@ use Rattle.explanation.specs.Groups.{offers_for}
 use Rattle.explanation.specs.Networks.{IsTakenAmong, all_offers, all_wanted}
 use Rattle.explanation.specs.Offered.{root_of}
 use Rattle.explanation.specs.Offers.{is_one_of, source_of}
-use Rattle.explanation.specs.declared.forward.ForwardingMatch.{ForwardingMatch}
+use Rattle.explanation.specs.declared.forward.TracedMatch.{TracedMatch}
 use Rattle.explanation.specs.declared.grouping.Group.{Group}
 use Rattle.explanation.specs.declared.layers.Layers.{Layers}
 use Rattle.explanation.specs.declared.offer.Offer.{Offer}
@@ -34,7 +34,7 @@ use Rattle.explanation.specs.declared.offer.OfferKind.TheVariants as kind
 use Rattle.explanation.specs.declared.trace.TraceNode.TheVariants as place
 use Rattle.explanation.specs.declared.trace.Step.{Step}
 use Rattle.explanation.specs.declared.trace.Trace.{Trace}
-use Rattle.explanation.specs.Giving.{AreOfEach, GivesOne}
+use Rattle.explanation.specs.Giving.{AreOfEach, GivesOneTrace}
 use Rattle.explanation.specs.Traces.{AreOwnTraces, AreSteps, AreTracesBy, last_from, last_of}
 
 -- ---- of an offer of an area (16.1, 16.2)
@@ -46,8 +46,8 @@ IsOwnStub w o = ((metric : ℕ) × (o.kind ≡ kind.Stub metric)) × (o.source.k
 -- The traces of the paths that the offer gives in the area, in their order. The root's own stub
 -- network gives those over an interface on it. Any other offer gives those by which the area's tree
 -- leads to its router or transit network. Those of a summary name its border router.
-abbrev pub AreWithin : Layers → ℕ → Offer → List Path → List Trace → Type 0
-AreWithin w area o paths traces = (IsOwnStub w o × AreOwnTraces w area o paths traces) ⊎ ((IsOwnStub w o → ⊥) × AreTracesBy w.areas.now area o paths traces)
+abbrev pub AreTracesWithin : Layers → ℕ → Offer → List Path → List Trace → Type 0
+AreTracesWithin w area o paths traces = (IsOwnStub w o × AreOwnTraces w area o paths traces) ⊎ ((IsOwnStub w o → ⊥) × AreTracesBy w.areas.now area o paths traces)
 
 -- ---- of an AS-external-LSA without a forwarding address (16.4 (3))
 
@@ -72,7 +72,7 @@ abbrev pub IsToldOver : Layers → ℕ → Offer → Path → Type 0
 IsToldOver w area o within = (border : ℕ) × (told : Step) × (within.advertiser ≡ Some border) × IsToldStep w area border o.source.key.router told
 
 -- the trace of such a path: that to the border router, and on from there
-pub record IsTold (w : Layers) (area : ℕ) (o : Offer) (within : Path) (t : Trace) : Type 0 where
+pub record IsTracedOutside (w : Layers) (area : ℕ) (o : Offer) (within : Path) (t : Trace) : Type 0 where
   pub border : ℕ
   pub steps : List Step
   pub told : Step
@@ -84,15 +84,15 @@ pub record IsTold (w : Layers) (area : ℕ) (o : Offer) (within : Path) (t : Tra
 
 -- one where the route has the path on from there
 abbrev pub GivesTold : Layers → ℕ → Offer → List Path → Path → List Trace → Type 0
-GivesTold w area o paths within traces = GivesOne (λ (t : Trace). IsTold w area o within t × Contains paths t.path) (IsToldOver w area o within × Contains paths (external_path o within.hop)) traces
+GivesTold w area o paths within traces = GivesOneTrace (λ (t : Trace). IsTracedOutside w area o within t × Contains paths t.path) (IsToldOver w area o within × Contains paths (external_path o within.hop)) traces
 
 -- the inter-area entry of the AS boundary router, and the area that it leads through
 abbrev pub IsInterEntry : Layers → Offer → Entry → ℕ → Type 0
 IsInterEntry w o e area = (get w.calculation.now.inter.entries (dest.Router o.source.key.router) ≡ Some e) × (e.area ≡ Some area)
 
 -- for each path of the inter-area entry of the AS boundary router what it gives, in their order
-abbrev pub AreTold : Layers → Offer → List Path → List Trace → Type 0
-AreTold w o paths traces =
+abbrev pub AreTracedOutside : Layers → Offer → List Path → List Trace → Type 0
+AreTracedOutside w o paths traces =
     ((e : Entry) × (area : ℕ) × IsInterEntry w o e area × AreOfEach (GivesTold w area o paths) e.paths traces)
     ⊎ (((e : Entry) (area : ℕ) → IsInterEntry w o e area → ⊥) × (traces ≡ []))
 
@@ -113,13 +113,13 @@ IsInRoute w by area e = (by.source.scope ≡ Area area) × (internal_at w.calcul
 -- the traces that the offer gives to its network's route within the AS, if it has one
 abbrev pub GivesRoute : Layers → Offer → List Trace → Type 0
 GivesRoute w by traces =
-    ((area : ℕ) × (e : Entry) × IsInRoute w by area e × AreWithin w area by e.paths traces)
+    ((area : ℕ) × (e : Entry) × IsInRoute w by area e × AreTracesWithin w area by e.paths traces)
     ⊎ (((area : ℕ) (e : Entry) → IsInRoute w by area e → ⊥) × (traces ≡ []))
 
 -- that, if the offer is taken
 abbrev pub GivesTaken : Layers → Offer → List Trace → Type 0
 GivesTaken w by traces =
-    ((area : ℕ) × (e : Entry) × IsInRoute w by area e × IsTakenAmong w (all_offers w by.network.address) by × AreWithin w area by e.paths traces)
+    ((area : ℕ) × (e : Entry) × IsInRoute w by area e × IsTakenAmong w (all_offers w by.network.address) by × AreTracesWithin w area by e.paths traces)
     ⊎ (((area : ℕ) (e : Entry) → IsInRoute w by area e → IsTakenAmong w (all_offers w by.network.address) by → ⊥) × (traces ≡ []))
 
 -- The traces to the network. Each offer of it that is taken has one for each of the paths that it
@@ -133,7 +133,7 @@ IsOnward address o paths p inner t = (t.path ≡ external_path o (toward address
     × (t.steps.items ≡ inner.steps.items ++ last_from (place.Network p) o ∷ [])
 
 abbrev pub GivesOnward : ℕ → Offer → List Path → Prefix → Trace → List Trace → Type 0
-GivesOnward address o paths p inner traces = GivesOne (IsOnward address o paths p inner) (Contains paths (external_path o (toward address inner.path.hop))) traces
+GivesOnward address o paths p inner traces = GivesOneTrace (IsOnward address o paths p inner) (Contains paths (external_path o (toward address inner.path.hop))) traces
 
 -- for each trace to the longest match of the address one that goes on from it, in their order
 abbrev pub AreForwarded : Layers → ℕ → Offer → List Path → List Trace → Type 0
@@ -148,13 +148,13 @@ AreForwarded w address o paths traces =
 abbrev pub AreOutside : Layers → ℕ → Offer → List Path → List Trace → Type 0
 AreOutside w address o paths traces =
     ((address ≡ 0) × ((area : ℕ) × IsBoundaryIn w o.source.key.router area × AreTracesBy w.areas.now area o paths traces))
-    ⊎ ((address ≡ 0) × (((area : ℕ) → IsBoundaryIn w o.source.key.router area → ⊥) × AreTold w o paths traces))
+    ⊎ ((address ≡ 0) × (((area : ℕ) → IsBoundaryIn w o.source.key.router area → ⊥) × AreTracedOutside w o paths traces))
     ⊎ ((0 < address) × AreForwarded w address o paths traces)
 
 -- by how it is offered, and by the scope of its LSA
 abbrev pub AreTracesAs : Layers → Offer → Scope → OfferKind → List Path → List Trace → Type 0
 AreTracesAs w o scope (kind.AsExternal metric external) paths traces = AreOutside w external.forwarding o paths traces
-AreTracesAs w o (Area area) _ paths traces = AreWithin w area o paths traces
+AreTracesAs w o (Area area) _ paths traces = AreTracesWithin w area o paths traces
 AreTracesAs w o As _ paths traces = traces ≡ []
 
 -- the traces of the offer, one for each of the paths that it gives
@@ -182,18 +182,18 @@ AreMatched w networks offers = (o : Offer) → Contains offers o → IsMatched w
 abbrev pub AreAllOf : Layers → Group → Type 0
 AreAllOf w g = (networks : List Prefix) × Contains networks g.network × (g.offers.items ≡ offers_for g.network (all_wanted (is_one_of networks) w))
 
-abbrev pub networks_of : List ForwardingMatch → List Prefix
-networks_of forwards = map (λ (f : ForwardingMatch). f.network) forwards
+abbrev pub networks_of : List TracedMatch → List Prefix
+networks_of forwards = map (λ (f : TracedMatch). f.network) forwards
 
 -- for each of these networks the traces to it
-pub record AreForwards (w : Layers) (networks : List Prefix) (forwards : List ForwardingMatch) : Type 0 where
+pub record AreForwards (w : Layers) (networks : List Prefix) (forwards : List TracedMatch) : Type 0 where
   pub listed : networks_of forwards ≡ networks
-  pub right : All (λ (f : ForwardingMatch). AreNetworkTraces w f.network f.traces.items) forwards
+  pub right : All (λ (f : TracedMatch). AreNetworkTraces w f.network f.traces.items) forwards
 
 -- the network and the traces to it are added
-abbrev pub AddsForward : Layers → Prefix → List ForwardingMatch → List ForwardingMatch → Type 0
-AddsForward w p before after = (f : ForwardingMatch) × (f.network ≡ p) × AreNetworkTraces w p f.traces.items × (after ≡ before ++ f ∷ [])
+abbrev pub AddsForward : Layers → Prefix → List TracedMatch → List TracedMatch → Type 0
+AddsForward w p before after = (f : TracedMatch) × (f.network ≡ p) × AreNetworkTraces w p f.traces.items × (after ≡ before ++ f ∷ [])
 
 -- these are the traces to the network
-abbrev pub HasTraces : List ForwardingMatch → Prefix → List Trace → Type 0
-HasTraces forwards p traces = (f : ForwardingMatch) × Contains forwards f × (f.network ≡ p) × (traces ≡ f.traces.items)
+abbrev pub HasTraces : List TracedMatch → Prefix → List Trace → Type 0
+HasTraces forwards p traces = (f : TracedMatch) × Contains forwards f × (f.network ≡ p) × (traces ≡ f.traces.items)

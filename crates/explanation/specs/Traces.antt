@@ -7,7 +7,7 @@ use Rattle.ospf_types.specs.declared.hop.Path.{Path}
 use Rattle.ospf_types.specs.declared.key.Scope.TheVariants.{Area}
 use Rattle.ospf_types.specs.Lsa.{Lsa, MaxAge}
 use Rattle.vertex_graph.specs.Graphs.{LinksOf}
-use Rattle.vertex_graph.specs.Link.{Link}
+use Rattle.vertex_graph.specs.GraphLink.{GraphLink}
 use Rattle.area_trees.specs.Areas.{IsStandingKey}
 use Rattle.area_trees.specs.LeastPaths.{HasHop, IsPathOver}
 use Rattle.intra.specs.Inputs.{AreaValue}
@@ -26,7 +26,7 @@ use Rattle.explanation.specs.declared.trace.TraceNode.{TraceNode}
 use Rattle.explanation.specs.declared.trace.TraceNode.TheVariants as place
 use Rattle.explanation.specs.declared.trace.Step.{Step}
 use Rattle.explanation.specs.declared.trace.Trace.{Trace}
-use Rattle.explanation.specs.Giving.{AreOfEach, GivesOne}
+use Rattle.explanation.specs.Giving.{AreOfEach, GivesOneTrace}
 use Rattle.explanation.specs.Offers.{source_of}
 use Rattle.explanation.specs.Layers.{HasArea, LacksArea}
 
@@ -35,30 +35,30 @@ abbrev pub IsSourceAt : AreaValue → Vertex → LsaInstance → Type 0
 IsSourceAt a v source = (key : Key) × (l : Lsa) × IsStandingKey a.lsas v key × (get a.lsas key ≡ Some l) × (l.header.age < MaxAge) × (source ≡ source_of (Area a.id) l)
 
 -- the step is this link of the area's graph, and says so by the LSA of the link's tail
-pub record IsLinkStep (a : AreaValue) (l : Link) (step : Step) : Type 0 where
+pub record IsLinkStep (a : AreaValue) (l : GraphLink) (step : Step) : Type 0 where
   pub from : step.from ≡ place.Vertex l.from
   pub to : step.to ≡ place.Vertex l.to
   pub cost : step.cost ≡ l.cost
   pub says : IsSourceAt a l.from step.source
 
-abbrev pub AreLinkSteps : AreaValue → List Link → List Step → Type 0
+abbrev pub AreLinkSteps : AreaValue → List GraphLink → List Step → Type 0
 AreLinkSteps a [] [] = Unit {0}
 AreLinkSteps a [] (step ∷ steps) = ⊥
 AreLinkSteps a (l ∷ links) [] = ⊥
 AreLinkSteps a (l ∷ links) (step ∷ steps) = IsLinkStep a l step × AreLinkSteps a links steps
 
 -- a step for the link is added
-abbrev pub IsOneMore : AreaValue → Link → List Step → List Step → Type 0
-IsOneMore a l before after = (step : Step) × IsLinkStep a l step × (after ≡ before ++ step ∷ [])
+abbrev pub IsStepAdded : AreaValue → GraphLink → List Step → List Step → Type 0
+IsStepAdded a l before after = (step : Step) × IsLinkStep a l step × (after ≡ before ++ step ∷ [])
 
 -- each is a link of the area's graph
-abbrev pub AreLinksIn : AreaValue → List (Bor Link) → Type 0
-AreLinksIn a links = (l : Bor Link) → Contains links l → LinksOf a.tree.area.graph l.now.from l.now.to l.now.cost l.now.label
+abbrev pub AreLinksIn : AreaValue → List (Bor GraphLink) → Type 0
+AreLinksIn a links = (l : Bor GraphLink) → Contains links l → LinksOf a.tree.area.graph l.now.from l.now.to l.now.cost l.now.label
 
 -- the steps of a path of least cost to the vertex by this next hop, or no steps exactly if it has
 -- not this next hop
 abbrev pub AreStepsIn : AreaValue → Vertex → NextHop → List Step → Type 0
-AreStepsIn a v h steps = (links : List Link) × IsPathOver a.tree.area.graph v h links × AreLinkSteps a links steps
+AreStepsIn a v h steps = (links : List GraphLink) × IsPathOver a.tree.area.graph v h links × AreLinkSteps a links steps
 
 -- in the area with this Area ID; empty if there is no such area
 abbrev pub AreSteps : List AreaValue → ℕ → Vertex → NextHop → List Step → Type 0
@@ -75,12 +75,12 @@ pub record IsTraceTo (areas : List AreaValue) (id : ℕ) (v : Vertex) (advertise
 
 -- The path leads to the vertex in that area: it names the advertiser, and its next hop is one of
 -- the vertex.
-abbrev pub LeadsTo : List AreaValue → ℕ → Vertex → Option ℕ → Path → Type 0
-LeadsTo areas id v advertiser path = (path.advertiser ≡ advertiser) × ((a : AreaValue) × HasArea areas id a × HasHop a.tree.area.graph v path.hop)
+abbrev pub PathLeadsTo : List AreaValue → ℕ → Vertex → Option ℕ → Path → Type 0
+PathLeadsTo areas id v advertiser path = (path.advertiser ≡ advertiser) × ((a : AreaValue) × HasArea areas id a × HasHop a.tree.area.graph v path.hop)
 
 -- a trace to the vertex, for the path
 abbrev pub GivesTo : List AreaValue → ℕ → Vertex → Option ℕ → List Step → Path → List Trace → Type 0
-GivesTo areas id v advertiser on path traces = GivesOne (λ (t : Trace). IsTraceTo areas id v advertiser on t × (t.path ≡ path)) (LeadsTo areas id v advertiser path) traces
+GivesTo areas id v advertiser on path traces = GivesOneTrace (λ (t : Trace). IsTraceTo areas id v advertiser on t × (t.path ≡ path)) (PathLeadsTo areas id v advertiser path) traces
 
 -- for each of the paths that leads to the vertex one trace, in their order
 abbrev pub AreTracesTo : List AreaValue → ℕ → Vertex → Option ℕ → List Step → List Path → List Trace → Type 0
@@ -129,7 +129,7 @@ abbrev pub IsOwnTrace : Layers → ℕ → Offer → Trace → Type 0
 IsOwnTrace w area o t = IsOver w area o t.path × (t.steps.items ≡ last_of o ∷ [])
 
 abbrev pub GivesOwn : Layers → ℕ → Offer → Path → List Trace → Type 0
-GivesOwn w area o path traces = GivesOne (λ (t : Trace). IsOwnTrace w area o t × (t.path ≡ path)) (IsOver w area o path) traces
+GivesOwn w area o path traces = GivesOneTrace (λ (t : Trace). IsOwnTrace w area o t × (t.path ≡ path)) (IsOver w area o path) traces
 
 -- for each of the paths over such an interface one trace, in their order
 abbrev pub AreOwnTraces : Layers → ℕ → Offer → List Path → List Trace → Type 0

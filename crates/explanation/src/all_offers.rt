@@ -7,7 +7,7 @@ ghost use Rattle.explanation.specs.Offers.{is_wanted};
 
 use crate::layers::Layers;
 use crate::offer::Offer;
-use crate::offers::{Asked, Wanted};
+use crate::offers::{OfferQuery, Wanted};
 use intra::AreaInputs;
 use ospf_types::key::Scope;
 use ospf_types::memory::Memory;
@@ -24,7 +24,7 @@ impl Layers<'_, '_> {
         add_areas(self.areas, wanted, &mut offers)?;
         let scope = Scope::As;
         if let Some(database) = self.state.database(scope) {
-            Asked { scope, wanted }.add_offers(&database.lsas()?, &mut offers)?;
+            OfferQuery { scope, wanted }.add_offers(&database.lsas()?, &mut offers)?;
         }
         Ok(offers)
     }
@@ -40,7 +40,7 @@ fn add_areas(
 {
     for area in areas {
         let scope = Scope::Area(area.id);
-        Asked { scope, wanted }.add_offers(&area.database.lsas()?, offers)?;
+        OfferQuery { scope, wanted }.add_offers(&area.database.lsas()?, offers)?;
     }
     Ok(())
 }

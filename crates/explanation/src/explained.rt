@@ -5,14 +5,14 @@ ghost use Rattle.event_core.specs.Cores.{IsCurrent, state_of};
 ghost use Rattle.explanation.specs.Layers.{AreAreas};
 ghost use Rattle.explanation.specs.Networks.{all_offers};
 ghost use Rattle.explanation.specs.Outside.{AreForwards, AreMatched, AreTraces, IsMatched};
-ghost use Rattle.explanation.specs.Explained.{AddsJudged, AddsNetwork, AreCandidates, AreInOrder};
+ghost use Rattle.explanation.specs.Explained.{AddsJudged, AddsNetwork, AreCandidates, AreCandidatesInOrder};
 ghost use Rattle.explanation.specs.Explained.{AreNetworks, AreTracesFor, IsExplained};
 
 use crate::all_offers::of_network;
 use crate::forward::{Forwarded, Forwards, is_taken};
 use crate::judging::{Judged, Rivals};
 use crate::layers::Layers;
-use crate::networks::Networks;
+use crate::networks::NetworkSet;
 use crate::offer::{Offer, OfferKind};
 use crate::offers::Wanted;
 use crate::trace::Trace;
@@ -102,7 +102,7 @@ impl Layers<'_, '_> {
         ensures right { IfOk result (λ candidates. AreCandidates self.entry
             (all_offers self.entry address) (all_offers self.entry address) candidates.items) }
         ensures in_order { IfOk result (λ candidates.
-            AreInOrder (all_offers self.entry address) candidates.items) }
+            AreCandidatesInOrder (all_offers self.entry address) candidates.items) }
     {
         let all = self.all_offers(alloc, Wanted::Around(address))?;
         let forwards = self.forwards(alloc, &all)?;
@@ -224,12 +224,12 @@ impl Layers<'_, '_> {
 }
 
 // Returns the networks of the offers.
-fn networks_of(alloc: Global, offers: &[Offer]) -> Result<Networks, Memory>
+fn networks_of(alloc: Global, offers: &[Offer]) -> Result<NetworkSet, Memory>
     ensures { IfOk result (AreNetworks offers.now) }
 {
     let mut networks = Vec::with_capacity(alloc, offers.len())?;
     for offer in offers {
         networks.push(offer.network)?;
     }
-    Ok(Networks::of(networks))
+    Ok(NetworkSet::of(networks))
 }

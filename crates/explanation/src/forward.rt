@@ -1,7 +1,7 @@
 //! The traces of the paths that an AS-external-LSA gives through its forwarding address (RFC 2328,
 //! 16.4 (3)).
 ghost use Rattle.std.specs.Prelude.{◌≡◌, ◌↔◌, Contains, IfOk, IsTrue, OnOk};
-ghost use Rattle.explanation.specs.Giving.{Adds};
+ghost use Rattle.explanation.specs.Giving.{AddsTraces};
 ghost use Rattle.explanation.specs.Groups.{AreGroups, offers_for};
 ghost use Rattle.explanation.specs.Layers.{AreAreas};
 ghost use Rattle.explanation.specs.Networks.{all_offers, all_wanted};
@@ -13,7 +13,7 @@ ghost use Rattle.explanation.specs.Outside.{networks_of};
 
 use crate::grouping::{Group, grouped};
 use crate::layers::Layers;
-use crate::networks::Networks;
+use crate::networks::NetworkSet;
 use crate::offer::{Offer, OfferKind};
 use crate::offers::Wanted;
 use crate::outside::has_path;
@@ -26,15 +26,15 @@ use ospf_types::prefix::Prefix;
 use std::alloc::Global;
 
 /// The longest match of forwarding addresses, with the traces to it.
-pub(crate) struct ForwardingMatch {
+pub(crate) struct TracedMatch {
     pub(crate) network: Prefix,
     pub(crate) traces: Vec<Trace>,
 }
 
 // proof: a value is dropped by one call, not part by part at each exit of a function.
-impl Drop for ForwardingMatch {
+impl Drop for TracedMatch {
     fn drop(self) {
-        let ForwardingMatch {
+        let TracedMatch {
             network: _,
             traces: _traces,
         } = self;
@@ -43,9 +43,9 @@ impl Drop for ForwardingMatch {
 
 /// The longest matches of the forwarding addresses of several offers, with the traces to each.
 pub(crate) struct Forwards {
-    pub(crate) networks: Networks,
+    pub(crate) networks: NetworkSet,
     /// An item for each of the networks, in their order.
-    pub(crate) items: Vec<ForwardingMatch>,
+    pub(crate) items: Vec<TracedMatch>,
 }
 
 // proof: a value is dropped by one call, not part by part at each exit of a function.
@@ -99,7 +99,7 @@ impl Layers<'_, '_> {
     }
 
     // Returns the longest matches of the forwarding addresses of the offers.
-    fn matched_networks(self, alloc: Global, offers: &[Offer]) -> Result<Networks, Memory>
+    fn matched_networks(self, alloc: Global, offers: &[Offer]) -> Result<NetworkSet, Memory>
         ensures { IfOk result (λ networks. AreMatched self.entry networks offers.now) }
     {
         let mut networks = Vec::new(alloc);
@@ -108,7 +108,7 @@ impl Layers<'_, '_> {
                 networks.push(network)?;
             }
         }
-        Ok(Networks::of(networks))
+        Ok(NetworkSet::of(networks))
     }
 
     // Returns the longest match of the offer's forwarding address.
@@ -132,7 +132,7 @@ impl Layers<'_, '_> {
     }
 
     // Returns the offers of all LSAs for the networks, network by network.
-    fn groups_of(self, alloc: Global, networks: &Networks) -> Result<Vec<Group>, Memory>
+    fn groups_of(self, alloc: Global, networks: &NetworkSet) -> Result<Vec<Group>, Memory>
         ensures { IfOk result (λ groups. AreGroups networks.now
             (all_wanted (is_one_of networks.now) self.entry) groups.items) }
     {
@@ -145,7 +145,7 @@ impl Layers<'_, '_> {
     }
 
     // Appends the group's network with the traces to it.
-    fn push_forward(self, group: &Group, forwards: &mut Vec<ForwardingMatch>) -> Result<(), Memory>
+    fn push_forward(self, group: &Group, forwards: &mut Vec<TracedMatch>) -> Result<(), Memory>
         requires areas { AreAreas self.areas.now }
         requires all { AreAllOf self group.now }
         ensures { OnOk result (AddsForward self.entry group.now.network forwards.old.items
@@ -155,7 +155,7 @@ impl Layers<'_, '_> {
         // proof: its contract shows that the address of a network lies in the network.
         let _address = network.address();
         let traces = self.network_traces(*forwards.allocator(), network, &group.offers)?;
-        forwards.push(ForwardingMatch { network, traces })?;
+        forwards.push(TracedMatch { network, traces })?;
         Ok(())
     }
 
@@ -184,7 +184,7 @@ impl Layers<'_, '_> {
     // Appends the traces that the offer gives to its network's route within the AS.
     fn push_route(self, by: &Offer, traces: &mut Vec<Trace>) -> Result<(), Memory>
         requires { AreAreas self.areas.now }
-        ensures { OnOk result (Adds (GivesRoute self.entry by.now) traces.old.items
+        ensures { OnOk result (AddsTraces (GivesRoute self.entry by.now) traces.old.items
             traces.new.items) }
     {
         let Scope::Area(area) = by.source.scope else {
@@ -230,7 +230,7 @@ fn push_onward(
     forwarded: Forwarded<'_>,
     traces: &mut Vec<Trace>,
 ) -> Result<(), Memory>
-    ensures { OnOk result (Adds (GivesOnward forwarded.entry.address forwarded.entry.offer.now
+    ensures { OnOk result (AddsTraces (GivesOnward forwarded.entry.address forwarded.entry.offer.now
         forwarded.entry.paths.now network inner.now) traces.old.items traces.new.items) }
 {
     let alloc = *traces.allocator();

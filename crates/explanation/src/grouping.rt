@@ -1,8 +1,8 @@
 //! Offers grouped by their networks.
 ghost use Rattle.std.specs.Prelude.{◌≡◌, ◌<◌, IfNone, IfOk, IfSome, OnOk, length};
-ghost use Rattle.explanation.specs.Groups.{AreEmpty, AreGroups, IsOneMore};
+ghost use Rattle.explanation.specs.Groups.{AreEmpty, AreGroups, IsOfferAdded};
 
-use crate::networks::Networks;
+use crate::networks::NetworkSet;
 use crate::offer::Offer;
 use ospf_types::memory::Memory;
 use ospf_types::prefix::Prefix;
@@ -27,7 +27,7 @@ impl Drop for Group {
 /// Returns a group for each network, with its offers in their order. Each offer is read only once.
 pub(crate) fn grouped(
     alloc: Global,
-    networks: &Networks,
+    networks: &NetworkSet,
     offers: &[Offer],
 ) -> Result<Vec<Group>, Memory>
     ensures { IfOk result (λ groups. AreGroups networks.now offers.now groups.items) }
@@ -58,7 +58,7 @@ fn empty_groups(alloc: Global, networks: &[Prefix]) -> Result<Vec<Group>, Memory
 // Appends the offer to the group at this place.
 fn put(groups: &mut [Group], place: usize, offer: &Offer) -> Result<(), Memory>
     requires { place < length groups.now }
-    ensures { OnOk result (IsOneMore place offer.now groups.old groups.new) }
+    ensures { OnOk result (IsOfferAdded place offer.now groups.old groups.new) }
 {
     groups[place].offers.push(*offer)?;
     Ok(())

@@ -2,7 +2,7 @@
 ghost use Rattle.std.specs.Prelude.{◌≡◌, ◌↔◌, ◌<◌, IfErr, IfNone, IfOk, IfSome, IsTrue};
 ghost use Rattle.std.specs.Prelude.{option_copied};
 ghost use Rattle.explanation.specs.Layers.{AreAreas};
-ghost use Rattle.explanation.specs.Judging.{HasKey, HasNoKey, IsCostWithin, IsFateOutside};
+ghost use Rattle.explanation.specs.Judging.{HasExternalKey, HasNoKey, IsInternalCost, IsFateOutside};
 ghost use Rattle.explanation.specs.Judging.{IsFateWithin, IsGreater, IsGreatestId, IsJudged};
 ghost use Rattle.explanation.specs.Judging.{IsJudgedBy, IsLeastKey, IsLesser, IsRivalsOf};
 ghost use Rattle.explanation.specs.Judging.{IsSummary, IsTransitAt, LacksCostWithin, fate_beside};
@@ -238,7 +238,7 @@ impl<'c> Layers<'c, '_> {
     // Returns the cost of an offer within the AS, or the reason why it has none.
     fn cost_within(self, area: u32, offer: &Offer) -> Result<u32, Verdict>
         requires { AreAreas self.areas.now }
-        ensures cost { IfOk result (IsCostWithin self.entry area offer.now offer.now.kind) }
+        ensures cost { IfOk result (IsInternalCost self.entry area offer.now offer.now.kind) }
         ensures none { IfErr result (LacksCostWithin self.entry area offer.now offer.now.kind) }
     {
         match offer.kind {
@@ -264,7 +264,7 @@ impl<'c> Layers<'c, '_> {
 
     // Returns the key of the offer, if it comes from an AS-external-LSA that has one.
     fn key_of(self, offer: &Offer) -> Option<ExternalKey>
-        ensures some { IfSome result (HasKey self.entry offer.now.kind offer.now) }
+        ensures some { IfSome result (HasExternalKey self.entry offer.now.kind offer.now) }
         ensures none { IfNone result (HasNoKey self.entry offer.now.kind offer.now) }
     {
         match offer.kind {

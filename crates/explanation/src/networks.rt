@@ -10,18 +10,18 @@ use route_choice::sorted_unique;
 use std::marker::Model;
 
 /// Networks in the order of addresses and then of prefix lengths, without duplicates.
-pub(crate) struct Networks {
+pub(crate) struct NetworkSet {
     items: Vec<Prefix>,
 }
 
 // proof: a value is dropped by one call, not part by part at each exit of a function.
-impl Drop for Networks {
+impl Drop for NetworkSet {
     fn drop(self) {
-        let Networks { items: _items } = self;
+        let NetworkSet { items: _items } = self;
     }
 }
 
-impl Model for Networks {
+impl Model for NetworkSet {
     ghost use Rattle.std.specs.Prelude.{List};
     ghost use Rattle.std.specs.List.Sorted.{IsStrictlySortedBy};
     ghost use Rattle.ospf_types.specs.Network.{Network, network_cmp};
@@ -33,11 +33,11 @@ impl Model for Networks {
     ghost invariant = { λ n. IsStrictlySortedBy network_cmp n.items.items };
 }
 
-impl Networks {
-    pub(crate) fn of(networks: Vec<Prefix>) -> Networks
+impl NetworkSet {
+    pub(crate) fn of(networks: Vec<Prefix>) -> NetworkSet
         ensures { ListsExactly (Contains networks.items) result }
     {
-        Networks {
+        NetworkSet {
             items: sorted_unique(networks),
         }
     }

@@ -6,7 +6,7 @@ ghost use Rattle.ospf_types.specs.Intra.{LiesIn};
 ghost use Rattle.intra.specs.Intras.{most_cost};
 ghost use Rattle.external.specs.Classes.{class_number};
 ghost use Rattle.explanation.specs.Layers.{AreAreas};
-ghost use Rattle.explanation.specs.Offered.{HasInterfaceOn, IsExternalKey, IsFit, IsForwardedKey};
+ghost use Rattle.explanation.specs.Offered.{HasInterfaceOn, IsExternalKey, HasNoFault, IsForwardedKey};
 ghost use Rattle.explanation.specs.Offered.{IsOn, IsStubCost, IsSummaryCost, IsTransitCost};
 ghost use Rattle.explanation.specs.Offered.{IsUnfit, LacksKey, LacksStubCost, LacksSummaryCost};
 ghost use Rattle.explanation.specs.Offered.{LacksTransitCost, LeadsAt, LeadsNowhere, key_by};
@@ -162,7 +162,7 @@ impl Layers<'_, '_> {
     // Returns the reason why a summary-LSA or an AS-external-LSA is skipped at once, or `None`.
     fn unfit(self, offer: &Offer, metric: u32) -> Option<Verdict>
         ensures some { IfSome result (IsUnfit self.entry offer.now metric) }
-        ensures none { IfNone result (IsFit self.entry offer.now metric) }
+        ensures none { IfNone result (HasNoFault self.entry offer.now metric) }
     {
         if metric >= LS_INFINITY {
             return Some(Verdict::Infinity);

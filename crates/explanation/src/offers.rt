@@ -3,7 +3,7 @@ ghost use Rattle.std.specs.Prelude.{◌≡◌, ◌++◌, OnOk};
 ghost use Rattle.explanation.specs.Offers as said;
 ghost use Rattle.explanation.specs.Offers.{is_wanted, offers_among, offers_of, own_if};
 
-use crate::networks::Networks;
+use crate::networks::NetworkSet;
 use crate::offer::{LsaInstance, Offer, OfferKind};
 use lsa_codec::Checked;
 use ospf_types::key::Scope;
@@ -17,7 +17,7 @@ pub(crate) enum Wanted<'n> {
     /// All networks that contain the address (in host order).
     Around(u32),
     /// These networks.
-    Among(&'n Networks),
+    Among(&'n NetworkSet),
 }
 
 impl Wanted<'_> {
@@ -33,12 +33,12 @@ impl Wanted<'_> {
 
 /// A database of LSAs, and the networks whose offers are wanted.
 #[derive(Clone, Copy)]
-pub(crate) struct Asked<'n> {
+pub(crate) struct OfferQuery<'n> {
     pub(crate) scope: Scope,
     pub(crate) wanted: Wanted<'n>,
 }
 
-impl Asked<'_> {
+impl OfferQuery<'_> {
     /// Appends the wanted offers of these LSAs.
     pub(crate) fn add_offers(self, lsas: &[Checked], offers: &mut Vec<Offer>) -> Result<(), Memory>
         ensures { OnOk result (offers.new.items

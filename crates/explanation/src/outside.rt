@@ -3,8 +3,8 @@
 ghost use Rattle.std.specs.Prelude.{ℕ, ◌↔◌, Contains, IfNone, IfOk, IfSome, IsTrue, OnOk};
 ghost use Rattle.explanation.specs.Layers.{AreAreas};
 ghost use Rattle.explanation.specs.declared.trace.Step.{Step};
-ghost use Rattle.explanation.specs.Giving.{Adds};
-ghost use Rattle.explanation.specs.Outside.{AreOutside, AreTold, AreWithin, GivesTold};
+ghost use Rattle.explanation.specs.Giving.{AddsTraces};
+ghost use Rattle.explanation.specs.Outside.{AreOutside, AreTracedOutside, AreTracesWithin, GivesTold};
 ghost use Rattle.explanation.specs.Outside.{IsBoundaryIn, IsOwnStub, IsToldStep};
 
 use crate::layers::Layers;
@@ -20,7 +20,7 @@ use std::alloc::Global;
 /// An AS-external-LSA, the area of the summary-LSAs that advertise its AS boundary router, and the
 /// paths of the route that it should give.
 #[derive(Clone, Copy)]
-struct Told<'a> {
+struct ExternalPaths<'a> {
     area: u32,
     offer: &'a Offer,
     paths: &'a [Path],
@@ -36,7 +36,7 @@ impl Layers<'_, '_> {
         paths: &[Path],
     ) -> Result<Vec<Trace>, Memory>
         requires { AreAreas self.areas.now }
-        ensures { IfOk result (λ traces. AreWithin self.entry area offer.now paths.now traces.items) }
+        ensures { IfOk result (λ traces. AreTracesWithin self.entry area offer.now paths.now traces.items) }
     {
         if self.is_own_stub(offer) {
             let traces = self.own_traces(alloc, area, offer, paths)?;
@@ -124,7 +124,7 @@ impl Layers<'_, '_> {
     // Returns the traces through border routers that advertise the AS boundary router (16.2).
     fn told_traces(self, alloc: Global, offer: &Offer, paths: &[Path]) -> Result<Vec<Trace>, Memory>
         requires { AreAreas self.areas.now }
-        ensures { IfOk result (λ traces. AreTold self.entry offer.now paths.now traces.items) }
+        ensures { IfOk result (λ traces. AreTracedOutside self.entry offer.now paths.now traces.items) }
     {
         let mut traces = Vec::new(alloc);
         let Some(entry) = self
@@ -137,7 +137,7 @@ impl Layers<'_, '_> {
         let Some(area) = entry.area else {
             return Ok(traces);
         };
-        let told = Told { area, offer, paths };
+        let told = ExternalPaths { area, offer, paths };
         for within in entry.paths.as_slice() {
             self.push_told(told, within, &mut traces)?;
         }
@@ -146,12 +146,17 @@ impl Layers<'_, '_> {
 
     // Appends a trace through the border router that advertised `within`, if the route has such a
     // path.
-    fn push_told(self, told: Told<'_>, within: &Path, traces: &mut Vec<Trace>) -> Result<(), Memory>
+    fn push_told(
+        self,
+        told: ExternalPaths<'_>,
+        within: &Path,
+        traces: &mut Vec<Trace>,
+    ) -> Result<(), Memory>
         requires { AreAreas self.areas.now }
-        ensures { OnOk result (Adds (GivesTold self.entry told.entry.area told.entry.offer.now
+        ensures { OnOk result (AddsTraces (GivesTold self.entry told.entry.area told.entry.offer.now
             told.entry.paths.now within.now) traces.old.items traces.new.items) }
     {
-        let Told { area, offer, paths } = told;
+        let ExternalPaths { area, offer, paths } = told;
         let alloc = *traces.allocator();
         let path = Path {
             hop: within.hop,

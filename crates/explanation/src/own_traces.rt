@@ -1,7 +1,7 @@
 //! The traces of the root's own stub networks (RFC 2328, 16.1): each is a single step over an
 //! interface.
 ghost use Rattle.std.specs.Prelude.{◌↔◌, IfOk, IsTrue, OnOk};
-ghost use Rattle.explanation.specs.Giving.{Adds};
+ghost use Rattle.explanation.specs.Giving.{AddsTraces};
 ghost use Rattle.explanation.specs.Traces.{AreOwnTraces, GivesOwn, IsOver};
 
 use crate::layers::Layers;
@@ -41,7 +41,7 @@ impl Layers<'_, '_> {
         path: &Path,
         traces: &mut Vec<Trace>,
     ) -> Result<(), Memory>
-        ensures { OnOk result (Adds (GivesOwn self.entry area offer.now path.now)
+        ensures { OnOk result (AddsTraces (GivesOwn self.entry area offer.now path.now)
             traces.old.items traces.new.items) }
     {
         if !self.is_over(area, offer, path) {

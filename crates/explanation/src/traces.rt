@@ -6,9 +6,9 @@ ghost use Rattle.vertex_graph.specs.Graphs.{LinksOf};
 ghost use Rattle.area_trees.specs.Areas.{IsStanding};
 ghost use Rattle.intra.specs.Inputs.{HasTree};
 ghost use Rattle.explanation.specs.Layers.{AreAreas};
-ghost use Rattle.explanation.specs.Giving.{Adds};
+ghost use Rattle.explanation.specs.Giving.{AddsTraces};
 ghost use Rattle.explanation.specs.Traces.{AreLinksIn, AreLinkSteps, AreSteps, AreTracesBy};
-ghost use Rattle.explanation.specs.Traces.{AreTracesTo, GivesTo, IsOneMore, IsSourceAt};
+ghost use Rattle.explanation.specs.Traces.{AreTracesTo, GivesTo, IsStepAdded, IsSourceAt};
 ghost use Rattle.explanation.specs.Traces.{advertiser_by, last_from, metric_by, vertex_by};
 
 use crate::layers::Layers;
@@ -20,7 +20,7 @@ use ospf_types::hop::{NextHop, Path};
 use ospf_types::key::Scope;
 use ospf_types::memory::Memory;
 use std::alloc::Global;
-use vertex_graph::Link;
+use vertex_graph::GraphLink;
 
 /// The end of traces: a vertex of an area, and the steps from there on.
 #[derive(Clone, Copy)]
@@ -88,7 +88,7 @@ impl Layers<'_, '_> {
         traces: &mut Vec<Trace>,
     ) -> Result<(), Memory>
         requires { AreAreas self.areas.now }
-        ensures { OnOk result (Adds (GivesTo self.entry.areas.now target.entry.area
+        ensures { OnOk result (AddsTraces (GivesTo self.entry.areas.now target.entry.area
             target.entry.vertex target.entry.advertiser target.entry.on.now path.now)
             traces.old.items traces.new.items) }
     {
@@ -129,7 +129,11 @@ impl Layers<'_, '_> {
 }
 
 // Returns the links as steps.
-fn link_steps(alloc: Global, area: &AreaInputs<'_>, links: &[&Link]) -> Result<Vec<Step>, Memory>
+fn link_steps(
+    alloc: Global,
+    area: &AreaInputs<'_>,
+    links: &[&GraphLink],
+) -> Result<Vec<Step>, Memory>
     requires tree { HasTree area.now }
     requires links { AreLinksIn area.now links.now }
     ensures { IfOk result (λ steps. AreLinkSteps area.now (links_at links.now) steps.items) }
@@ -142,10 +146,10 @@ fn link_steps(alloc: Global, area: &AreaInputs<'_>, links: &[&Link]) -> Result<V
 }
 
 // Appends the link as a step. Its source is the LSA that describes the tail of the link.
-fn push_link(area: &AreaInputs<'_>, link: &Link, steps: &mut Vec<Step>) -> Result<(), Memory>
+fn push_link(area: &AreaInputs<'_>, link: &GraphLink, steps: &mut Vec<Step>) -> Result<(), Memory>
     requires tree { HasTree area.now }
     requires link { LinksOf area.now.tree.area.graph link.now.from link.now.to link.now.cost link.now.label }
-    ensures { OnOk result (IsOneMore area.now link.now steps.old.items steps.new.items) }
+    ensures { OnOk result (IsStepAdded area.now link.now steps.old.items steps.new.items) }
 {
     let from = link.from.vertex();
     let Some(source) = source_at(area, from) else {

@@ -31,10 +31,10 @@ use Rattle.intra.specs.Intras.{reached_at}
 use Rattle.intra.specs.ReachedRouter.{ReachedValue, HandsOut}
 use Rattle.intra.proofs.Frame.{best_same}
 use Rattle.advertised_index.specs.AdvertisedRoute.{AdvertisedValue}
-use Rattle.advertised_index.specs.Indexes.{OfferIndexValue, ChangedOffersValue, AreTouched, IsIndexOf, IsForwardedInto, IsForwardedTo, IsLedTo}
+use Rattle.advertised_index.specs.Indexes.{OfferIndexValue, ChangedOffersValue, AreDestsAffected, IsIndexOf, IsForwardedInto, IsForwardedTo, IsLedTo}
 use Rattle.external.specs.Changes.{InputsDifferAmong}
 use Rattle.external.specs.Externals.{ExternalValue, IsEntryFor, IsExternalOf, IsForwardIn}
-use Rattle.external.specs.Forwards.{ForwardValue, ForwardsByAddress, IsForwardOf, IsMatchOf, LeadsBy, Matches, class_in, internal_entry}
+use Rattle.external.specs.Forwards.{ForwardValue, ForwardsByAddress, IsForwardOf, IsMatchOf, LeadsByMatch, Matches, class_in, internal_entry}
 use Rattle.external.specs.Inputs.{ExternalInputsValue}
 use Rattle.external.specs.Offers.{OffersOf}
 use Rattle.external.specs.AsbrRoute.{PreferredByRouter, PreferredValue, EntryOffers, IsPreferredFor, RouterOffers}
@@ -60,7 +60,7 @@ router_offers one other r compat areas reached inter preference h (inl w) =
 router_offers one other r compat areas reached inter preference h (inr e) = inr (subst (λ (z : Bool × Option Entry). EntryOffers z.0 z.1 preference h) (λ i. ((sym compat) i, (sym inter) i)) e)
 
 leads_by : (one other : ExternalInputsValue) (p : Prefix) → other.compat ≡ one.compat → internal_entry other p ≡ internal_entry one p → get other.intra.entries p ≡ get one.intra.entries p
-    → (address class cost : ℕ) (h : NextHop) → LeadsBy one address (Some p) class cost h → LeadsBy other address (Some p) class cost h
+    → (address class cost : ℕ) (h : NextHop) → LeadsByMatch one address (Some p) class cost h → LeadsByMatch other address (Some p) class cost h
 leads_by one other p compat internal intra address class cost h w =
     let l = w.1 in
     (w.0, (l.0, l.1, internal ∙ l.2, l.3, (λ i. class_in (compat i) (intra i) l.0.area) ∙ l.4, l.5, l.6), w.2)
@@ -105,7 +105,7 @@ module _ (keys : List (Scope × Key)) (dests : List Dest) (b v : ExternalInputsV
     ];
   }
 
-  way_stands : (a : ℕ) (m : Option Prefix) → ((p : Prefix) → Contains dests (Net p) → HasAddress p a → IsNoShorterThan m p → ⊥) → IsMatchOf b a m → (class cost : ℕ) (h : NextHop) → LeadsBy b a m class cost h ↔ LeadsBy v a m class cost h
+  way_stands : (a : ℕ) (m : Option Prefix) → ((p : Prefix) → Contains dests (Net p) → HasAddress p a → IsNoShorterThan m p → ⊥) → IsMatchOf b a m → (class cost : ℕ) (h : NextHop) → LeadsByMatch b a m class cost h ↔ LeadsByMatch v a m class cost h
   way_stands a None clear is class cost h = (λ no. no, λ no. no)
   way_stands a (Some m) clear is class cost h =
       let absent : Contains dests (Net m) → ⊥ = λ c. clear m c is.contains (omega arith) in
@@ -124,7 +124,7 @@ module _ (keys : List (Scope × Key)) (dests : List Dest) (b v : ExternalInputsV
 
   -- ---- and the index says otherwise no more than is affected
 
-  module _ (old i : OfferIndexValue) (first affected : ChangedOffersValue) (touched : AreTouched old i first affected) where
+  module _ (old i : OfferIndexValue) (first affected : ChangedOffersValue) (touched : AreDestsAffected old i first affected) where
     forwarded_before : (a : ℕ) → (Contains affected.addresses a → ⊥) → IsForwardedTo i a → IsForwardedTo old a
     forwarded_before a absent w =
         let g = w.1 in
@@ -172,7 +172,7 @@ module _ (keys : List (Scope × Key)) (dests : List Dest) (b v : ExternalInputsV
 
 -- once the index followed, all else that is not due is right as it stands
 pub stands_after : (keys : List (Scope × Key)) (dests : List Dest) (b v : ExternalInputsValue) (old new : ExternalValue) (first affected : ChangedOffersValue) → IsExternalOf b old → InputsDifferAmong keys dests b v
-    → IsIndexOf v.root As v.lsas new.index → AreTouched old.index new.index first affected → new.preferred ≡ old.preferred → new.forwards ≡ old.forwards → new.entries ≡ old.entries → new.spent ≡ old.spent
+    → IsIndexOf v.root As v.lsas new.index → AreDestsAffected old.index new.index first affected → new.preferred ≡ old.preferred → new.forwards ≡ old.forwards → new.entries ≡ old.entries → new.spent ≡ old.spent
     → StandsBut v dests affected new
 stands_after keys dests b v old new first affected was differ index touched preferred forwards entries spent =
     let kept : new ≡ record old { index = new.index } = (λ i. record { index = new.index; preferred = preferred i; forwards = forwards i; entries = entries i; spent = spent i }) in
@@ -191,7 +191,7 @@ blank = record { index = record { routes = empty }; preferred = empty; forwards 
 
 -- routes where nothing was advertised stand, if all routers that something leads to are named
 pub stands_from_nothing : (dests : List Dest) (v : ExternalInputsValue) (new : ExternalValue) (first affected : ChangedOffersValue) → ((r : ℕ) (preference : Preference) (h : NextHop) → RouterOffers v r preference h → Contains dests (Router r))
-    → IsIndexOf v.root As v.lsas new.index → AreTouched blank.index new.index first affected → new.preferred ≡ empty → new.forwards ≡ empty → new.entries ≡ empty → new.spent ≡ false
+    → IsIndexOf v.root As v.lsas new.index → AreDestsAffected blank.index new.index first affected → new.preferred ≡ empty → new.forwards ≡ empty → new.entries ≡ empty → new.spent ≡ false
     → StandsBut v dests affected new
 stands_from_nothing dests v new first affected named index touched preferred forwards entries spent =
     let kept : new ≡ record blank { index = new.index } = (λ i. record { index = new.index; preferred = preferred i; forwards = forwards i; entries = entries i; spent = spent i }) in

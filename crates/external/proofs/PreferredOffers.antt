@@ -14,7 +14,7 @@ use Rattle.route_choice.specs.Choices.{Chosen, IsChosen}
 use Rattle.intra.specs.ReachedRouter.{ReachedValue}
 use Rattle.route_choice.specs.Takes.{OnlyOffer, OfferedBySome}
 use Rattle.route_choice.proofs.Taking.{takes_none, takes_same, takes_two, taken_chosen}
-use Rattle.external.specs.Choosing.{TakesHops, HopsOffer, AreaOffers}
+use Rattle.external.specs.Choosing.{TakesHops, HopsOffer, AsbrOffers}
 use Rattle.external.specs.Inputs.{ExternalInputsValue}
 use Rattle.external.specs.AsbrRoute.{PreferredValue, ReachedOffers, EntryOffers, RouterOffers, IsPreferredFor}
 
@@ -28,16 +28,16 @@ preferred_at class cost area = record { class = class; cost = cost; area = area 
 -- ---- an area
 
 module _ (compat : Bool) (area : ℕ) where
-  pub takes_unreached : (c : HopChoice) → TakesHops (AreaOffers compat area None) c c
-  takes_unreached c = takes_none (AreaOffers compat area None) (λ p h w. w.2) c
+  pub takes_unreached : (c : HopChoice) → TakesHops (AsbrOffers compat area None) c c
+  takes_unreached c = takes_none (AsbrOffers compat area None) (λ p h w. w.2) c
 
   module _ (r : ReachedValue) where
     -- no AS boundary router
-    pub takes_no_boundary : (0 < bit_and r.flags E → ⊥) → (c : HopChoice) → TakesHops (AreaOffers compat area (Some r)) c c
-    takes_no_boundary clear c = takes_none (AreaOffers compat area (Some r)) (λ p h w. clear w.2.0) c
+    pub takes_no_boundary : (0 < bit_and r.flags E → ⊥) → (c : HopChoice) → TakesHops (AsbrOffers compat area (Some r)) c c
+    takes_no_boundary clear c = takes_none (AsbrOffers compat area (Some r)) (λ p h w. clear w.2.0) c
 
-    pub takes_boundary : (key : Preference) → key ≡ preferred_at (class_of compat (Some area)) r.distance area → 0 < bit_and r.flags E → (old new : HopChoice) → TakesHops (HopsOffer r.hops key) old new → TakesHops (AreaOffers compat area (Some r)) old new
-    takes_boundary key is boundary old new takes = takes_same (HopsOffer r.hops key) (AreaOffers compat area (Some r)) (λ p h. (
+    pub takes_boundary : (key : Preference) → key ≡ preferred_at (class_of compat (Some area)) r.distance area → 0 < bit_and r.flags E → (old new : HopChoice) → TakesHops (HopsOffer r.hops key) old new → TakesHops (AsbrOffers compat area (Some r)) old new
+    takes_boundary key is boundary old new takes = takes_same (HopsOffer r.hops key) (AsbrOffers compat area (Some r)) (λ p h. (
       λ w.
           let at : p ≡ preferred_at (class_of compat (Some area)) r.distance area = w.2.0 ∙ is in
           (ap (λ (t : Preference). t.area) at, ap (λ (t : Preference). t.class) at, (boundary, sym (ap (λ (t : Preference). t.cost) at), subst (Contains r.hops) (sym w.2.1) w.1)),

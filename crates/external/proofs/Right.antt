@@ -27,7 +27,7 @@ use Rattle.advertised_index.specs.AdvertisedRoute.{AdvertisedValue, advertised_a
 use Rattle.external.specs.Externals.{ExternalValue, IsEntryFor, IsExternalOf, IsForwardIn}
 use Rattle.external.specs.Forwards.{ForwardValue}
 use Rattle.external.specs.Inputs.{ExternalInputsValue}
-use Rattle.external.specs.Offers.{ForwardLeads, IsAdvertised, Leads, OffersOf, PreferredLeads, preference_of}
+use Rattle.external.specs.Offers.{ForwardLeads, IsAdvertised, LeadsOnward, OffersOf, PreferredLeads, preference_of}
 use Rattle.external.specs.AsbrRoute.{PreferredValue, RouterOffers, IsPreferredFor}
 use Rattle.external.specs.Right.{AreInputsOf, IsRightFor}
 use Rattle.external.proofs.RightPreferred.{router_offered}
@@ -129,7 +129,7 @@ module _ (s : Inputs) (v : ExternalInputsValue) (are : AreInputsOf s v) (w : Ext
   forward_leads k a advertised some (Some f) forward = forward_right s v are a.forwarding f forward.1
 
   leads_right : (k : Key) (a : AdvertisedValue) → IsAdvertised v k a → (class x : ℕ) (h : NextHop)
-      → Leads (get w.preferred k.router) (get w.forwards a.forwarding) a.forwarding class x h ↔ ForwardOffers s k.router a.forwarding class x h
+      → LeadsOnward (get w.preferred k.router) (get w.forwards a.forwarding) a.forwarding class x h ↔ ForwardOffers s k.router a.forwarding class x h
   leads_right k a advertised class x h =
       let direct = preferred_leads k.router (get w.preferred k.router) (preferred_right k.router) class x h in (
         λ l. elim l [

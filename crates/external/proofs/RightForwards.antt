@@ -25,7 +25,7 @@ use Rattle.ospf_types.proofs.OneBest.{same_key}
 use Rattle.ospf_types.proofs.Orders.{area_cost_total, area_cost_exact}
 use Rattle.intra.specs.Intras.{IsEntryFor as IsIntraEntry}
 use Rattle.inter.specs.Right.{IsEntryOf as IsInterEntry}
-use Rattle.external.specs.Forwards.{ForwardValue, InternalLeads, IsLongest, IsMatchOf, IsForwardOf, LeadsBy, Matches, WayOffers, class_at, internal_entry}
+use Rattle.external.specs.Forwards.{ForwardValue, InternalLeads, IsLongest, IsMatchOf, IsForwardOf, LeadsByMatch, Matches, WayOffers, class_at, internal_entry}
 use Rattle.external.specs.Inputs.{ExternalInputsValue}
 use Rattle.external.specs.Right.{AreInputsOf}
 
@@ -191,7 +191,7 @@ module _ (s : Inputs) (v : ExternalInputsValue) (are : AreInputsOf s v) (address
       let start : p.address ≡ q.address = sym forward.contains ∙ ap (masked address) length ∙ is.contains in
       λ i. record { address = start i; length = length i }
 
-  match_right : (m : Option Prefix) → IsMatchOf v address m → (class x : ℕ) (h : NextHop) → LeadsBy v address m class x h ↔ ForwardReaches s address class x h
+  match_right : (m : Option Prefix) → IsMatchOf v address m → (class x : ℕ) (h : NextHop) → LeadsByMatch v address m class x h ↔ ForwardReaches s address class x h
   match_right None is class x h = (
     λ l. absurd l,
     λ w. absurd (is w.0 w.2.within w.2.contains ((matches_right s v are w.0).1 (inl w.2.entry))),

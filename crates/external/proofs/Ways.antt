@@ -8,12 +8,12 @@ use Rattle.ospf_types.specs.declared.hop.NextHop.{NextHop}
 use Rattle.ospf_types.specs.declared.hop.Path.{Path}
 use Rattle.ospf_types.specs.declared.prefix.Prefix.{Prefix}
 use Rattle.ospf_types.specs.External.{toward}
-use Rattle.external.specs.Forwards.{WayValue, WayOffers, LeadsBy, class_at, internal_entry}
+use Rattle.external.specs.Forwards.{WayValue, WayOffers, LeadsByMatch, class_at, internal_entry}
 use Rattle.external.specs.Inputs.{ExternalInputsValue}
 
 module _ (v : ExternalInputsValue) (address : ℕ) (p : Prefix) where
   -- over an entry
-  pub leads_by : (e : Entry) → internal_entry v p ≡ Some e → (w : WayValue) → w.class ≡ class_at v p e.area → w.cost ≡ e.cost → w.hops ≡ map (λ (path : Path). toward address path.hop) e.paths → (class cost : ℕ) (h : NextHop) → WayOffers (Some w) class cost h ↔ LeadsBy v address (Some p) class cost h
+  pub leads_by : (e : Entry) → internal_entry v p ≡ Some e → (w : WayValue) → w.class ≡ class_at v p e.area → w.cost ≡ e.cost → w.hops ≡ map (λ (path : Path). toward address path.hop) e.paths → (class cost : ℕ) (h : NextHop) → WayOffers (Some w) class cost h ↔ LeadsByMatch v address (Some p) class cost h
   leads_by e known w is_class is_cost is_hops class cost h = (
     λ o.
         let from = mapped_from (λ (path : Path). toward address path.hop) e.paths h (subst (λ (hops : List NextHop). Contains hops h) is_hops o.2) in
@@ -30,7 +30,7 @@ module _ (v : ExternalInputsValue) (address : ℕ) (p : Prefix) where
   )
 
   -- without an entry
-  pub leads_nowhere : internal_entry v p ≡ None → (class cost : ℕ) (h : NextHop) → WayOffers None class cost h ↔ LeadsBy v address (Some p) class cost h
+  pub leads_nowhere : internal_entry v p ≡ None → (class cost : ℕ) (h : NextHop) → WayOffers None class cost h ↔ LeadsByMatch v address (Some p) class cost h
   leads_nowhere none class cost h = (
     λ o. absurd o,
     λ l. let both : None ≡ Some l.1.0 = sym none ∙ l.1.2 in absurd cc,

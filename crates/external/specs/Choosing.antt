@@ -13,7 +13,7 @@ use Rattle.ospf_types.specs.Inter.{through}
 use Rattle.ospf_types.specs.Intra.{E}
 use Rattle.route_choice.specs.Choices.{Chosen}
 use Rattle.intra.specs.ReachedRouter.{ReachedValue, HandsOut}
-use Rattle.route_choice.specs.Takes.{Takes, OnlyOffer, OfferedBySome}
+use Rattle.route_choice.specs.Takes.{TakesOffers, OnlyOffer, OfferedBySome}
 use Rattle.advertised_index.specs.AdvertisedRoute.{AdvertisedValue}
 use Rattle.advertised_index.specs.Indexes.{AdvertisedByKey, OfferIndexValue, IsInGroup}
 use Rattle.advertised_index.specs.declared.index_key.IndexKey.TheVariants.{To}
@@ -24,15 +24,15 @@ use Rattle.external.specs.Offers.{AdvertisedOffers, preference_of}
 
 -- just these offers of next hops were taken
 abbrev pub TakesHops : (Preference → NextHop → Type 0) → Option (Chosen Preference NextHop) → Option (Chosen Preference NextHop) → Type 0
-TakesHops offers old new = Takes preference_cmp hop_cmp offers old new
+TakesHops offers old new = TakesOffers preference_cmp hop_cmp offers old new
 
 -- each of these next hops
 abbrev pub HopsOffer : List NextHop → Preference → Preference → NextHop → Type 0
 HopsOffer hops at = OfferedBySome hops (OnlyOffer at)
 
 -- what is kept of the router in the area offers it, if it is an AS boundary router
-abbrev pub AreaOffers : Bool → ℕ → Option ReachedValue → Preference → NextHop → Type 0
-AreaOffers compat area reached preference h = (preference.area ≡ area) × (preference.class ≡ class_of compat (Some area)) × HandsOut E reached preference.cost h
+abbrev pub AsbrOffers : Bool → ℕ → Option ReachedValue → Preference → NextHop → Type 0
+AsbrOffers compat area reached preference h = (preference.area ≡ area) × (preference.class ≡ class_of compat (Some area)) × HandsOut E reached preference.cost h
 
 -- each area where the router is reached as AS boundary router
 abbrev pub AreasOffer : ExternalInputsValue → ℕ → Preference → NextHop → Type 0
@@ -40,7 +40,7 @@ AreasOffer v router = OfferedBySome v.areas (ReachedOffers v router)
 
 -- just these offers of paths were taken
 abbrev pub TakesPaths : (ExternalPreference → Path → Type 0) → Option (Chosen ExternalPreference Path) → Option (Chosen ExternalPreference Path) → Type 0
-TakesPaths offers old new = Takes external_cmp path_cmp offers old new
+TakesPaths offers old new = TakesOffers external_cmp path_cmp offers old new
 
 -- a path by the router over each of these next hops
 abbrev pub PathsOffer : List NextHop → ℕ → ExternalPreference → ExternalPreference → Path → Type 0

@@ -78,9 +78,9 @@ IsMatchOf v address (Some p) = IsLongest v address p
 
 -- where the match leads: over its entry's next hops, each toward the address; nowhere without an
 -- entry
-abbrev pub LeadsBy : ExternalInputsValue → ℕ → Option Prefix → ℕ → ℕ → NextHop → Type 0
-LeadsBy v address None class cost h = ⊥
-LeadsBy v address (Some p) class cost h = (first : NextHop) × InternalLeads v p class cost first × (h ≡ toward address first)
+abbrev pub LeadsByMatch : ExternalInputsValue → ℕ → Option Prefix → ℕ → ℕ → NextHop → Type 0
+LeadsByMatch v address None class cost h = ⊥
+LeadsByMatch v address (Some p) class cost h = (first : NextHop) × InternalLeads v p class cost first × (h ≡ toward address first)
 
 abbrev pub WayOffers : Option WayValue → ℕ → ℕ → NextHop → Type 0
 WayOffers None class cost h = ⊥
@@ -88,7 +88,7 @@ WayOffers (Some w) class cost h = (w.class ≡ class) × (w.cost ≡ cost) × Co
 
 -- the way goes just where the match of the address leads
 abbrev pub IsWayBy : ExternalInputsValue → ℕ → Option Prefix → Option WayValue → Type 0
-IsWayBy v address matched way = (class cost : ℕ) (h : NextHop) → WayOffers way class cost h ↔ LeadsBy v address matched class cost h
+IsWayBy v address matched way = (class cost : ℕ) (h : NextHop) → WayOffers way class cost h ↔ LeadsByMatch v address matched class cost h
 
 -- what is kept of the address
 pub record IsForwardOf (v : ExternalInputsValue) (address : ℕ) (f : ForwardValue) : Type 0 where

@@ -33,15 +33,15 @@ ForwardLeads (Some f) class x h = WayOffers f.way class x h
 
 -- the distance X, its class and its next hops: those of the AS boundary router, or of the
 -- forwarding address where there is one
-abbrev pub Leads : Option PreferredValue → Option ForwardValue → ℕ → ℕ → ℕ → NextHop → Type 0
-Leads preferred forward address class x h =
+abbrev pub LeadsOnward : Option PreferredValue → Option ForwardValue → ℕ → ℕ → ℕ → NextHop → Type 0
+LeadsOnward preferred forward address class x h =
     ((address ≡ 0) × PreferredLeads preferred class x h)
     ⊎ ((0 < address) × ForwardLeads forward class x h)
 
 -- what is advertised under the key offers this, where its AS boundary router has an entry
 abbrev pub AdvertisedOffers : Option PreferredValue → Option ForwardValue → Key → AdvertisedValue → ExternalPreference → Path → Type 0
 AdvertisedOffers preferred forward k a preference path = (class x : ℕ) × (h : NextHop)
-    × IsSome preferred × Leads preferred forward a.forwarding class x h
+    × IsSome preferred × LeadsOnward preferred forward a.forwarding class x h
     × (preference ≡ preference_of a class x) × (path ≡ through k.router h)
 
 -- all that is offered to a network by what is advertised, where routers and addresses lead as these

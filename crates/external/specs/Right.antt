@@ -6,7 +6,7 @@ use Rattle.ospf_types.specs.declared.prefix.Prefix.{Prefix}
 use Rattle.ospf_types.specs.Boundary.{BoundaryOffers}
 use Rattle.ospf_types.specs.External.{ExternalOffers}
 use Rattle.ospf_types.specs.Inputs.{Inputs, Area}
-use Rattle.lsdb.specs.Contents.{IsSound}
+use Rattle.lsdb.specs.Contents.{IsDatabaseSound}
 use Rattle.intra.specs.Right.{IsRightFor as IsIntraRight}
 use Rattle.active_ranges.specs.Right.{IsRightFor as AreRangesRight}
 use Rattle.inter.specs.Right.{IsRightFor as IsInterRight}
@@ -21,7 +21,7 @@ pub record AreInputsOf (s : Inputs) (v : ExternalInputsValue) : Type 0 where
   pub areas : v.areas ≡ map (λ (a : Area). a.id) s.areas
   pub apart : AllPairs (λ (a b : Area). a.id ≢ b.id) s.areas
   pub lsas : s.externals ≡ values v.lsas
-  pub sound : IsSound v.lsas
+  pub sound : IsDatabaseSound v.lsas
   pub intra : IsIntraRight s v.intra
   pub ranges : AreRangesRight s v.active
   pub inter : IsInterRight s v.inter

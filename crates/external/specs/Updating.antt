@@ -41,8 +41,8 @@ IsDueInDest i forwards (Net p) address = IsDueInNetwork i forwards p address
 IsDueInDest i forwards (Router r) address = ⊥
 
 -- this address, where the network is no shorter than its match
-abbrev pub IsDueAt : ForwardsByAddress → Prefix → ℕ → ℕ → Type 0
-IsDueAt forwards p at address = (address ≡ at) × IsNoShorter (get forwards address) p
+abbrev pub IsAddressAffected : ForwardsByAddress → Prefix → ℕ → ℕ → Type 0
+IsAddressAffected forwards p at address = (address ≡ at) × IsNoShorter (get forwards address) p
 
 -- the address is affected, or lies in such a network that is named
 abbrev pub IsAddressDue : (Prefix → Type 0) → List ℕ → OfferIndexValue → ForwardsByAddress → ℕ → Type 0

@@ -8,7 +8,7 @@ ghost use Rattle.ospf_types.specs.Boundary.{class_of, preference_cmp};
 ghost use Rattle.route_choice.specs.Takes.{OnlyOffer, OfferedBySome};
 ghost use Rattle.inter.specs.Inters.{most_cost};
 ghost use Rattle.external.specs.Classes.{class_number};
-ghost use Rattle.external.specs.Choosing.{TakesHops, HopsOffer, AreaOffers, AreasOffer};
+ghost use Rattle.external.specs.Choosing.{TakesHops, HopsOffer, AsbrOffers, AreasOffer};
 ghost use Rattle.external.specs.AsbrRoute.{RouterOffers, ReachedOffers, EntryOffers};
 ghost use Rattle.external.specs.AsbrRoute.{InterEntryOffers, IsPreferredFor};
 
@@ -274,7 +274,7 @@ fn offer_reached(
     reached: &ReachedRouter,
 ) -> Result<(), Memory>
     ensures { OnOk result
-        (TakesHops (AreaOffers compat area (Some reached.now)) best.old best.new) }
+        (TakesHops (AsbrOffers compat area (Some reached.now)) best.old best.new) }
 {
     if !reached.is_asbr() {
         return Ok(());

@@ -7,7 +7,7 @@ ghost use Rattle.route_choice.specs.Lists.{GainsAll, HasAll, ListsExactly, HasMo
 ghost use Rattle.route_choice.specs.Results.{result_at};
 ghost use Rattle.external.specs.Externals.{IsForwardIn};
 ghost use Rattle.external.specs.Forwards.{forwards_in};
-ghost use Rattle.external.specs.Updating.{IsAddressDue, IsAlso, IsDueAt, IsDueInDest};
+ghost use Rattle.external.specs.Updating.{IsAddressDue, IsAlso, IsAddressAffected, IsDueInDest};
 ghost use Rattle.external.specs.Updating.{IsDueInNetwork, IsLedBy, IsLedByAddress, IsNoShorter};
 ghost use Rattle.external.specs.Updating.{IsNoShorterThan, StandsButDue};
 
@@ -159,7 +159,7 @@ impl AddressMatches<'_> {
     // Appends the address if its match is not longer than the network.
     fn list_if_due(&self, network: Prefix, address: u32, due: &mut Vec<u32>) -> Result<(), Memory>
         ensures { OnOk result (GainsAll
-            (IsDueAt (forwards_in self.now.forwards.now) network address)
+            (IsAddressAffected (forwards_in self.now.forwards.now) network address)
             due.old.items due.new.items) }
     {
         if !is_no_shorter(self.forwards.get(address), network) {

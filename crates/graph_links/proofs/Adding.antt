@@ -8,35 +8,35 @@ use Rattle.ospf_types.specs.declared.label.Label.{Label}
 use Rattle.ospf_types.specs.declared.label.Label.TheVariants.{Over, At, Plain}
 use Rattle.ospf_types.proofs.Elements.{no_element, first_element}
 use Rattle.graph_links.specs.declared.link_end.LinkEnd.{LinkEnd}
-use Rattle.graph_links.specs.declared.link.Link.{Link}
+use Rattle.graph_links.specs.declared.link.GraphLink.{GraphLink}
 use Rattle.graph_links.specs.declared.link.Up.{Up}
 use Rattle.graph_links.specs.declared.parallel_links.ParallelLink.{ParallelLink}
-use Rattle.graph_links.specs.Pairs.{Adds, IsOutLabel, IsWay, IsWayOver, label_over}
+use Rattle.graph_links.specs.Pairs.{AddsToList, IsOutLabel, IsWay, IsWayOver, label_over}
 
 module _ {X : Type 0} where
   -- where there is one to be added, it goes to the end
-  pub adds_one : (xs : List X) (x : X) (Is : X → Type 0) → Is x → ((l : X) → Is l → l ≡ x) → Adds xs (xs ++ x ∷ []) Is
+  pub adds_one : (xs : List X) (x : X) (Is : X → Type 0) → Is x → ((l : X) → Is l → l ≡ x) → AddsToList xs (xs ++ x ∷ []) Is
   adds_one xs x Is here only l = (
     λ c. ⊎_elim (λ (old : Contains xs l). inl old) (λ (e : x ≡ l). inr (subst Is e here)) (Contains-push_cases xs x l c),
     λ h. ⊎_elim (λ (old : Contains xs l). Contains-append_left xs (x ∷ []) l old) (λ (i : Is l). subst (Contains (xs ++ x ∷ [])) (sym (only l i)) (Contains-append_right xs (x ∷ []) x (first_element x []))) h,
   )
 
   -- these are added, and then those
-  pub adds_both : (xs ys zs : List X) (P Q R : X → Type 0) → Adds xs ys P → Adds ys zs Q → ((l : X) → R l ↔ (P l ⊎ Q l)) → Adds xs zs R
+  pub adds_both : (xs ys zs : List X) (P Q R : X → Type 0) → AddsToList xs ys P → AddsToList ys zs Q → ((l : X) → R l ↔ (P l ⊎ Q l)) → AddsToList xs zs R
   adds_both xs ys zs P Q R first then join l = (
     λ c. ⊎_elim (λ (y : Contains ys l). ⊎_elim (λ (x : Contains xs l). inl x) (λ (p : P l). inr ((join l).1 (inl p))) ((first l).0 y)) (λ (q : Q l). inr ((join l).1 (inr q))) ((then l).0 c),
     λ h. ⊎_elim (λ (x : Contains xs l). (then l).1 (inl ((first l).1 (inl x)))) (λ (r : R l). ⊎_elim (λ (p : P l). (then l).1 (inl ((first l).1 (inr p)))) (λ (q : Q l). (then l).1 (inr q)) ((join l).0 r)) h,
   )
 
   -- all of a list
-  pub adds_list : (xs ys : List X) (P : X → Type 0) → ((l : X) → Contains ys l ↔ P l) → Adds xs (xs ++ ys) P
+  pub adds_list : (xs ys : List X) (P : X → Type 0) → ((l : X) → Contains ys l ↔ P l) → AddsToList xs (xs ++ ys) P
   adds_list xs ys P are l = (
     λ c. ⊎_elim (λ (early : Contains xs l). inl early) (λ (late : Contains ys l). inr ((are l).0 late)) (Contains-append_cases xs ys l c),
     λ h. ⊎_elim (λ (early : Contains xs l). Contains-append_left xs ys l early) (λ (p : P l). Contains-append_right xs ys l ((are l).1 p)) h,
   )
 
 -- added links, said another way
-pub adds_same : (xs ys : List Link) (P Q : Link → Type 0) → ((l : Link) → P l ↔ Q l) → Adds xs ys P → Adds xs ys Q
+pub adds_same : (xs ys : List GraphLink) (P Q : GraphLink → Type 0) → ((l : GraphLink) → P l ↔ Q l) → AddsToList xs ys P → AddsToList xs ys Q
 adds_same xs ys P Q same adds l = (
   λ c. ⊎_elim (λ (x : Contains xs l). inl x) (λ (p : P l). inr ((same l).0 p)) ((adds l).0 c),
   λ h. ⊎_elim (λ (x : Contains xs l). (adds l).1 (inl x)) (λ (q : Q l). (adds l).1 (inr ((same l).1 q))) h,
@@ -76,14 +76,14 @@ over_one_more root router ups es e w = (
 
 -- the loop over interfaces, one on
 pub over_on : (root : ℕ) (e : LinkEnd) (ups : List Up) (i : ℕ) (none : Up) (xs ys zs : List ParallelLink) → i < length ups
-    → Adds xs ys (IsWay root (take i ups) root e) → Adds ys zs (IsWay root (get_or ups i none ∷ []) root e) → Adds xs zs (IsWay root (take (i + 1) ups) root e)
+    → AddsToList xs ys (IsWay root (take i ups) root e) → AddsToList ys zs (IsWay root (get_or ups i none ∷ []) root e) → AddsToList xs zs (IsWay root (take (i + 1) ups) root e)
 over_on root e ups i none xs ys zs lt first then =
     adds_both xs ys zs (IsWay root (take i ups) root e) (IsWay root (get_or ups i none ∷ []) root e) (IsWay root (take (i + 1) ups) root e) first then
     (λ w. subst (λ (us : List Up). IsWay root us root e w ↔ (IsWay root (take i ups) root e w ⊎ IsWay root (get_or ups i none ∷ []) root e w)) (sym (take_more ups i none lt)) (over_either root root (take i ups) (get_or ups i none ∷ []) e w))
 
 -- and at its end
-pub over_all : (root : ℕ) (e : LinkEnd) (ups : List Up) (i : ℕ) (xs ys : List ParallelLink) → length ups ≤ i → Adds xs ys (IsWay root (take i ups) root e) → Adds xs ys (IsWay root ups root e)
-over_all root e ups i xs ys le adds = subst (λ (us : List Up). Adds xs ys (IsWay root us root e)) (take_all i ups le) adds
+pub over_all : (root : ℕ) (e : LinkEnd) (ups : List Up) (i : ℕ) (xs ys : List ParallelLink) → length ups ≤ i → AddsToList xs ys (IsWay root (take i ups) root e) → AddsToList xs ys (IsWay root ups root e)
+over_all root e ups i xs ys le adds = subst (λ (us : List Up). AddsToList xs ys (IsWay root us root e)) (take_all i ups le) adds
 
 -- the ways are those over these ends
 abbrev pub AreWaysBy : ℕ → List Up → ℕ → List LinkEnd → List ParallelLink → Type 0
@@ -97,7 +97,7 @@ ways_none root router ups ways none w = (
 
 -- the loop over ends, one on
 pub ways_on : (root router : ℕ) (ups : List Up) (es : List LinkEnd) (i : ℕ) (d : LinkEnd) (ways ways_new : List ParallelLink) → i < length es
-    → AreWaysBy root ups router (take i es) ways → Adds ways ways_new (IsWay root ups router (get_or es i d)) → AreWaysBy root ups router (take (i + 1) es) ways_new
+    → AreWaysBy root ups router (take i es) ways → AddsToList ways ways_new (IsWay root ups router (get_or es i d)) → AreWaysBy root ups router (take (i + 1) es) ways_new
 ways_on root router ups es i d ways ways_new lt before then w =
     let more : IsWayOver root ups router (take (i + 1) es) w ↔ (IsWayOver root ups router (take i es) w ⊎ IsWay root ups router (get_or es i d) w) =
     subst (λ (fs : List LinkEnd). IsWayOver root ups router fs w ↔ (IsWayOver root ups router (take i es) w ⊎ IsWay root ups router (get_or es i d) w)) (sym (take_more es i d lt)) (over_one_more root router ups (take i es) (get_or es i d) w) in (

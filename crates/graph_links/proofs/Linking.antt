@@ -9,7 +9,7 @@ use Rattle.ospf_types.specs.declared.entry.Vertex.{Vertex}
 use Rattle.ospf_types.specs.Distances.{Links}
 use Rattle.ospf_types.proofs.Elements.{no_element, first_element}
 use Rattle.graph_links.specs.declared.link_end.LinkEnd.{LinkEnd}
-use Rattle.graph_links.specs.declared.link.Link.{Link}
+use Rattle.graph_links.specs.declared.link.GraphLink.{GraphLink}
 use Rattle.graph_links.specs.declared.link.Up.{Up}
 use Rattle.graph_links.specs.contracts.link_end.LinkEndOrd.TheImpl as end_order
 use Rattle.graph_links.specs.EndOrder.{end_cmp}
@@ -27,11 +27,11 @@ searched (Err i) ends end at within ok = absurd cc
 -- ---- links from one vertex to another
 
 -- the list has, in addition to its old elements, the links from one vertex to the other
-abbrev pub IsListed : Links → Vertex → Vertex → List Link → List Link → Type 0
-IsListed Link_of v w old new = (l : Link) → Contains new l ↔ (Contains old l ⊎ IsOutTo Link_of v l w)
+abbrev pub IsListed : Links → Vertex → Vertex → List GraphLink → List GraphLink → Type 0
+IsListed Link_of v w old new = (l : GraphLink) → Contains new l ↔ (Contains old l ⊎ IsOutTo Link_of v l w)
 
-pub as_listed : (root : ℕ) (ups : List Up) (leading : Leading) (v w from to : Vertex) (ends back : List LinkEnd) (old new : List Link) → from ≡ v → to ≡ w → ends ≡ ends_or (leading v) → back ≡ ends_or (leading w)
-    → ((l : Link) → Contains new l ↔ (Contains old l ⊎ ((l.from ≡ from) × (l.to ≡ to) × IsPairLink root ups from ends to back l.cost l.label)))
+pub as_listed : (root : ℕ) (ups : List Up) (leading : Leading) (v w from to : Vertex) (ends back : List LinkEnd) (old new : List GraphLink) → from ≡ v → to ≡ w → ends ≡ ends_or (leading v) → back ≡ ends_or (leading w)
+    → ((l : GraphLink) → Contains new l ↔ (Contains old l ⊎ ((l.from ≡ from) × (l.to ≡ to) × IsPairLink root ups from ends to back l.cost l.label)))
     → IsListed (LinksBy root ups leading) v w old new
 as_listed root ups leading v w from to ends back old new from_is to_is ends_are back_are lists l =
     let VertexPair : Vertex → Vertex → List LinkEnd → List LinkEnd → Type 0 = λ a b x y. Contains new l ↔ (Contains old l ⊎ ((l.from ≡ a) × (l.to ≡ b) × IsPairLink root ups a x b y l.cost l.label)) in
@@ -47,18 +47,18 @@ module _ (root : ℕ) (ups : List Up) (leading : Leading) (v w : Vertex) (back :
   not_named : Names (ends_or (leading w)) v → ⊥
   not_named named = no_element named.0 (subst (λ (es : List LinkEnd). Contains es named.0) none ((exact named.0).1 (named.1, named.2)))
 
-  pub none_out : (l : Link) → IsOutTo (LinksBy root ups leading) v l w → ⊥
+  pub none_out : (l : GraphLink) → IsOutTo (LinksBy root ups leading) v l w → ⊥
   none_out l is =
       let Link_of : Vertex × Vertex → Type 0 = λ p. LinksBy root ups leading p.0 p.1 l.cost l.label in
       not_named (pair_named root ups v w (ends_or (leading v)) (ends_or (leading w)) l.cost l.label (subst Link_of (λ i. (is.0 i, is.1 i)) is.2))
 
-  pub none_into : (l : Link) → IsIntoFrom (LinksBy root ups leading) v l w → ⊥
+  pub none_into : (l : GraphLink) → IsIntoFrom (LinksBy root ups leading) v l w → ⊥
   none_into l is =
       let Link_of : Vertex × Vertex → Type 0 = λ p. LinksBy root ups leading p.0 p.1 l.cost l.label in
       not_named (pair_names root ups w v (ends_or (leading w)) (ends_or (leading v)) l.cost l.label (subst Link_of (λ i. (is.0 i, is.1 i)) is.2))
 
 -- so nothing is listed
-pub none_listed : (links : List Link) (P : Link → Type 0) → ((l : Link) → P l → ⊥) → (l : Link) → Contains links l ↔ (Contains links l ⊎ P l)
+pub none_listed : (links : List GraphLink) (P : GraphLink → Type 0) → ((l : GraphLink) → P l → ⊥) → (l : GraphLink) → Contains links l ↔ (Contains links l ⊎ P l)
 none_listed links P none l = (λ c. inl c, λ h. ⊎_elim (λ (c : Contains links l). c) (λ (p : P l). absurd (none l p)) h)
 
 -- ends that are not none are all that there are at the vertex
@@ -69,27 +69,27 @@ some_at v all (e ∷ es) sorted exact some = record { in_order = sorted; exact =
 -- ---- links that are missing in another graph
 
 -- what is there and what is left, as one more is taken
-module _ (others initial has rest mid new whole : List Link) (x : Link) (steps : whole ≡ x ∷ rest) (before : (k : Link) → (Contains mid k ⊎ (Contains whole k × (Contains others k → ⊥))) ↔ (Contains initial k ⊎ (Contains has k × (Contains others k → ⊥))))
-    (one : (k : Link) → Contains new k ↔ (Contains mid k ⊎ ((k ≡ x) × (Contains others k → ⊥)))) where
-  in_whole : (k : Link) → Contains whole k ↔ ((k ≡ x) ⊎ Contains rest k)
-  in_whole k = subst (λ (ls : List Link). Contains ls k ↔ ((k ≡ x) ⊎ Contains rest k)) (sym steps) (front x rest k)
+module _ (others initial has rest mid new whole : List GraphLink) (x : GraphLink) (steps : whole ≡ x ∷ rest) (before : (k : GraphLink) → (Contains mid k ⊎ (Contains whole k × (Contains others k → ⊥))) ↔ (Contains initial k ⊎ (Contains has k × (Contains others k → ⊥))))
+    (one : (k : GraphLink) → Contains new k ↔ (Contains mid k ⊎ ((k ≡ x) × (Contains others k → ⊥)))) where
+  in_whole : (k : GraphLink) → Contains whole k ↔ ((k ≡ x) ⊎ Contains rest k)
+  in_whole k = subst (λ (ls : List GraphLink). Contains ls k ↔ ((k ≡ x) ⊎ Contains rest k)) (sym steps) (front x rest k)
 
-  to_before : (k : Link) → Contains new k ⊎ (Contains rest k × (Contains others k → ⊥)) → Contains mid k ⊎ (Contains whole k × (Contains others k → ⊥))
+  to_before : (k : GraphLink) → Contains new k ⊎ (Contains rest k × (Contains others k → ⊥)) → Contains mid k ⊎ (Contains whole k × (Contains others k → ⊥))
   to_before k h =
       ⊎_elim (λ (c : Contains new k). ⊎_elim (λ (m : Contains mid k). inl m) (λ (n : (k ≡ x) × (Contains others k → ⊥)). inr ((in_whole k).1 (inl n.0), n.1)) ((one k).0 c))
       (λ (r : Contains rest k × (Contains others k → ⊥)). inr ((in_whole k).1 (inr r.0), r.1)) h
 
-  from_before : (k : Link) → Contains mid k ⊎ (Contains whole k × (Contains others k → ⊥)) → Contains new k ⊎ (Contains rest k × (Contains others k → ⊥))
+  from_before : (k : GraphLink) → Contains mid k ⊎ (Contains whole k × (Contains others k → ⊥)) → Contains new k ⊎ (Contains rest k × (Contains others k → ⊥))
   from_before k h =
       ⊎_elim (λ (m : Contains mid k). inl ((one k).1 (inl m)))
       (λ (w : Contains whole k × (Contains others k → ⊥)). ⊎_elim (λ (e : k ≡ x). inl ((one k).1 (inr (e, w.1)))) (λ (r : Contains rest k). inr (r, w.1)) ((in_whole k).0 w.0)) h
 
-  pub unlike_more : (k : Link) → (Contains new k ⊎ (Contains rest k × (Contains others k → ⊥))) ↔ (Contains initial k ⊎ (Contains has k × (Contains others k → ⊥)))
+  pub unlike_more : (k : GraphLink) → (Contains new k ⊎ (Contains rest k × (Contains others k → ⊥))) ↔ (Contains initial k ⊎ (Contains has k × (Contains others k → ⊥)))
   unlike_more k = (λ h. (before k).0 (to_before k h), λ h. from_before k ((before k).1 h))
 
-pub unlike_all : (others initial has rest new : List Link) → rest ≡ [] → ((k : Link) → (Contains new k ⊎ (Contains rest k × (Contains others k → ⊥))) ↔ (Contains initial k ⊎ (Contains has k × (Contains others k → ⊥))))
-    → (k : Link) → Contains new k ↔ (Contains initial k ⊎ (Contains has k × (Contains others k → ⊥)))
+pub unlike_all : (others initial has rest new : List GraphLink) → rest ≡ [] → ((k : GraphLink) → (Contains new k ⊎ (Contains rest k × (Contains others k → ⊥))) ↔ (Contains initial k ⊎ (Contains has k × (Contains others k → ⊥))))
+    → (k : GraphLink) → Contains new k ↔ (Contains initial k ⊎ (Contains has k × (Contains others k → ⊥)))
 unlike_all others initial has rest new done before k = (
   λ c. (before k).0 (inl c),
-  λ h. ⊎_elim (λ (c : Contains new k). c) (λ (n : Contains rest k × (Contains others k → ⊥)). absurd (no_element k (subst (λ (ls : List Link). Contains ls k) done n.0))) ((before k).1 h),
+  λ h. ⊎_elim (λ (c : Contains new k). c) (λ (n : Contains rest k × (Contains others k → ⊥)). absurd (no_element k (subst (λ (ls : List GraphLink). Contains ls k) done n.0))) ((before k).1 h),
 )

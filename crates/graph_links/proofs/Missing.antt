@@ -14,16 +14,16 @@ use Rattle.ospf_types.specs.Vertices.{vertex_cmp}
 use Rattle.ospf_types.proofs.Elements.{no_element, mapped_element, mapped_from}
 use Rattle.graph_links.specs.declared.link_end.LinkEnd.{LinkEnd}
 use Rattle.graph_links.specs.declared.row_update.RowUpdate.{RowUpdate}
-use Rattle.graph_links.specs.declared.link.Link.{Link}
+use Rattle.graph_links.specs.declared.link.GraphLink.{GraphLink}
 use Rattle.graph_links.specs.declared.link.Up.{Up}
 use Rattle.graph_links.specs.declared.row.Row.{Row}
 use Rattle.graph_links.specs.Pairs.{AreApart}
-use Rattle.graph_links.specs.Sides.{AreFresh, AreMissing, AreOfFresh, AreOut, AreOwn, AreRowsBy, IsBrought, IsFreshRow, IsRow, IsTaken, Leading, LinksBy, RowList, ends_or, out_of, row_ends}
+use Rattle.graph_links.specs.Sides.{AreFresh, AreMissing, AreOfFresh, AreOut, AreOwn, AreRowsBy, IsBrought, IsFreshRow, IsRow, IsLinkRemoved, Leading, LinksBy, RowList, ends_or, out_of, row_ends}
 use Rattle.graph_links.proofs.Apart.{apart_nil}
 use Rattle.graph_links.proofs.PairAlike.{pair_names}
 
 -- just the links out of a vertex, without duplicates
-abbrev AreAllOut : Links → Vertex → List Link → Type 0
+abbrev AreAllOut : Links → Vertex → List GraphLink → Type 0
 AreAllOut Link_of v links = AreOut Link_of v links × AreApart links
 
 -- a vertex that is not there leads nowhere
@@ -73,7 +73,7 @@ module _ (root root_new : ℕ) (ups ups_new : List Up) (rows : RowList) (after :
     fresh_of : (v : Vertex) → Contains touched v → (f : RowUpdate) × Contains fresh f × (f.vertex ≡ v)
     fresh_of v there = mapped_from (λ (g : RowUpdate). g.vertex) fresh v (subst (λ (vs : List Vertex). Contains vs v) (sym are.each) there)
 
-    pub taken_missing : (gone : List Link) → AreOfFresh (IsTaken rows) fresh gone → AreMissing touched Was Is gone
+    pub taken_missing : (gone : List GraphLink) → AreOfFresh (IsLinkRemoved rows) fresh gone → AreMissing touched Was Is gone
     taken_missing gone of l = (
       λ c.
           let h = (of l).0 c in
@@ -84,7 +84,7 @@ module _ (root root_new : ℕ) (ups ups_new : List Up) (rows : RowList) (after :
           (of l).1 (f.0, f.1, (((before f.0.vertex).0 l).1 (sym f.2, h.1), λ c. h.2 (((now f.0 f.1).0 l).0 c).1)),
     )
 
-    pub brought_missing : (came : List Link) → AreOfFresh (IsBrought rows) fresh came → AreMissing touched Is Was came
+    pub brought_missing : (came : List GraphLink) → AreOfFresh (IsBrought rows) fresh came → AreMissing touched Is Was came
     brought_missing came of l = (
       λ c.
           let h = (of l).0 c in

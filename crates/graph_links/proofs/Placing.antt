@@ -11,8 +11,8 @@ use Rattle.ospf_types.specs.Vertices.{vertex_cmp}
 use Rattle.ospf_types.proofs.Elements.{no_element, first_element, first_or_later, mapped_element, mapped_from}
 use Rattle.graph_links.specs.declared.row_update.RowUpdate.{RowUpdate}
 use Rattle.graph_links.specs.declared.row.Row.{Row}
-use Rattle.graph_links.specs.Sides.{Leading, RowList, IsFreshRow, AreFresh, IsPlaced}
-use Rattle.graph_links.specs.Sides.{IsChanged}
+use Rattle.graph_links.specs.Sides.{Leading, RowList, IsFreshRow, AreFresh, AreRowsPlaced}
+use Rattle.graph_links.specs.Sides.{AreRowsChanged}
 use Rattle.graph_links.proofs.VertexTests.{is_vertex, one_or_other, found_own, found_other}
 
 -- ---- rows made one after another
@@ -34,10 +34,10 @@ fresh_all leading Link_of vertices i fresh past are = subst (λ (vs : List Verte
 
 -- ---- and placed one after another
 
-pub place_none : (rows : RowList) → IsPlaced [] rows rows
+pub place_none : (rows : RowList) → AreRowsPlaced [] rows rows
 place_none rows v = inr (λ f there. absurd (no_element f there), refl)
 
-pub one_placed : (f : RowUpdate) (row : Option Row) (es fs : RowList) → f.row ≡ row → ((v : Vertex) → find vertex_cmp v fs ≡ cond (is_vertex v f.vertex) row (find vertex_cmp v es)) → IsPlaced (f ∷ []) es fs
+pub one_placed : (f : RowUpdate) (row : Option Row) (es fs : RowList) → f.row ≡ row → ((v : Vertex) → find vertex_cmp v fs ≡ cond (is_vertex v f.vertex) row (find vertex_cmp v es)) → AreRowsPlaced (f ∷ []) es fs
 one_placed f row es fs is updates v =
     ⊎_elim (λ (same : v ≡ f.vertex). inl (f, first_element f [], sym same, ap (λ u. find vertex_cmp u fs) same ∙ found_own es fs f.vertex row updates ∙ sym is))
     (λ (other : v ≢ f.vertex). inr (λ g there same. other (⊎_elim (λ (e : g ≡ f). sym same ∙ ap (λ (h : RowUpdate). h.vertex) e) (λ (n : Contains [] g). absurd (no_element g n)) (first_or_later f g [] there)), found_other es fs f.vertex row updates v other))
@@ -51,7 +51,7 @@ module _ (f : RowUpdate) (fs : List RowUpdate) (old mid new : RowList) where
   Lacks gs v = (g : RowUpdate) → Contains gs g → g.vertex ≢ v
 
   -- the last first, and then those before it
-  pub place_last : IsPlaced (f ∷ []) old mid → IsPlaced fs mid new → IsPlaced (fs ++ f ∷ []) old new
+  pub place_last : AreRowsPlaced (f ∷ []) old mid → AreRowsPlaced fs mid new → AreRowsPlaced (fs ++ f ∷ []) old new
   place_last one rest v =
       ⊎_elim (λ (h : Has fs new v). inl (h.0, Contains-append_left fs (f ∷ []) h.0 h.1, h.2, h.3))
       (λ (n : Lacks fs v × (find vertex_cmp v new ≡ find vertex_cmp v mid)).
@@ -61,7 +61,7 @@ module _ (f : RowUpdate) (fs : List RowUpdate) (old mid new : RowList) where
 
 -- ---- the whole change
 
-pub placed_changed : (leading : Leading) (Link_of : Links) (vertices : List Vertex) (fresh : List RowUpdate) (old new : RowList) → AreFresh leading Link_of vertices fresh → IsPlaced fresh old new → IsChanged leading Link_of vertices old new
+pub placed_changed : (leading : Leading) (Link_of : Links) (vertices : List Vertex) (fresh : List RowUpdate) (old new : RowList) → AreFresh leading Link_of vertices fresh → AreRowsPlaced fresh old new → AreRowsChanged leading Link_of vertices old new
 placed_changed leading Link_of vertices fresh old new are placed v =
     ⊎_elim (λ (h : (f : RowUpdate) × Contains fresh f × (f.vertex ≡ v) × (find vertex_cmp v new ≡ f.row)).
     inl (

@@ -10,7 +10,7 @@ use Rattle.std.proofs.lemmas.List.Elements.{Contains-append_left, Contains-appen
 use Rattle.ospf_types.specs.declared.entry.Vertex.{Vertex}
 use Rattle.ospf_types.proofs.Elements.{no_element, first_or_later, mapped_element}
 use Rattle.graph_links.specs.declared.row_update.RowUpdate.{RowUpdate}
-use Rattle.graph_links.specs.declared.link.Link.{Link}
+use Rattle.graph_links.specs.declared.link.GraphLink.{GraphLink}
 use Rattle.graph_links.specs.Pairs.{AreApart}
 use Rattle.graph_links.specs.Sides.{AreLinksOut, AreOfFresh}
 use Rattle.graph_links.proofs.Apart.{Apart, apart_append, apart_cons, apart_first, apart_nil, apart_rest, apart_without, not_among_earlier}
@@ -94,8 +94,8 @@ module _ {X : Type 0} where
       (subst (λ (zs : List X). Apart zs) (ap (λ (ys : List X). old ++ ys) (sym (parts n xs)) ∙ sym (append_assoc old (take n xs) (drop n xs))) apart)
 
 -- a list that grows by what is before a back
-pub grown_before : (n m : ℕ) (xs ys old new : List Link) → drop n xs ≡ drop m ys → AreApart xs → ((l : Link) → Contains new l ↔ (Contains old l ⊎ (Contains (take n xs) l × (Contains (take m ys) l → ⊥))))
-    → (l : Link) → Contains new l ↔ (Contains old l ⊎ (Contains xs l × (Contains ys l → ⊥)))
+pub grown_before : (n m : ℕ) (xs ys old new : List GraphLink) → drop n xs ≡ drop m ys → AreApart xs → ((l : GraphLink) → Contains new l ↔ (Contains old l ⊎ (Contains (take n xs) l × (Contains (take m ys) l → ⊥))))
+    → (l : GraphLink) → Contains new l ↔ (Contains old l ⊎ (Contains xs l × (Contains ys l → ⊥)))
 grown_before n m xs ys old new same apart grown l =
     let both = before_same n m xs ys same apart l in (
       λ c. ⊎_elim (λ (was : Contains old l). inl was) (λ (h : Contains (take n xs) l × (Contains (take m ys) l → ⊥)). inr (both.0 h)) ((grown l).0 c),
@@ -103,8 +103,8 @@ grown_before n m xs ys old new same apart grown l =
     )
 
 -- a list that grows by what is behind
-pub grown_behind : (n : ℕ) (xs ys old new : List Link) → take n xs ≡ take n ys → AreApart xs → ((l : Link) → Contains new l ↔ (Contains old l ⊎ (Contains (drop n xs) l × (Contains (drop n ys) l → ⊥))))
-    → (l : Link) → Contains new l ↔ (Contains old l ⊎ (Contains xs l × (Contains ys l → ⊥)))
+pub grown_behind : (n : ℕ) (xs ys old new : List GraphLink) → take n xs ≡ take n ys → AreApart xs → ((l : GraphLink) → Contains new l ↔ (Contains old l ⊎ (Contains (drop n xs) l × (Contains (drop n ys) l → ⊥))))
+    → (l : GraphLink) → Contains new l ↔ (Contains old l ⊎ (Contains xs l × (Contains ys l → ⊥)))
 grown_behind n xs ys old new same apart grown l =
     let both = behind_same n xs ys same apart l in (
       λ c. ⊎_elim (λ (was : Contains old l). inl was) (λ (h : Contains (drop n xs) l × (Contains (drop n ys) l → ⊥)). inr (both.0 h)) ((grown l).0 c),
@@ -116,14 +116,14 @@ grown_behind n xs ys old new same apart grown l =
 abbrev vertex_of : RowUpdate → Vertex
 vertex_of f = f.vertex
 
-module _ (P : Link → RowUpdate → Type 0) where
-  pub of_none : (links : List Link) → links ≡ [] → AreOfFresh P [] links
+module _ (P : GraphLink → RowUpdate → Type 0) where
+  pub of_none : (links : List GraphLink) → links ≡ [] → AreOfFresh P [] links
   of_none links none l = (
-    λ c. absurd (no_element l (subst (λ (ls : List Link). Contains ls l) none c)),
+    λ c. absurd (no_element l (subst (λ (ls : List GraphLink). Contains ls l) none c)),
     λ h. absurd (no_element h.0 h.1),
   )
 
-  pub of_more : (fresh : List RowUpdate) (i : ℕ) (d : RowUpdate) → i < length fresh → (old new : List Link) → AreOfFresh P (take i fresh) old → ((l : Link) → Contains new l ↔ (Contains old l ⊎ P l (get_or fresh i d)))
+  pub of_more : (fresh : List RowUpdate) (i : ℕ) (d : RowUpdate) → i < length fresh → (old new : List GraphLink) → AreOfFresh P (take i fresh) old → ((l : GraphLink) → Contains new l ↔ (Contains old l ⊎ P l (get_or fresh i d)))
       → AreOfFresh P (take (i + 1) fresh) new
   of_more fresh i d lt old new before one l =
       let all = more_at fresh i d lt in (
@@ -135,7 +135,7 @@ module _ (P : Link → RowUpdate → Type 0) where
             (λ (same : h.0 ≡ get_or fresh i d). (one l).1 (inr (subst (P l) same h.2))) ((all h.0).0 h.1),
       )
 
-  pub of_all : (fresh : List RowUpdate) (i : ℕ) (links : List Link) → length fresh ≤ i → AreOfFresh P (take i fresh) links → AreOfFresh P fresh links
+  pub of_all : (fresh : List RowUpdate) (i : ℕ) (links : List GraphLink) → length fresh ≤ i → AreOfFresh P (take i fresh) links → AreOfFresh P fresh links
   of_all fresh i links past are = subst (λ (fs : List RowUpdate). AreOfFresh P fs links) (take_all i fresh past) are
 
   mapped_front : (i : ℕ) (fs : List RowUpdate) → map vertex_of (take i fs) ≡ take i (map vertex_of fs)
@@ -144,7 +144,7 @@ module _ (P : Link → RowUpdate → Type 0) where
   mapped_front (suc i) (f ∷ fs) = ap (λ (vs : List Vertex). vertex_of f ∷ vs) (mapped_front i fs)
 
   -- links of the next row were of none before
-  pub kept_apart : (fresh : List RowUpdate) (at : (l : Link) (f : RowUpdate) → Contains fresh f → P l f → l.from ≡ f.vertex) (i : ℕ) (d : RowUpdate) → i < length fresh → Apart (map vertex_of fresh) → (old more : List Link)
+  pub kept_apart : (fresh : List RowUpdate) (at : (l : GraphLink) (f : RowUpdate) → Contains fresh f → P l f → l.from ≡ f.vertex) (i : ℕ) (d : RowUpdate) → i < length fresh → Apart (map vertex_of fresh) → (old more : List GraphLink)
       → AreOfFresh P (take i fresh) old → AreLinksOut (get_or fresh i d).vertex more → AreApart old → AreApart (old ++ more)
   kept_apart fresh at i d lt once old more are out apart =
       let here : get_or (map vertex_of fresh) i d.vertex ≡ (get_or fresh i d).vertex = get_or-map vertex_of fresh i d d.vertex lt in
@@ -159,14 +159,14 @@ module _ (P : Link → RowUpdate → Type 0) where
 -- ---- links that are not among others
 
 -- just those that there were, and those of the front that are not among the others
-abbrev pub AreMissingUpTo : List Link → List Link → List Link → ℕ → List Link → Type 0
-AreMissingUpTo others old has i new = (l : Link) → Contains new l ↔ (Contains old l ⊎ (Contains (take i has) l × (Contains others l → ⊥)))
+abbrev pub AreMissingUpTo : List GraphLink → List GraphLink → List GraphLink → ℕ → List GraphLink → Type 0
+AreMissingUpTo others old has i new = (l : GraphLink) → Contains new l ↔ (Contains old l ⊎ (Contains (take i has) l × (Contains others l → ⊥)))
 
-pub missing_none : (others old has : List Link) → AreMissingUpTo others old has 0 old
+pub missing_none : (others old has : List GraphLink) → AreMissingUpTo others old has 0 old
 missing_none others old has l = (λ c. inl c, λ h. elim h [ inl was ↦ was | inr n ↦ absurd (no_element l n.0) ])
 
-pub missing_more : (others old has : List Link) (i : ℕ) (d : Link) (mid new : List Link) → i < length has → AreMissingUpTo others old has i mid
-    → ((l : Link) → Contains new l ↔ (Contains mid l ⊎ ((l ≡ get_or has i d) × (Contains others l → ⊥)))) → AreMissingUpTo others old has (i + 1) new
+pub missing_more : (others old has : List GraphLink) (i : ℕ) (d : GraphLink) (mid new : List GraphLink) → i < length has → AreMissingUpTo others old has i mid
+    → ((l : GraphLink) → Contains new l ↔ (Contains mid l ⊎ ((l ≡ get_or has i d) × (Contains others l → ⊥)))) → AreMissingUpTo others old has (i + 1) new
 missing_more others old has i d mid new lt before one l =
     let all = more_at has i d lt l in (
       λ c. elim ((one l).0 c) [
@@ -179,48 +179,48 @@ missing_more others old has i d mid new lt before one l =
       ]),
     )
 
-pub missing_all : (others old has : List Link) (i : ℕ) (new : List Link) → length has ≤ i → AreMissingUpTo others old has i new → (l : Link) → Contains new l ↔ (Contains old l ⊎ (Contains has l × (Contains others l → ⊥)))
-missing_all others old has i new past are = subst (λ (ls : List Link). (l : Link) → Contains new l ↔ (Contains old l ⊎ (Contains ls l × (Contains others l → ⊥)))) (take_all i has past) are
+pub missing_all : (others old has : List GraphLink) (i : ℕ) (new : List GraphLink) → length has ≤ i → AreMissingUpTo others old has i new → (l : GraphLink) → Contains new l ↔ (Contains old l ⊎ (Contains has l × (Contains others l → ⊥)))
+missing_all others old has i new past are = subst (λ (ls : List GraphLink). (l : GraphLink) → Contains new l ↔ (Contains old l ⊎ (Contains ls l × (Contains others l → ⊥)))) (take_all i has past) are
 
 -- ---- a list of copies
 
-pub copied_more : (links : List Link) (i : ℕ) (d : Link) (made new : List Link) (copy : Link) → i < length links → made ≡ take i links → copy ≡ get_or links i d → new ≡ made ++ copy ∷ [] → new ≡ take (i + 1) links
+pub copied_more : (links : List GraphLink) (i : ℕ) (d : GraphLink) (made new : List GraphLink) (copy : GraphLink) → i < length links → made ≡ take i links → copy ≡ get_or links i d → new ≡ made ++ copy ∷ [] → new ≡ take (i + 1) links
 copied_more links i d made new copy lt were is grown =
-    grown ∙ ap (λ (ls : List Link). ls ++ copy ∷ []) were ∙ ap (λ (l : Link). take i links ++ l ∷ []) is ∙ sym (take_more links i d lt)
+    grown ∙ ap (λ (ls : List GraphLink). ls ++ copy ∷ []) were ∙ ap (λ (l : GraphLink). take i links ++ l ∷ []) is ∙ sym (take_more links i d lt)
 
 -- ---- fronts that are the same
 
-pub same_more : (xs ys : List Link) (i : ℕ) (d e : Link) → i < length xs → i < length ys → take i xs ≡ take i ys → get_or xs i d ≡ get_or ys i e → take (i + 1) xs ≡ take (i + 1) ys
+pub same_more : (xs ys : List GraphLink) (i : ℕ) (d e : GraphLink) → i < length xs → i < length ys → take i xs ≡ take i ys → get_or xs i d ≡ get_or ys i e → take (i + 1) xs ≡ take (i + 1) ys
 same_more xs ys i d e lt within same is =
-    take_more xs i d lt ∙ ap (λ (ls : List Link). ls ++ get_or xs i d ∷ []) same ∙ ap (λ (l : Link). take i ys ++ l ∷ []) is ∙ sym (take_more ys i e within)
+    take_more xs i d lt ∙ ap (λ (ls : List GraphLink). ls ++ get_or xs i d ∷ []) same ∙ ap (λ (l : GraphLink). take i ys ++ l ∷ []) is ∙ sym (take_more ys i e within)
 
-pub same_whole : (xs ys : List Link) (i : ℕ) → length xs ≤ i → i ≤ length xs → take i xs ≡ take i ys → take (length xs) xs ≡ take (length xs) ys
+pub same_whole : (xs ys : List GraphLink) (i : ℕ) → length xs ≤ i → i ≤ length xs → take i xs ≡ take i ys → take (length xs) xs ≡ take (length xs) ys
 same_whole xs ys i past within same =
     let all : i ≡ length xs = omega (arith, past, within) in
     subst (λ (n : ℕ). take n xs ≡ take n ys) all same
 
 -- ---- backs that are the same
 
-pub same_none : (xs ys : List Link) → drop (length xs - 0) xs ≡ drop (length ys - 0) ys
+pub same_none : (xs ys : List GraphLink) → drop (length xs - 0) xs ≡ drop (length ys - 0) ys
 same_none xs ys = drop_all (length xs - 0) xs (omega arith) ∙ sym (drop_all (length ys - 0) ys (omega arith))
 
 -- one more in front of a back
-one_more : (xs : List Link) (i : ℕ) (d : Link) → i < length xs → drop (length xs - (i + 1)) xs ≡ get_or xs (length xs - 1 - i) d ∷ drop (length xs - i) xs
+one_more : (xs : List GraphLink) (i : ℕ) (d : GraphLink) → i < length xs → drop (length xs - (i + 1)) xs ≡ get_or xs (length xs - 1 - i) d ∷ drop (length xs - i) xs
 one_more xs i d lt =
     let here : length xs - (i + 1) ≡ length xs - 1 - i = omega arith in
     let next : length xs - 1 - i + 1 ≡ length xs - i = omega (arith, lt) in
     ap (λ (n : ℕ). drop n xs) here ∙ drop_more xs (length xs - 1 - i) d (omega (arith, lt)) ∙ ap (λ (n : ℕ). get_or xs (length xs - 1 - i) d ∷ drop n xs) next
 
-pub same_back_more : (xs ys : List Link) (i : ℕ) (d e : Link) → i < length xs → i < length ys → drop (length xs - i) xs ≡ drop (length ys - i) ys → get_or xs (length xs - 1 - i) d ≡ get_or ys (length ys - 1 - i) e
+pub same_back_more : (xs ys : List GraphLink) (i : ℕ) (d e : GraphLink) → i < length xs → i < length ys → drop (length xs - i) xs ≡ drop (length ys - i) ys → get_or xs (length xs - 1 - i) d ≡ get_or ys (length ys - 1 - i) e
     → drop (length xs - (i + 1)) xs ≡ drop (length ys - (i + 1)) ys
 same_back_more xs ys i d e lt within same is =
-    one_more xs i d lt ∙ ap (λ (ls : List Link). get_or xs (length xs - 1 - i) d ∷ ls) same ∙ ap (λ (l : Link). l ∷ drop (length ys - i) ys) is ∙ sym (one_more ys i e within)
+    one_more xs i d lt ∙ ap (λ (ls : List GraphLink). get_or xs (length xs - 1 - i) d ∷ ls) same ∙ ap (λ (l : GraphLink). l ∷ drop (length ys - i) ys) is ∙ sym (one_more ys i e within)
 
 -- ---- what comes after a front
 
-pub rest_is : (n : ℕ) (links : List Link) → take (length links - n) (drop n links) ≡ drop n links
+pub rest_is : (n : ℕ) (links : List GraphLink) → take (length links - n) (drop n links) ≡ drop n links
 rest_is n links = take_all (length links - n) (drop n links) (let long = length-drop n links in omega (arith, long))
 
 -- and nothing occurs twice there
-pub apart_rests : (n : ℕ) (links : List Link) → AreApart links → AreApart (take (length links - n) (drop n links))
+pub apart_rests : (n : ℕ) (links : List GraphLink) → AreApart links → AreApart (take (length links - n) (drop n links))
 apart_rests n links apart = subst AreApart (sym (rest_is n links)) (apart_drop n [] links apart)

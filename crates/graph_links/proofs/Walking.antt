@@ -19,7 +19,7 @@ use Rattle.ospf_types.specs.Distances.{Links}
 use Rattle.ospf_types.specs.Vertices.{vertex_cmp}
 use Rattle.ospf_types.proofs.Elements.{no_element}
 use Rattle.graph_links.specs.declared.link_end.LinkEnd.{LinkEnd}
-use Rattle.graph_links.specs.declared.link.Link.{Link}
+use Rattle.graph_links.specs.declared.link.GraphLink.{GraphLink}
 use Rattle.graph_links.specs.EndOrder.{end_cmp}
 use Rattle.graph_links.specs.declared.link.Up.{Up}
 use Rattle.graph_links.specs.Pairs.{AreAllAt, Names}
@@ -125,37 +125,37 @@ not_named v xs first within low named =
 -- ---- the links so far
 
 -- a link out of the vertex, and one into it
-abbrev pub IsLinkOut : Links → Vertex → Link → Type 0
+abbrev pub IsLinkOut : Links → Vertex → GraphLink → Type 0
 IsLinkOut Link_of v l = (l.from ≡ v) × Link_of l.from l.to l.cost l.label
 
-abbrev pub IsLinkInto : Links → Vertex → Link → Type 0
+abbrev pub IsLinkInto : Links → Vertex → GraphLink → Type 0
 IsLinkInto Link_of v l = (l.to ≡ v) × Link_of l.from l.to l.cost l.label
 
 -- a vertex names those that it has links to, and those that have links to it
 module _ (root : ℕ) (ups : List Up) (leading : Leading) (v : Vertex) (ends : List LinkEnd) (are : ends ≡ ends_or (leading v)) where
-  pub out_named : (l : Link) → IsLinkOut (LinksBy root ups leading) v l → Names ends l.to
+  pub out_named : (l : GraphLink) → IsLinkOut (LinksBy root ups leading) v l → Names ends l.to
   out_named l is =
       let link : LinksBy root ups leading v l.to l.cost l.label = subst (λ (u : Vertex). LinksBy root ups leading u l.to l.cost l.label) is.0 is.1 in
       subst (λ (es : List LinkEnd). Names es l.to) (sym are) (pair_names root ups v l.to (ends_or (leading v)) (ends_or (leading l.to)) l.cost l.label link)
 
-  pub into_named : (l : Link) → IsLinkInto (LinksBy root ups leading) v l → Names ends l.from
+  pub into_named : (l : GraphLink) → IsLinkInto (LinksBy root ups leading) v l → Names ends l.from
   into_named l is =
       let link : LinksBy root ups leading l.from v l.cost l.label = subst (λ (u : Vertex). LinksBy root ups leading l.from u l.cost l.label) is.0 is.1 in
       subst (λ (es : List LinkEnd). Names es l.from) (sym are) (pair_named root ups l.from v (ends_or (leading l.from)) (ends_or (leading v)) l.cost l.label link)
 
-module _ (Is : Link → Type 0) (at : Link → Vertex) (xs : List LinkEnd) where
+module _ (Is : GraphLink → Type 0) (at : GraphLink → Vertex) (xs : List LinkEnd) where
   -- just the links to or from the vertices that the ends up to a place are at
-  abbrev pub AreWalked : ℕ → List Link → Type 0
-  AreWalked i links = (l : Link) → Contains links l ↔ (Is l × Names (take i xs) (at l))
+  abbrev pub AreWalked : ℕ → List GraphLink → Type 0
+  AreWalked i links = (l : GraphLink) → Contains links l ↔ (Is l × Names (take i xs) (at l))
 
-  pub walked_none : (links : List Link) → links ≡ [] → AreWalked 0 links
+  pub walked_none : (links : List GraphLink) → links ≡ [] → AreWalked 0 links
   walked_none links none l = (
-    λ c. absurd (no_element l (subst (λ (ls : List Link). Contains ls l) none c)),
+    λ c. absurd (no_element l (subst (λ (ls : List GraphLink). Contains ls l) none c)),
     λ h. absurd (no_element h.1.0 h.1.1),
   )
 
-  pub walked_more : (v : Vertex) (first past : ℕ) (old new : List Link) (IsNew : Link → Type 0) → ((w : Vertex) → Names (take past xs) w ↔ (Names (take first xs) w ⊎ (w ≡ v))) → ((l : Link) → IsNew l ↔ (Is l × (at l ≡ v)))
-      → ((l : Link) → Contains new l ↔ (Contains old l ⊎ IsNew l)) → AreWalked first old → AreWalked past new
+  pub walked_more : (v : Vertex) (first past : ℕ) (old new : List GraphLink) (IsNew : GraphLink → Type 0) → ((w : Vertex) → Names (take past xs) w ↔ (Names (take first xs) w ⊎ (w ≡ v))) → ((l : GraphLink) → IsNew l ↔ (Is l × (at l ≡ v)))
+      → ((l : GraphLink) → Contains new l ↔ (Contains old l ⊎ IsNew l)) → AreWalked first old → AreWalked past new
   walked_more v first past old new IsNew names is one were l = (
     λ c. elim ((one l).0 c) [
       | inl was ↦ (let h = (were l).0 was in (h.0, (names (at l)).1 (inl h.1)))
@@ -164,7 +164,7 @@ module _ (Is : Link → Type 0) (at : Link → Vertex) (xs : List LinkEnd) where
     λ h. (one l).1 (elim ((names (at l)).0 h.1) [ inl early ↦ inl ((were l).1 (h.0, early)) | inr same ↦ inr ((is l).1 (h.0, same)) ]),
   )
 
-  pub walked_all : (i : ℕ) (links : List Link) → length xs ≤ i → ((l : Link) → Is l → Names xs (at l)) → AreWalked i links → (l : Link) → Contains links l ↔ Is l
+  pub walked_all : (i : ℕ) (links : List GraphLink) → length xs ≤ i → ((l : GraphLink) → Is l → Names xs (at l)) → AreWalked i links → (l : GraphLink) → Contains links l ↔ Is l
   walked_all i links past named are l =
       let all : take i xs ≡ xs = take_all i xs past in (
         λ c. ((are l).0 c).0,
@@ -172,5 +172,5 @@ module _ (Is : Link → Type 0) (at : Link → Vertex) (xs : List LinkEnd) where
       )
 
   -- none of them goes to the next vertex
-  pub walked_others : (v : Vertex) (first : ℕ) (links : List Link) → first ≤ length xs → IsFirst v xs first → AreWalked first links → (l : Link) → Contains links l → at l ≡ v → ⊥
+  pub walked_others : (v : Vertex) (first : ℕ) (links : List GraphLink) → first ≤ length xs → IsFirst v xs first → AreWalked first links → (l : GraphLink) → Contains links l → at l ≡ v → ⊥
   walked_others v first links within low are l c same = not_named v xs first within low (subst (Names (take first xs)) same ((are l).0 c).1)

@@ -23,10 +23,10 @@ use Rattle.ospf_types.proofs.Elements.{first_element, first_or_later, mapped_ele
 use Rattle.graph_links.specs.contracts.parallel_links.ParallelLinkOrd.TheImpl as way_order
 use Rattle.graph_links.specs.contracts.parallel_links.ParallelLinkPartialEq.TheImpl as way_equality
 use Rattle.graph_links.specs.declared.link_end.LinkEnd.{LinkEnd}
-use Rattle.graph_links.specs.declared.link.Link.{Link}
+use Rattle.graph_links.specs.declared.link.GraphLink.{GraphLink}
 use Rattle.graph_links.specs.declared.link.Up.{Up}
 use Rattle.graph_links.specs.declared.parallel_links.ParallelLink.{ParallelLink}
-use Rattle.graph_links.specs.Pairs.{Adds, AreApart, AreCheap, IsOutLabel, IsWay, IsWayOver, KeepsApart, Names, label_over, link_by, plain_ways}
+use Rattle.graph_links.specs.Pairs.{AddsToList, AreApart, AreCheap, IsOutLabel, IsWay, IsWayOver, KeepsLinksApart, Names, label_over, link_by, plain_ways}
 use Rattle.graph_links.proofs.Adding.{AreWaysBy, adds_list}
 use Rattle.graph_links.proofs.Apart.{Apart, apart_append, apart_cons, apart_mapped, apart_nil, apart_strict}
 use Rattle.graph_links.proofs.Pairing.{IsFromTo}
@@ -106,7 +106,7 @@ label_back root router detail ups (Over id) is = refl
 label_back root router detail ups (At addresses) is = absurd is
 label_back root router detail ups Plain is = refl
 
-abbrev way_of : Link → ParallelLink
+abbrev way_of : GraphLink → ParallelLink
 way_of l = record { cost = l.cost; interface = interface_of l.label }
 
 way_back : (from to : Vertex) (w : ParallelLink) → way_of (link_by from to w) ≡ w
@@ -116,7 +116,7 @@ link_one : (from to : Vertex) (v w : ParallelLink) → link_by from to v ≡ lin
 link_one from to v w same = sym (way_back from to v) ∙ ap way_of same ∙ way_back from to w
 
 module _ (root router : ℕ) (ups : List Up) (to : Vertex) (ends back here : List LinkEnd) (ways : List ParallelLink) (exact : (e : LinkEnd) → Contains here e ↔ (Contains ends e × (e.to ≡ to))) (are : AreWaysBy root ups router here ways) where
-  by_ways : Names back (Router router) → (l : Link) → Contains (map (link_by (Router router) to) ways) l ↔ IsFromTo root ups (Router router) ends to back l
+  by_ways : Names back (Router router) → (l : GraphLink) → Contains (map (link_by (Router router) to) ways) l ↔ IsFromTo root ups (Router router) ends to back l
   by_ways named l = (
     λ c.
         let from = mapped_from (link_by (Router router) to) ways l c in
@@ -130,20 +130,20 @@ module _ (root router : ℕ) (ups : List Up) (to : Vertex) (ends back here : Lis
         subst (Contains (map (link_by (Router router) to) ways)) same (mapped_element (link_by (Router router) to) ways (way_of l) there),
   )
 
-  module _ (from : Vertex) (old new : List Link) (is : from ≡ Router router) (listed : new ≡ old ++ map (link_by from to) ways) where
+  module _ (from : Vertex) (old new : List GraphLink) (is : from ≡ Router router) (listed : new ≡ old ++ map (link_by from to) ways) where
     -- the links of a router to a vertex that leads back are those by its ways there
-    pub adds_ways : Names back from → Adds old new (IsFromTo root ups from ends to back)
+    pub adds_ways : Names back from → AddsToList old new (IsFromTo root ups from ends to back)
     adds_ways named =
-        let links : (l : Link) → Contains (map (link_by from to) ways) l ↔ IsFromTo root ups from ends to back l =
-        subst (λ (v : Vertex). Names back v → (l : Link) → Contains (map (link_by v to) ways) l ↔ IsFromTo root ups v ends to back l) (sym is) by_ways named in
-        subst (λ (ls : List Link). Adds old ls (IsFromTo root ups from ends to back)) (sym listed) (adds_list old (map (link_by from to) ways) (IsFromTo root ups from ends to back) links)
+        let links : (l : GraphLink) → Contains (map (link_by from to) ways) l ↔ IsFromTo root ups from ends to back l =
+        subst (λ (v : Vertex). Names back v → (l : GraphLink) → Contains (map (link_by v to) ways) l ↔ IsFromTo root ups v ends to back l) (sym is) by_ways named in
+        subst (λ (ls : List GraphLink). AddsToList old ls (IsFromTo root ups from ends to back)) (sym listed) (adds_list old (map (link_by from to) ways) (IsFromTo root ups from ends to back) links)
 
 -- none of which is there twice
-pub apart_ways : (from to : Vertex) (ways : List ParallelLink) (old new : List Link) → new ≡ old ++ map (link_by from to) ways → Apart ways → KeepsApart from to old new
+pub apart_ways : (from to : Vertex) (ways : List ParallelLink) (old new : List GraphLink) → new ≡ old ++ map (link_by from to) ways → Apart ways → KeepsLinksApart from to old new
 apart_ways from to ways old new listed once apart none =
     subst AreApart (sym listed)
     (apart_append old (map (link_by from to) ways) apart (apart_mapped (link_by from to) (link_one from to) ways once)
-    (λ l early late. let by = mapped_from (link_by from to) ways l late in none l early (sym (ap (λ (k : Link). k.from) by.2)) (sym (ap (λ (k : Link). k.to) by.2))))
+    (λ l early late. let by = mapped_from (link_by from to) ways l late in none l early (sym (ap (λ (k : GraphLink). k.from) by.2)) (sym (ap (λ (k : GraphLink). k.to) by.2))))
 
 -- ---- the way over one end, elsewhere than at the root
 
@@ -185,17 +185,17 @@ plain_once e =
 -- ---- links listed one by one
 
 -- the loop over ways, one on
-pub links_on : (from to : Vertex) (ways : List ParallelLink) (i : ℕ) (d : ParallelLink) (old now new : List Link) (l : Link) → i < length ways
+pub links_on : (from to : Vertex) (ways : List ParallelLink) (i : ℕ) (d : ParallelLink) (old now new : List GraphLink) (l : GraphLink) → i < length ways
     → now ≡ old ++ map (link_by from to) (take i ways) → new ≡ now ++ l ∷ [] → l ≡ link_by from to (get_or ways i d) → new ≡ old ++ map (link_by from to) (take (i + 1) ways)
 links_on from to ways i d old now new l lt before listed is =
     let f = link_by from to in
     listed ∙ (λ k. before k ++ is k ∷ []) ∙ append_assoc old (map f (take i ways)) (f (get_or ways i d) ∷ [])
-    ∙ ap (λ (ls : List Link). old ++ ls) (sym (map-append f (take i ways) (get_or ways i d ∷ [])) ∙ ap (λ (ws : List ParallelLink). map f ws) (sym (take_more ways i d lt)))
+    ∙ ap (λ (ls : List GraphLink). old ++ ls) (sym (map-append f (take i ways) (get_or ways i d ∷ [])) ∙ ap (λ (ws : List ParallelLink). map f ws) (sym (take_more ways i d lt)))
 
 -- and at its end
-pub links_all : (from to : Vertex) (ways : List ParallelLink) (i : ℕ) (old now : List Link) → length ways ≤ i → now ≡ old ++ map (link_by from to) (take i ways) → now ≡ old ++ map (link_by from to) ways
+pub links_all : (from to : Vertex) (ways : List ParallelLink) (i : ℕ) (old now : List GraphLink) → length ways ≤ i → now ≡ old ++ map (link_by from to) (take i ways) → now ≡ old ++ map (link_by from to) ways
 links_all from to ways i old now le before = before ∙ ap (λ (ws : List ParallelLink). old ++ map (link_by from to) ws) (take_all i ways le)
 
 -- a link more leaves metrics of 16 bits
-pub cheap_on : (now new : List Link) (l : Link) → new ≡ now ++ l ∷ [] → AreCheap now → l.cost < 65536 → AreCheap new
-cheap_on now new l listed cheap one = subst AreCheap (sym listed) (All-push (λ (k : Link). k.cost < 65536) now l cheap one)
+pub cheap_on : (now new : List GraphLink) (l : GraphLink) → new ≡ now ++ l ∷ [] → AreCheap now → l.cost < 65536 → AreCheap new
+cheap_on now new l listed cheap one = subst AreCheap (sym listed) (All-push (λ (k : GraphLink). k.cost < 65536) now l cheap one)

@@ -2,8 +2,8 @@
 use Rattle.std.specs.Prelude.{ℕ, List, [], ◌∷◌, Option, Some, None}
 use Rattle.ospf_types.specs.declared.label.Label.{Label}
 use Rattle.ospf_types.specs.declared.label.Label.TheVariants.{Over, At, Plain}
-use Rattle.graph_links.specs.declared.label.Kept.{Kept}
-use Rattle.graph_links.specs.declared.label.Kept.TheVariants as kept
+use Rattle.graph_links.specs.declared.label.StoredLabel.{StoredLabel}
+use Rattle.graph_links.specs.declared.label.StoredLabel.TheVariants as kept
 
 -- the interface that a link with this label leads over
 abbrev pub interface_of : Label → Option ℕ
@@ -18,7 +18,7 @@ addresses_of (At addresses) = addresses
 addresses_of Plain = []
 
 -- the label that is kept so
-abbrev pub label_of : Kept → Label
+abbrev pub label_of : StoredLabel → Label
 label_of (kept.Over id) = Over id
 label_of (kept.Single address) = At (address ∷ [])
 label_of (kept.Several addresses) = At addresses.value

@@ -6,7 +6,7 @@ use Rattle.ospf_types.specs.declared.entry.Vertex.{Vertex}
 use Rattle.ospf_types.specs.declared.entry.Vertex.TheVariants.{Router, Network}
 use Rattle.ospf_types.specs.declared.label.Label.{Label}
 use Rattle.ospf_types.specs.declared.label.Label.TheVariants.{Over, At, Plain}
-use Rattle.graph_links.specs.declared.link.Link.{Link}
+use Rattle.graph_links.specs.declared.link.GraphLink.{GraphLink}
 use Rattle.graph_links.specs.declared.link.Up.{Up}
 use Rattle.graph_links.specs.declared.link_end.LinkEnd.{LinkEnd}
 use Rattle.graph_links.specs.declared.vertex_pair.RootInterfaces.{RootInterfaces}
@@ -45,7 +45,7 @@ label_over None = Plain
 label_over (Some id) = Over id
 
 -- the link of a router to a vertex by this way
-abbrev pub link_by : Vertex → Vertex → ParallelLink → Link
+abbrev pub link_by : Vertex → Vertex → ParallelLink → GraphLink
 link_by from to way = record { from = from; to = to; cost = way.cost; label = label_over way.interface }
 
 -- a way of a router over one of its ends, whether that leads back or not
@@ -61,11 +61,11 @@ abbrev pub AreWays : RootInterfaces → ℕ → List LinkEnd → List ParallelLi
 AreWays local router ends ways = (w : ParallelLink) → Contains ways w ↔ IsWayOver local.root local.interfaces.now router ends w
 
 -- the links of a router by these ways are added, after those that there were
-abbrev pub AddsBy : VertexPair → List ParallelLink → List Link → List Link → Type 0
+abbrev pub AddsBy : VertexPair → List ParallelLink → List GraphLink → List GraphLink → Type 0
 AddsBy pair ways old new = new ≡ old ++ map (link_by pair.from.vertex pair.to.vertex) ways
 
 -- a link by each way of the router over its ends is added, after those that there were
-pub record AddsOver (pair : VertexPair) (router : ℕ) (old new : List Link) : Type 0 where
+pub record AddsOver (pair : VertexPair) (router : ℕ) (old new : List GraphLink) : Type 0 where
   pub ways : List ParallelLink
   pub exact : AreWays pair.local router pair.from.ends.now ways
   pub each_once : AllPairs (λ v w. v ≢ w) ways
@@ -76,43 +76,43 @@ abbrev pub plain_ways : LinkEnd → List ParallelLink
 plain_ways e = if e.metric == 0 then [] else record { cost = e.metric; interface = None } ∷ []
 
 -- the link over the one end of a router other than the root is added, if the metric is not 0
-abbrev pub AddsPlain : VertexPair → LinkEnd → List Link → List Link → Type 0
+abbrev pub AddsPlain : VertexPair → LinkEnd → List GraphLink → List GraphLink → Type 0
 AddsPlain pair e old new = AddsBy pair (plain_ways e) old new
 
 -- the link of a network to a vertex that leads to these ends, whether the network leads back or not
-abbrev pub IsOnto : Vertex → Vertex → List LinkEnd → Link → Type 0
+abbrev pub IsOnto : Vertex → Vertex → List LinkEnd → GraphLink → Type 0
 IsOnto network to back l =
     (l.from ≡ network) × (l.to ≡ to) × ((router : ℕ) × (to ≡ Router router)) × (l.cost ≡ 0)
     × ((addresses : List ℕ) × AreDetailsTo network back addresses × (l.label ≡ At addresses))
 
 -- the list has these in addition to its old elements
-abbrev pub Adds : {X : Type 0} → List X → List X → (X → Type 0) → Type 0
-Adds {X} old new Is = (x : X) → Contains new x ↔ (Contains old x ⊎ Is x)
+abbrev pub AddsToList : {X : Type 0} → List X → List X → (X → Type 0) → Type 0
+AddsToList {X} old new Is = (x : X) → Contains new x ↔ (Contains old x ⊎ Is x)
 
 -- the ways of a router over the end are added
 abbrev pub AddsWays : RootInterfaces → ℕ → LinkEnd → List ParallelLink → List ParallelLink → Type 0
-AddsWays local router e old new = Adds old new (IsWay local.root local.interfaces.now router e)
+AddsWays local router e old new = AddsToList old new (IsWay local.root local.interfaces.now router e)
 
 -- the ways of the root over the end and these interfaces are added
 abbrev pub AddsRootWays : ℕ → List Up → LinkEnd → List ParallelLink → List ParallelLink → Type 0
-AddsRootWays root ups e old new = Adds old new (IsWay root ups root e)
+AddsRootWays root ups e old new = AddsToList old new (IsWay root ups root e)
 
 -- the link of a network is added, if the other vertex is a router
-abbrev pub AddsOnto : VertexPair → List Link → List Link → Type 0
-AddsOnto pair old new = (back : List LinkEnd) → AreAllAt pair.from.vertex back pair.to.ends.now → Adds old new (IsOnto pair.from.vertex pair.to.vertex back)
+abbrev pub AddsOnto : VertexPair → List GraphLink → List GraphLink → Type 0
+AddsOnto pair old new = (back : List LinkEnd) → AreAllAt pair.from.vertex back pair.to.ends.now → AddsToList old new (IsOnto pair.from.vertex pair.to.vertex back)
 
 -- no link occurs twice
-abbrev pub AreApart : List Link → Type 0
+abbrev pub AreApart : List GraphLink → Type 0
 AreApart links = AllPairs (λ k l. k ≢ l) links
 
 -- none occurs twice in a list to which links from the one vertex to the other are added that it did
 -- not have
-abbrev pub KeepsApart : Vertex → Vertex → List Link → List Link → Type 0
-KeepsApart from to old new = AreApart old → ((l : Link) → Contains old l → l.from ≡ from → l.to ≡ to → ⊥) → AreApart new
+abbrev pub KeepsLinksApart : Vertex → Vertex → List GraphLink → List GraphLink → Type 0
+KeepsLinksApart from to old new = AreApart old → ((l : GraphLink) → Contains old l → l.from ≡ from → l.to ≡ to → ⊥) → AreApart new
 
 -- nor in one to which links out of a vertex are added that it did not have
-abbrev pub KeepsApartFrom : Vertex → List Link → List Link → Type 0
-KeepsApartFrom from old new = AreApart old → ((l : Link) → Contains old l → l.from ≡ from → ⊥) → AreApart new
+abbrev pub KeepsApartFrom : Vertex → List GraphLink → List GraphLink → Type 0
+KeepsApartFrom from old new = AreApart old → ((l : GraphLink) → Contains old l → l.from ≡ from → ⊥) → AreApart new
 
 -- the Link Data of the ends, without what equals the one before it
 abbrev pub details_of : List LinkEnd → List ℕ
@@ -140,17 +140,17 @@ abbrev pub turned : VertexPair → VertexPair
 turned pair = record { local = pair.local; from = pair.to; to = pair.from }
 
 -- the links from the one vertex to the other are added, where the two have these ends at each other
-abbrev pub AddsBetween : VertexPair → List Link → List Link → Type 0
+abbrev pub AddsBetween : VertexPair → List GraphLink → List GraphLink → Type 0
 AddsBetween pair old new =
     let from : Vertex = pair.from.vertex in
     let to : Vertex = pair.to.vertex in
     (ends back : List LinkEnd) → AreAllAt to ends pair.from.ends.now → AreAllAt from back pair.to.ends.now
-    → Adds old new (λ (l : Link). (l.from ≡ from) × (l.to ≡ to) × IsPairLink pair.local.root pair.local.interfaces.now from ends to back l.cost l.label)
+    → AddsToList old new (λ (l : GraphLink). (l.from ≡ from) × (l.to ≡ to) × IsPairLink pair.local.root pair.local.interfaces.now from ends to back l.cost l.label)
 
 -- the inputs other than LSAs that the links out of the vertex depend on are the same
 abbrev pub IsSameLocal : RootInterfaces → RootInterfaces → Vertex → Type 0
 IsSameLocal one other v = (one.root ≡ other.root) × ((v ≢ Router one.root) ⊎ (one.interfaces.now ≡ other.interfaces.now))
 
 -- metrics of links have 16 bits
-abbrev pub AreCheap : List Link → Type 0
-AreCheap links = All (λ (l : Link). l.cost < 65536) links
+abbrev pub AreCheap : List GraphLink → Type 0
+AreCheap links = All (λ (l : GraphLink). l.cost < 65536) links

@@ -7,8 +7,8 @@ use Rattle.ospf_types.specs.Vertices.{vertex_cmp}
 use Rattle.graph_links.specs.declared.row.Row.{Row}
 
 -- the vertex's row is at the place
-abbrev pub IsAt : List (Vertex × Row) → Vertex → ℕ → Type 0
-IsAt rows v place = (row : Row) × (slice_get rows place ≡ Some (v, row))
+abbrev pub IsRowAt : List (Vertex × Row) → Vertex → ℕ → Type 0
+IsRowAt rows v place = (row : Row) × (slice_get rows place ≡ Some (v, row))
 
 -- the vertex has this row, and each other vertex what it had
 abbrev pub PutsRow : Vertex → Row → List (Vertex × Row) → List (Vertex × Row) → Type 0
@@ -16,4 +16,4 @@ PutsRow v row old new = (w : Vertex) → find vertex_cmp w new ≡ (if eq_by_cmp
 
 -- the vertex whose row was at the place has this row, and each other vertex what it had
 abbrev pub PutsRowAt : ℕ → Row → List (Vertex × Row) → List (Vertex × Row) → Type 0
-PutsRowAt place row old new = (v : Vertex) → IsAt old v place → PutsRow v row old new
+PutsRowAt place row old new = (v : Vertex) → IsRowAt old v place → PutsRow v row old new

@@ -10,13 +10,13 @@ use Rattle.ospf_types.specs.Distances.{Links}
 use Rattle.ospf_types.specs.Vertices.{vertex_cmp}
 use Rattle.graph_links.specs.declared.link_end.LinkEnd.{LinkEnd}
 use Rattle.graph_links.specs.declared.row_update.RowUpdate.{RowUpdate}
-use Rattle.graph_links.specs.declared.link.Link.{Link}
+use Rattle.graph_links.specs.declared.link.GraphLink.{GraphLink}
 use Rattle.graph_links.specs.declared.link.Up.{Up}
 use Rattle.graph_links.specs.declared.row.Row.{Row}
 use Rattle.graph_links.specs.declared.graph_view.GraphView.{GraphView}
 use Rattle.graph_links.specs.EndOrder.{end_cmp}
 use Rattle.graph_links.specs.Differing.{IsOnlyIn}
-use Rattle.graph_links.specs.Pairs.{Adds, AreApart, AreCheap, IsPairLink}
+use Rattle.graph_links.specs.Pairs.{AddsToList, AreApart, AreCheap, IsPairLink}
 
 -- where each vertex leads, if it is there
 abbrev pub Leading : Type 0
@@ -72,30 +72,30 @@ HasSameRows here there = here.rows.now.entries ≡ there.rows.now.entries
 -- ---- rows
 
 -- a link from one vertex to another
-abbrev pub IsOutTo : Links → Vertex → Link → Vertex → Type 0
+abbrev pub IsOutTo : Links → Vertex → GraphLink → Vertex → Type 0
 IsOutTo Link_of v l w = (l.from ≡ v) × (l.to ≡ w) × Link_of l.from l.to l.cost l.label
 
 -- a link to one vertex from another
-abbrev pub IsIntoFrom : Links → Vertex → Link → Vertex → Type 0
+abbrev pub IsIntoFrom : Links → Vertex → GraphLink → Vertex → Type 0
 IsIntoFrom Link_of v l w = (l.from ≡ w) × (l.to ≡ v) × Link_of l.from l.to l.cost l.label
 
 -- the links out of one vertex to another are added
-abbrev pub AddsOut : GraphView → Vertex → Vertex → List Link → List Link → Type 0
-AddsOut side v w old new = Adds old new (λ (l : Link). IsOutTo (LinksIn side) v l w)
+abbrev pub AddsOut : GraphView → Vertex → Vertex → List GraphLink → List GraphLink → Type 0
+AddsOut side v w old new = AddsToList old new (λ (l : GraphLink). IsOutTo (LinksIn side) v l w)
 
 -- the links into one vertex from another are added
-abbrev pub AddsInto : GraphView → Vertex → Vertex → List Link → List Link → Type 0
-AddsInto side v w old new = Adds old new (λ (l : Link). IsIntoFrom (LinksIn side) v l w)
+abbrev pub AddsInto : GraphView → Vertex → Vertex → List GraphLink → List GraphLink → Type 0
+AddsInto side v w old new = AddsToList old new (λ (l : GraphLink). IsIntoFrom (LinksIn side) v l w)
 
 -- no link of the row costs more than 16 bits hold, if none did before
 abbrev pub StaysCheap : Row → Row → Type 0
 StaysCheap old new = (AreCheap old.out.items → AreCheap new.out.items) × (AreCheap old.into.items → AreCheap new.into.items)
 
-abbrev pub AreOut : Links → Vertex → List Link → Type 0
-AreOut Link_of v links = (l : Link) → Contains links l ↔ ((l.from ≡ v) × Link_of l.from l.to l.cost l.label)
+abbrev pub AreOut : Links → Vertex → List GraphLink → Type 0
+AreOut Link_of v links = (l : GraphLink) → Contains links l ↔ ((l.from ≡ v) × Link_of l.from l.to l.cost l.label)
 
-abbrev pub AreInto : Links → Vertex → List Link → Type 0
-AreInto Link_of v links = (l : Link) → Contains links l ↔ ((l.to ≡ v) × Link_of l.from l.to l.cost l.label)
+abbrev pub AreInto : Links → Vertex → List GraphLink → Type 0
+AreInto Link_of v links = (l : GraphLink) → Contains links l ↔ ((l.to ≡ v) × Link_of l.from l.to l.cost l.label)
 
 -- the row has the links of its vertex, without duplicates
 pub record IsRow (Link_of : Links) (v : Vertex) (row : Row) : Type 0 where
@@ -129,21 +129,21 @@ abbrev pub HaveDifferentVertices : List RowUpdate → Type 0
 HaveDifferentVertices fresh = AllPairs (λ v w. v ≢ w) (map (λ (f : RowUpdate). f.vertex) fresh)
 
 -- each vertex has its fresh row, if there is one, and otherwise what it had
-abbrev pub IsPlaced : List RowUpdate → RowList → RowList → Type 0
-IsPlaced fresh old new = (v : Vertex) →
+abbrev pub AreRowsPlaced : List RowUpdate → RowList → RowList → Type 0
+AreRowsPlaced fresh old new = (v : Vertex) →
     ((f : RowUpdate) × Contains fresh f × (f.vertex ≡ v) × (find vertex_cmp v new ≡ f.row))
     ⊎ (((f : RowUpdate) → Contains fresh f → f.vertex ≢ v) × (find vertex_cmp v new ≡ find vertex_cmp v old))
 
 -- ---- a change
 
 -- a vertex that is touched has its row after the change, and any other what it had
-abbrev pub IsChanged : Leading → Links → List Vertex → RowList → RowList → Type 0
-IsChanged leading Link_of touched old new = (v : Vertex) →
+abbrev pub AreRowsChanged : Leading → Links → List Vertex → RowList → RowList → Type 0
+AreRowsChanged leading Link_of touched old new = (v : Vertex) →
     (Contains touched v × IsFreshRow leading Link_of v (find vertex_cmp v new))
     ⊎ ((Contains touched v → ⊥) × (find vertex_cmp v new ≡ find vertex_cmp v old))
 
 -- the links out of a vertex by its row, empty if it has no row
-abbrev pub out_of : Option Row → List Link
+abbrev pub out_of : Option Row → List GraphLink
 out_of None = []
 out_of (Some row) = row.out.items
 
@@ -152,33 +152,33 @@ abbrev pub AreRowsBy : ℕ → List Up → RowList → Type 0
 AreRowsBy root ups rows = (v : Vertex) (row : Row) → find vertex_cmp v rows ≡ Some row → IsRow (LinksBy root ups (row_ends rows)) v row
 
 -- links out of the vertex, without duplicates
-abbrev pub AreLinksOut : Vertex → List Link → Type 0
-AreLinksOut v links = AreApart links × ((l : Link) → Contains links l → l.from ≡ v)
+abbrev pub AreLinksOut : Vertex → List GraphLink → Type 0
+AreLinksOut v links = AreApart links × ((l : GraphLink) → Contains links l → l.from ≡ v)
 
 -- what a row has before and after are links out of its vertex
 abbrev pub AreOwn : RowList → List RowUpdate → Type 0
 AreOwn rows fresh = (f : RowUpdate) → Contains fresh f → AreLinksOut f.vertex (out_of (find vertex_cmp f.vertex rows)) × AreLinksOut f.vertex (out_of f.row)
 
 -- the vertex of the fresh row had the link, and has it no longer
-abbrev pub IsTaken : RowList → Link → RowUpdate → Type 0
-IsTaken rows l f = IsOnlyIn (out_of (find vertex_cmp f.vertex rows)) (out_of f.row) l
+abbrev pub IsLinkRemoved : RowList → GraphLink → RowUpdate → Type 0
+IsLinkRemoved rows l f = IsOnlyIn (out_of (find vertex_cmp f.vertex rows)) (out_of f.row) l
 
 -- it has the link, and had it not
-abbrev pub IsBrought : RowList → Link → RowUpdate → Type 0
+abbrev pub IsBrought : RowList → GraphLink → RowUpdate → Type 0
 IsBrought rows l f = IsOnlyIn (out_of f.row) (out_of (find vertex_cmp f.vertex rows)) l
 
 -- just the links that are so for one of the fresh rows
-abbrev pub AreOfFresh : (Link → RowUpdate → Type 0) → List RowUpdate → List Link → Type 0
-AreOfFresh P fresh links = (l : Link) → Contains links l ↔ ((f : RowUpdate) × Contains fresh f × P l f)
+abbrev pub AreOfFresh : (GraphLink → RowUpdate → Type 0) → List RowUpdate → List GraphLink → Type 0
+AreOfFresh P fresh links = (l : GraphLink) → Contains links l ↔ ((f : RowUpdate) × Contains fresh f × P l f)
 
 -- just the links that the vertices of the fresh rows had, and have no longer
-abbrev pub HaveGone : RowList → List RowUpdate → List Link → Type 0
-HaveGone rows fresh links = AreOfFresh (IsTaken rows) fresh links
+abbrev pub HaveGone : RowList → List RowUpdate → List GraphLink → Type 0
+HaveGone rows fresh links = AreOfFresh (IsLinkRemoved rows) fresh links
 
 -- just the links that the vertices of the fresh rows have, and had not
-abbrev pub HaveCome : RowList → List RowUpdate → List Link → Type 0
+abbrev pub HaveCome : RowList → List RowUpdate → List GraphLink → Type 0
 HaveCome rows fresh links = AreOfFresh (IsBrought rows) fresh links
 
 -- of the links out of these vertices, just those that are only in the first graph
-abbrev pub AreMissing : List Vertex → Links → Links → List Link → Type 0
-AreMissing touched Here There links = (l : Link) → Contains links l ↔ (Contains touched l.from × Here l.from l.to l.cost l.label × (There l.from l.to l.cost l.label → ⊥))
+abbrev pub AreMissing : List Vertex → Links → Links → List GraphLink → Type 0
+AreMissing touched Here There links = (l : GraphLink) → Contains links l ↔ (Contains touched l.from × Here l.from l.to l.cost l.label × (There l.from l.to l.cost l.label → ⊥))

@@ -9,7 +9,7 @@ ghost use Rattle.graph_links.specs.Sides.{AreOwn, HaveCome, HaveDifferentVertice
 ghost use Rattle.graph_links.specs.Sides.{out_of};
 
 use crate::graph_view::find_row;
-use crate::link::{Link, LinkChanges};
+use crate::link::{GraphLink, LinkChanges};
 use crate::row::{Row, Rows};
 use crate::row_update::RowUpdate;
 use ospf_types::memory::Memory;
@@ -47,8 +47,8 @@ pub fn changed_links(alloc: Global, rows: &Rows, fresh: &[RowUpdate]) -> Result<
 // the added links. The common links at the start and at the end are skipped first.
 fn list_changes(
     alloc: Global,
-    before: &[Link],
-    after: &[Link],
+    before: &[GraphLink],
+    after: &[GraphLink],
     changes: &mut LinkChanges,
 ) -> Result<(), Memory>
     requires before { AreApart before.now }
@@ -74,7 +74,7 @@ fn list_changes(
 }
 
 /// Returns the links from a vertex by its row. The slice is empty if the vertex has no row.
-pub fn out_links(row: Option<&Row>) -> &[Link]
+pub fn out_links(row: Option<&Row>) -> &[GraphLink]
     ensures { result.now ≡ out_of (option_copied row.entry) }
 {
     match row {
@@ -84,7 +84,7 @@ pub fn out_links(row: Option<&Row>) -> &[Link]
 }
 
 // Returns the number of equal links at the start of both lists.
-fn same_front(one: &[Link], other: &[Link]) -> usize
+fn same_front(one: &[GraphLink], other: &[GraphLink]) -> usize
     ensures within_one { result ≤ length one.now }
     ensures within_other { result ≤ length other.now }
     ensures same { take result one.now ≡ take result other.now }
@@ -99,7 +99,7 @@ fn same_front(one: &[Link], other: &[Link]) -> usize
 }
 
 // Returns the number of equal links at the end of both lists.
-fn same_back(one: &[Link], other: &[Link]) -> usize
+fn same_back(one: &[GraphLink], other: &[GraphLink]) -> usize
     ensures within_one { result ≤ length one.now }
     ensures within_other { result ≤ length other.now }
     ensures same { HaveSameBack result one.now other.now }
@@ -122,9 +122,9 @@ const FEW: usize = 8;
 // one.
 fn list_missing(
     alloc: Global,
-    has: &[Link],
-    others: &[Link],
-    links: &mut Vec<Link>,
+    has: &[GraphLink],
+    others: &[GraphLink],
+    links: &mut Vec<GraphLink>,
 ) -> Result<(), Memory>
     ensures missing { OnOk result (AddsUnlike has.now others.now links.old.items links.new.items) }
     ensures apart { OnOk result (KeepsApartWith has.now links.old.items links.new.items) }
@@ -145,9 +145,9 @@ fn list_missing(
 // Appends a copy of the link, unless it is one of the few others.
 fn list_unless_same(
     alloc: Global,
-    link: &Link,
-    others: &[Link],
-    links: &mut Vec<Link>,
+    link: &GraphLink,
+    others: &[GraphLink],
+    links: &mut Vec<GraphLink>,
 ) -> Result<(), Memory>
     ensures unlike { OnOk result (AddsUnless link.now others.now links.old.items links.new.items) }
     ensures once { OnOk result (AddsAtMost link.now links.old.items links.new.items) }
@@ -160,7 +160,7 @@ fn list_unless_same(
 }
 
 // Returns true if the link is one of the few others.
-fn is_one_of(link: &Link, others: &[Link]) -> bool
+fn is_one_of(link: &GraphLink, others: &[GraphLink]) -> bool
     ensures { IsTrue result ↔ Contains others.now link.now }
 {
     for other in others {
@@ -171,7 +171,7 @@ fn is_one_of(link: &Link, others: &[Link]) -> bool
     false
 }
 
-fn copies(alloc: Global, links: &[Link]) -> Result<Vec<Link>, Memory>
+fn copies(alloc: Global, links: &[GraphLink]) -> Result<Vec<GraphLink>, Memory>
     ensures { IfOk result (λ made. made.items ≡ links.now) }
 {
     let mut made = Vec::with_capacity(alloc, links.len())?;
@@ -181,10 +181,10 @@ fn copies(alloc: Global, links: &[Link]) -> Result<Vec<Link>, Memory>
     Ok(made)
 }
 
-fn copy(alloc: Global, link: &Link) -> Result<Link, Memory>
+fn copy(alloc: Global, link: &GraphLink) -> Result<GraphLink, Memory>
     ensures { IfOk result (λ made. made ≡ link.now) }
 {
-    Ok(Link {
+    Ok(GraphLink {
         from: link.from.copy(),
         to: link.to.copy(),
         cost: link.cost,
@@ -193,7 +193,7 @@ fn copy(alloc: Global, link: &Link) -> Result<Link, Memory>
 }
 
 // Sorts the links by cost, because there may be thousands between two routers.
-fn by_cost(links: Vec<Link>) -> Vec<Link>
+fn by_cost(links: Vec<GraphLink>) -> Vec<GraphLink>
     ensures same { HaveSameLinks links.items result.items }
     ensures ascending { IsByCost result.items }
 {
@@ -203,7 +203,11 @@ fn by_cost(links: Vec<Link>) -> Vec<Link>
 }
 
 // Appends the links in `has` that are not in `others`, which is sorted by cost.
-fn list_unlike(has: Vec<Link>, others: &[Link], links: &mut Vec<Link>) -> Result<(), Memory>
+fn list_unlike(
+    has: Vec<GraphLink>,
+    others: &[GraphLink],
+    links: &mut Vec<GraphLink>,
+) -> Result<(), Memory>
     requires { IsByCost others.now }
     ensures unlike { OnOk result (AddsUnlike has.items others.now links.old.items links.new.items) }
     ensures apart { OnOk result (KeepsApartWith has.items links.old.items links.new.items) }
@@ -215,7 +219,11 @@ fn list_unlike(has: Vec<Link>, others: &[Link], links: &mut Vec<Link>) -> Result
 }
 
 // Appends the link, unless it is in `others`, which is sorted by cost.
-fn list_unless(link: Link, others: &[Link], links: &mut Vec<Link>) -> Result<(), Memory>
+fn list_unless(
+    link: GraphLink,
+    others: &[GraphLink],
+    links: &mut Vec<GraphLink>,
+) -> Result<(), Memory>
     requires { IsByCost others.now }
     ensures unlike { OnOk result (AddsUnless link others.now links.old.items links.new.items) }
     ensures once { OnOk result (AddsAtMost link links.old.items links.new.items) }
@@ -228,7 +236,7 @@ fn list_unless(link: Link, others: &[Link], links: &mut Vec<Link>) -> Result<(),
 }
 
 // Returns true if the link is in `others`, which is sorted by cost.
-fn is_among(link: &Link, others: &[Link]) -> bool
+fn is_among(link: &GraphLink, others: &[GraphLink]) -> bool
     requires { IsByCost others.now }
     ensures { IsTrue result ↔ Contains others.now link.now }
 {
@@ -237,7 +245,7 @@ fn is_among(link: &Link, others: &[Link]) -> bool
 }
 
 // Returns the number of links with a lower cost, which come first.
-fn first_at_cost(links: &[Link], cost: u16) -> usize
+fn first_at_cost(links: &[GraphLink], cost: u16) -> usize
     requires { IsByCost links.now }
     ensures within { result ≤ length links.now }
     ensures split { IsCountCheaper cost links.now result }
@@ -247,7 +255,7 @@ fn first_at_cost(links: &[Link], cost: u16) -> usize
 
 // Returns true if the link is in `others`, which is sorted by cost. Links with a higher cost are
 // not compared.
-fn is_among_first(link: &Link, others: &[Link]) -> bool
+fn is_among_first(link: &GraphLink, others: &[GraphLink]) -> bool
     requires { IsByCost others.now }
     ensures { IsTrue result ↔ Contains others.now link.now }
 {
@@ -263,7 +271,7 @@ fn is_among_first(link: &Link, others: &[Link]) -> bool
 }
 
 // Returns true if the links are equal.
-fn is_same(one: &Link, other: &Link) -> bool
+fn is_same(one: &GraphLink, other: &GraphLink) -> bool
     ensures { IsTrue result ↔ (one.now ≡ other.now) }
 {
     one.from.vertex() == other.from.vertex()

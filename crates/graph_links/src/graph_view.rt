@@ -2,11 +2,11 @@
 ghost use Rattle.std.specs.Prelude.{◌≡◌, OnOk, option_copied, option_map, is_some};
 ghost use Rattle.std.specs.FinMap.{find};
 ghost use Rattle.ospf_types.specs.Vertices.{vertex_cmp};
-ghost use Rattle.graph_links.specs.Pairs.{AreAllAt, KeepsApart};
+ghost use Rattle.graph_links.specs.Pairs.{AreAllAt, KeepsLinksApart};
 ghost use Rattle.graph_links.specs.Sides as sides;
 
 use crate::at_vertex::ends_at;
-use crate::link::Link;
+use crate::link::GraphLink;
 use crate::link_end::LinkEnd;
 use crate::row::{Row, Rows, StagedEnds};
 use crate::vertex_pair::{Facing, RootInterfaces, VertexPair};
@@ -71,7 +71,7 @@ pub fn ends_of_row<'a>(row: Option<&'a Row>) -> Option<&'a [LinkEnd]>
 
 /// Returns the links from the vertex whose row is at the place, whichever vertex it is. They only
 /// serve as hints.
-pub(crate) fn links_at(rows: &Rows, place: u32) -> &[Link] {
+pub(crate) fn links_at(rows: &Rows, place: u32) -> &[GraphLink] {
     match rows.get_index(place as usize) {
         Some((_, row)) => row.out.as_slice(),
         None => &[],
@@ -170,9 +170,9 @@ impl<'a> GraphView<'a> {
             self.entry own.entry.vertex to.now row.old.into.items row.new.into.items) }
         ensures cheap { OnOk result (sides.StaysCheap row.old row.new) }
         ensures out_apart { OnOk result
-            (KeepsApart own.entry.vertex to.now row.old.out.items row.new.out.items) }
+            (KeepsLinksApart own.entry.vertex to.now row.old.out.items row.new.out.items) }
         ensures into_apart { OnOk result
-            (KeepsApart to.now own.entry.vertex row.old.into.items row.new.into.items) }
+            (KeepsLinksApart to.now own.entry.vertex row.old.into.items row.new.into.items) }
     {
         // 16.1 (2) (b): look up W's LSA; without one, or without a link back, there is no link.
         let (ends, place) = self.find(to);

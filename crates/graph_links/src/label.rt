@@ -15,12 +15,12 @@ use std::slice::from_ref;
 /// A label with one address allocates no memory.
 #[derive(Debug)]
 pub struct LinkLabel {
-    kept: Kept,
+    kept: StoredLabel,
 }
 
 // The forms of a label. Several addresses are boxed, to keep links small.
 #[derive(Debug, Drop)]
-enum Kept {
+enum StoredLabel {
     Over(u8),
     Single(u32),
     Several(Box<Listed<u32>>),
@@ -50,8 +50,8 @@ impl LinkLabel {
         ensures { result ≡ label_over interface }
     {
         let kept = match interface {
-            Some(interface) => Kept::Over(interface),
-            None => Kept::Plain,
+            Some(interface) => StoredLabel::Over(interface),
+            None => StoredLabel::Plain,
         };
         LinkLabel { kept }
     }
@@ -62,7 +62,7 @@ impl LinkLabel {
         ensures { result ≡ At (address ∷ []) }
     {
         LinkLabel {
-            kept: Kept::Single(address),
+            kept: StoredLabel::Single(address),
         }
     }
 
@@ -72,7 +72,7 @@ impl LinkLabel {
     {
         let addresses = Box::new(alloc, addresses)?;
         Ok(LinkLabel {
-            kept: Kept::Several(addresses),
+            kept: StoredLabel::Several(addresses),
         })
     }
 
@@ -81,8 +81,8 @@ impl LinkLabel {
         ensures { result ≡ interface_of self.now }
     {
         match &self.kept {
-            Kept::Over(interface) => Some(*interface),
-            Kept::Single(_) | Kept::Several(_) | Kept::Plain => None,
+            StoredLabel::Over(interface) => Some(*interface),
+            StoredLabel::Single(_) | StoredLabel::Several(_) | StoredLabel::Plain => None,
         }
     }
 
@@ -92,9 +92,9 @@ impl LinkLabel {
         ensures { result.now ≡ addresses_of self.now }
     {
         match &self.kept {
-            Kept::Single(address) => from_ref(address),
-            Kept::Several(addresses) => addresses.as_slice(),
-            Kept::Over(_) | Kept::Plain => &[],
+            StoredLabel::Single(address) => from_ref(address),
+            StoredLabel::Several(addresses) => addresses.as_slice(),
+            StoredLabel::Over(_) | StoredLabel::Plain => &[],
         }
     }
 
@@ -103,12 +103,12 @@ impl LinkLabel {
         ensures { IfOk result (λ label. label ≡ self.now) }
     {
         let kept = match &self.kept {
-            Kept::Over(interface) => Kept::Over(*interface),
-            Kept::Single(address) => Kept::Single(*address),
-            Kept::Several(addresses) => {
+            StoredLabel::Over(interface) => StoredLabel::Over(*interface),
+            StoredLabel::Single(address) => StoredLabel::Single(*address),
+            StoredLabel::Several(addresses) => {
                 return LinkLabel::at(alloc, Listed::from_slice(alloc, addresses.as_slice())?);
             }
-            Kept::Plain => Kept::Plain,
+            StoredLabel::Plain => StoredLabel::Plain,
         };
         Ok(LinkLabel { kept })
     }
@@ -118,9 +118,10 @@ impl LinkLabel {
         ensures { IsTrue result ↔ (self.now ≡ other.now) }
     {
         match (&self.kept, &other.kept) {
-            (Kept::Over(a), Kept::Over(b)) => a == b,
-            (Kept::Plain, Kept::Plain) => true,
-            (Kept::Over(_) | Kept::Plain, _) | (_, Kept::Over(_) | Kept::Plain) => false,
+            (StoredLabel::Over(a), StoredLabel::Over(b)) => a == b,
+            (StoredLabel::Plain, StoredLabel::Plain) => true,
+            (StoredLabel::Over(_) | StoredLabel::Plain, _)
+            | (_, StoredLabel::Over(_) | StoredLabel::Plain) => false,
             _ => self.addresses() == other.addresses(),
         }
     }

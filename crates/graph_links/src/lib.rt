@@ -35,7 +35,7 @@ mod vertex_pair;
 pub use changes::{changed_links, out_links};
 pub use graph_view::{GraphView, ends_of_row, ends_or_empty, find_row, staged_ends};
 pub use label::LinkLabel;
-pub use link::{Link, LinkChanges, Up};
+pub use link::{GraphLink, LinkChanges, Up};
 pub use link_end::LinkEnd;
 pub use row::{Row, Rows, StagedEnds};
 pub use row_hints::hinted_by;

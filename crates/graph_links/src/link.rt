@@ -14,7 +14,7 @@ pub struct Up {
 ///
 /// Its vertices have hints to their rows.
 #[derive(Debug)]
-pub struct Link {
+pub struct GraphLink {
     pub from: HintedVertex,
     pub to: HintedVertex,
     /// The metric; 0 for a link from a network.
@@ -24,9 +24,9 @@ pub struct Link {
 }
 
 // proof: a value is dropped by one call, not part by part at each exit of a function.
-impl Drop for Link {
+impl Drop for GraphLink {
     fn drop(self) {
-        let Link {
+        let GraphLink {
             from: _from,
             to: _to,
             cost: _,
@@ -37,8 +37,8 @@ impl Drop for Link {
 
 /// The links that a change removed and added. A link whose cost or label changed is in both lists.
 pub struct LinkChanges {
-    pub gone: Vec<Link>,
-    pub came: Vec<Link>,
+    pub gone: Vec<GraphLink>,
+    pub came: Vec<GraphLink>,
 }
 
 // proof: a value is dropped by one call, not part by part at each exit of a function.

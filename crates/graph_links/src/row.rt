@@ -1,5 +1,5 @@
 //! The rows of a graph, one for each vertex.
-use crate::link::Link;
+use crate::link::GraphLink;
 use crate::link_end::LinkEnd;
 use indexmap::IndexMap;
 use ospf_types::WordHash;
@@ -10,9 +10,9 @@ pub struct Row {
     /// The link ends of the vertex's LSA.
     pub ends: Vec<LinkEnd>,
     /// The links from the vertex.
-    pub out: Vec<Link>,
+    pub out: Vec<GraphLink>,
     /// The links to the vertex.
-    pub into: Vec<Link>,
+    pub into: Vec<GraphLink>,
 }
 
 // proof: a value is dropped by one call, not part by part at each exit of a function.

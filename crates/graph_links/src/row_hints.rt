@@ -1,12 +1,12 @@
 //! Hints to rows, taken from links. A wrong hint only costs hashing the vertex.
 ghost use Rattle.std.specs.Prelude.{◌≡◌};
 
-use crate::link::Link;
+use crate::link::GraphLink;
 use ospf_types::entry::Vertex;
 use vertex_map::HintedVertex;
 
 /// Returns the vertex, with the hint of the link at this index. Without such a link it has no hint.
-pub fn hinted_by(links: &[Link], index: usize, vertex: Vertex) -> HintedVertex
+pub fn hinted_by(links: &[GraphLink], index: usize, vertex: Vertex) -> HintedVertex
     ensures { result ≡ vertex }
 {
     match links.get(index) {
@@ -20,7 +20,7 @@ pub fn hinted_by(links: &[Link], index: usize, vertex: Vertex) -> HintedVertex
 /// The links are in the order of their heads, and a caller asks for vertices in that order. So the
 /// first link that is not passed yet usually leads to the vertex.
 #[inline]
-pub(crate) fn next_placed(links: &[Link], passed: &mut usize, vertex: Vertex) -> HintedVertex
+pub(crate) fn next_placed(links: &[GraphLink], passed: &mut usize, vertex: Vertex) -> HintedVertex
     ensures { result ≡ vertex }
 {
     match links.get(*passed) {
@@ -34,7 +34,7 @@ pub(crate) fn next_placed(links: &[Link], passed: &mut usize, vertex: Vertex) ->
 
 // Skips the links to lower vertices, and takes the hint from the link after them.
 #[inline(never)]
-fn later_placed(links: &[Link], passed: &mut usize, vertex: Vertex) -> HintedVertex
+fn later_placed(links: &[GraphLink], passed: &mut usize, vertex: Vertex) -> HintedVertex
     ensures { result ≡ vertex }
 {
     *passed = below(links, *passed, vertex);
@@ -42,7 +42,7 @@ fn later_placed(links: &[Link], passed: &mut usize, vertex: Vertex) -> HintedVer
 }
 
 // Returns the index of the first link, at `first` or later, that does not lead to a lower vertex.
-fn below(links: &[Link], first: usize, vertex: Vertex) -> usize {
+fn below(links: &[GraphLink], first: usize, vertex: Vertex) -> usize {
     let mut past = first;
     while past < links.len() && links[past].to.vertex().compare(vertex).is_lt() {
         past += 1;

@@ -1,8 +1,8 @@
 //! The new rows of vertices after a change.
 ghost use Rattle.std.specs.Prelude.{◌≡◌, ◌+◌, ◌≤◌, ◌<◌, [], ◌∷◌, IfOk, IfSome, OnOk, length};
 ghost use Rattle.std.specs.HashMap.{spare};
-ghost use Rattle.graph_links.specs.Places.{IsAt, PutsRow, PutsRowAt};
-ghost use Rattle.graph_links.specs.Sides.{AreFreshIn, IsFreshRowIn, IsInOrder, IsPlaced, IsRow};
+ghost use Rattle.graph_links.specs.Places.{IsRowAt, PutsRow, PutsRowAt};
+ghost use Rattle.graph_links.specs.Sides.{AreFreshIn, IsFreshRowIn, IsInOrder, AreRowsPlaced, IsRow};
 ghost use Rattle.graph_links.specs.Sides.{LinksIn, all_ends, ends_in};
 
 use crate::at_vertex::past_from;
@@ -174,7 +174,7 @@ fn row_of(alloc: Global, side: GraphView<'_>, all: Facing<'_>, used: Row) -> Res
 /// without a new row.
 pub fn place(rows: &mut Rows, room: &mut RowPool)
     requires room { length room.old.fresh.items ≤ spare rows.old }
-    ensures { IsPlaced room.old.fresh.items rows.old.entries rows.new.entries }
+    ensures { AreRowsPlaced room.old.fresh.items rows.old.entries rows.new.entries }
 {
     while let Some(one) = room.fresh.pop() {
         place_one(rows, one, &mut room.used);
@@ -184,7 +184,7 @@ pub fn place(rows: &mut Rows, room: &mut RowPool)
 // Replaces the row of the vertex, or removes a vertex without a new row.
 fn place_one(rows: &mut Rows, fresh: RowUpdate, used: &mut Vec<Row>)
     requires room { 0 < spare rows.old }
-    ensures placed { IsPlaced (fresh ∷ []) rows.old.entries rows.new.entries }
+    ensures placed { AreRowsPlaced (fresh ∷ []) rows.old.entries rows.new.entries }
     ensures room { spare rows.old ≤ spare rows.new + 1 }
 {
     let RowUpdate { vertex, row } = fresh;
@@ -211,7 +211,7 @@ fn put_in_room(rows: &mut Rows, vertex: &HintedVertex, row: Row, used: &mut Vec<
 
 // Returns the place of the vertex's row, if the vertex's hint is right.
 fn standing(rows: &Rows, vertex: &HintedVertex) -> Option<usize>
-    ensures { IfSome result (λ place. IsAt rows.now.entries vertex.now place) }
+    ensures { IfSome result (λ place. IsRowAt rows.now.entries vertex.now place) }
 {
     let place = vertex.place();
     match rows.get_index(place) {

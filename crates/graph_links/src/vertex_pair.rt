@@ -2,11 +2,11 @@
 ghost use Rattle.std.specs.Prelude.{◌≡◌, ◌<◌, length, OnOk, IsOk, IfOk};
 ghost use Rattle.ospf_types.specs.declared.label.Label.TheVariants.{At};
 ghost use Rattle.graph_links.specs.Pairs.{AddsBetween, AddsBy, AddsOnce, AddsOnto, AddsOver};
-ghost use Rattle.graph_links.specs.Pairs.{AddsPlain, AreCheap, KeepsApart, details_of, link_by};
+ghost use Rattle.graph_links.specs.Pairs.{AddsPlain, AreCheap, KeepsLinksApart, details_of, link_by};
 ghost use Rattle.graph_links.specs.Pairs.{turned};
 
 use crate::label::LinkLabel;
-use crate::link::{Link, Up};
+use crate::link::{GraphLink, Up};
 use crate::link_end::LinkEnd;
 use crate::parallel_links::{ParallelLink, ways_over};
 use ospf_types::entry::Vertex;
@@ -53,11 +53,11 @@ impl<'a> VertexPair<'a> {
     }
 
     /// Appends the links from `from` to `to`.
-    pub(crate) fn list_links(&self, alloc: Global, links: &mut Vec<Link>) -> Result<(), Memory>
+    pub(crate) fn list_links(&self, alloc: Global, links: &mut Vec<GraphLink>) -> Result<(), Memory>
         ensures listed { OnOk result (AddsBetween self.now links.old.items links.new.items) }
         ensures cheap { OnOk result (AreCheap links.old.items → AreCheap links.new.items) }
         ensures apart { OnOk result
-            (KeepsApart self.now.from.vertex self.now.to.vertex links.old.items links.new.items) }
+            (KeepsLinksApart self.now.from.vertex self.now.to.vertex links.old.items links.new.items) }
     {
         match self.from.vertex {
             Vertex::Router(router) => self.list_from_router(alloc, router, links),
@@ -70,7 +70,7 @@ impl<'a> VertexPair<'a> {
         &self,
         alloc: Global,
         router: u32,
-        links: &mut Vec<Link>,
+        links: &mut Vec<GraphLink>,
     ) -> Result<(), Memory>
         ensures listed { OnOk result (AddsOver self.now router links.old.items links.new.items) }
         ensures cheap { OnOk result (AreCheap links.old.items → AreCheap links.new.items) }
@@ -83,7 +83,12 @@ impl<'a> VertexPair<'a> {
 
     // Appends the links from any router, over all its ends at the other vertex.
     #[inline(never)]
-    fn list_over_all(&self, alloc: Global, router: u32, links: &mut Vec<Link>) -> Result<(), Memory>
+    fn list_over_all(
+        &self,
+        alloc: Global,
+        router: u32,
+        links: &mut Vec<GraphLink>,
+    ) -> Result<(), Memory>
         ensures listed { OnOk result (AddsOver self.now router links.old.items links.new.items) }
         ensures cheap { OnOk result (AreCheap links.old.items → AreCheap links.new.items) }
     {
@@ -93,7 +98,7 @@ impl<'a> VertexPair<'a> {
 
     // Appends the link from a router that is not the root over its only end, unless the metric is
     // 0.
-    fn list_over_end(&self, end: LinkEnd, links: &mut Vec<Link>) -> Result<(), Memory>
+    fn list_over_end(&self, end: LinkEnd, links: &mut Vec<GraphLink>) -> Result<(), Memory>
         ensures listed { OnOk result (AddsPlain self.now end links.old.items links.new.items) }
         ensures cheap { OnOk result (AreCheap links.old.items → AreCheap links.new.items) }
     {
@@ -109,7 +114,7 @@ impl<'a> VertexPair<'a> {
     }
 
     // Appends a link for each of the parallel links.
-    fn list_by_ways(&self, ways: &[ParallelLink], links: &mut Vec<Link>) -> Result<(), Memory>
+    fn list_by_ways(&self, ways: &[ParallelLink], links: &mut Vec<GraphLink>) -> Result<(), Memory>
         ensures listed { OnOk result (AddsBy self.now ways.now links.old.items links.new.items) }
         ensures cheap { OnOk result (AreCheap links.old.items → AreCheap links.new.items) }
     {
@@ -120,7 +125,7 @@ impl<'a> VertexPair<'a> {
     }
 
     // Returns the link for one of the parallel links.
-    fn link_by(&self, way: ParallelLink) -> Link
+    fn link_by(&self, way: ParallelLink) -> GraphLink
         ensures value { result ≡ link_by self.now.from.vertex self.now.to.vertex way }
         ensures cheap { result.cost < 65536 }
     {
@@ -129,11 +134,11 @@ impl<'a> VertexPair<'a> {
 
     // Appends the link from a network, if the other vertex is a router.
     #[inline(never)]
-    fn list_from_network(&self, alloc: Global, links: &mut Vec<Link>) -> Result<(), Memory>
+    fn list_from_network(&self, alloc: Global, links: &mut Vec<GraphLink>) -> Result<(), Memory>
         ensures listed { OnOk result (AddsOnto self.now links.old.items links.new.items) }
         ensures cheap { OnOk result (AreCheap links.old.items → AreCheap links.new.items) }
         ensures apart { OnOk result
-            (KeepsApart self.now.from.vertex self.now.to.vertex links.old.items links.new.items) }
+            (KeepsLinksApart self.now.from.vertex self.now.to.vertex links.old.items links.new.items) }
     {
         let Vertex::Router(_) = self.to.vertex else {
             return Ok(());
@@ -145,7 +150,7 @@ impl<'a> VertexPair<'a> {
     }
 
     // Returns the link with this cost and label.
-    fn link(&self, cost: u16, label: LinkLabel) -> Link
+    fn link(&self, cost: u16, label: LinkLabel) -> GraphLink
         ensures { result ≡ record {
           from = self.now.from.vertex;
           to = self.now.to.vertex;
@@ -153,7 +158,7 @@ impl<'a> VertexPair<'a> {
           label = label;
         } }
     {
-        Link {
+        GraphLink {
             from: HintedVertex::new(self.from.vertex, self.from.place),
             to: HintedVertex::new(self.to.vertex, self.to.place),
             cost,

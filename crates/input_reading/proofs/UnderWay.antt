@@ -6,7 +6,7 @@ use Rattle.std.proofs.lemmas.Result.{IfOk-weaker, MatchResult-from_both, MatchRe
 use Rattle.std.specs.Io.KnownBytes.{Consumes, IsAtEnd, Keeps, prepend_known}
 use Rattle.std.proofs.KnownBytes.{Consumes-nil, Consumes-trans}
 use Rattle.input_reading.specs.Shortened.{shortened}
-use Rattle.input_reading.specs.Tails.{GathersUpTo, HasNoLineFeed, IsCut, IsGathered, tail_of}
+use Rattle.input_reading.specs.Tails.{GathersUpTo, HasNoLineFeed, IsCutAtLineFeed, IsGathered, tail_of}
 use Rattle.input_reading.specs.Taking.{Takes, TakesLine, TakesNext, TakesWhole, Loses, EndsAs, EndsLine}
 use Rattle.input_reading.specs.declared.reader.Next.{Next}
 use Rattle.input_reading.specs.declared.reader.Next.TheVariants.{Line, Cut, End}
@@ -61,7 +61,7 @@ module _ (old : List ℕ) (before : Option (List ℕ)) (now : List ℕ) (left : 
     taken_by : Takes old before others left ((under_way.raw ++ take n now) ++ 10 ∷ [])
     taken_by =
         let front = take n now in
-        let cut_there = subst (IsCut now front) (sym rest) (here (Some n) is).1 in
+        let cut_there = subst (IsCutAtLineFeed now front) (sym rest) (here (Some n) is).1 in
         subst (Takes old before others left) (sym (append_assoc under_way.raw front (10 ∷ [])))
         (Consumes-trans (prepend_known old before) (prepend_known now left) (prepend_known others left) under_way.raw (front ++ 10 ∷ []) under_way.taken
         (cut left now (front ++ 10 ∷ []) others (cut_there.whole ∙ sym (append_assoc front (10 ∷ []) others))))

@@ -7,5 +7,5 @@ use Rattle.input_reading.specs.declared.fault.ReadFault.{ReadFault}
 use Rattle.input_reading.specs.declared.fault.ReadFault.TheVariants.{Read, Memory}
 
 -- only an error of the kind `OutOfMemory` is one of memory
-abbrev pub IsFaultOf : Error → ReadFault → Type 0
-IsFaultOf error fault = (fault ≡ Memory × error_kind error ≡ OutOfMemory) ⊎ (fault ≡ Read × error_kind error ≢ OutOfMemory)
+abbrev pub IsReadFaultOf : Error → ReadFault → Type 0
+IsReadFaultOf error fault = (fault ≡ Memory × error_kind error ≡ OutOfMemory) ⊎ (fault ≡ Read × error_kind error ≢ OutOfMemory)

@@ -26,7 +26,7 @@ abbrev pub HasNoLineFeed : List ℕ → Type 0
 HasNoLineFeed bytes = All (λ byte. byte ≢ 10) bytes
 
 -- the bytes are these, a line feed, and the bytes after it
-pub record IsCut (bytes front others : List ℕ) : Type 0 where
+pub record IsCutAtLineFeed (bytes front others : List ℕ) : Type 0 where
   pub one : HasNoLineFeed front
   pub whole : bytes ≡ front ++ 10 ∷ others
 
@@ -35,4 +35,4 @@ pub record IsCut (bytes front others : List ℕ) : Type 0 where
 abbrev pub GathersUpTo : (place : Option ℕ) (bytes line : List ℕ) (tail : Tail) (longer : List ℕ) (further : Tail) → Type 0
 GathersUpTo place bytes line tail longer further =
     MatchOption place (HasNoLineFeed bytes × Gathers bytes line tail longer further)
-    (λ n. (n < length bytes) × IsCut bytes (take n bytes) (drop (n + 1) bytes) × Gathers (take n bytes) line tail longer further)
+    (λ n. (n < length bytes) × IsCutAtLineFeed bytes (take n bytes) (drop (n + 1) bytes) × Gathers (take n bytes) line tail longer further)

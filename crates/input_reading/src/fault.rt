@@ -25,9 +25,9 @@ impl From<AllocError> for ReadFault {
 
 /// Converts an error of the kind `OutOfMemory` into `Memory`, and any other into `Read`.
 impl From<io::Error> for ReadFault {
-    ghost use Rattle.input_reading.specs.Faults.{IsFaultOf};
+    ghost use Rattle.input_reading.specs.Faults.{IsReadFaultOf};
 
-    ghost from_gives = { IsFaultOf };
+    ghost from_gives = { IsReadFaultOf };
 
     fn from(error: io::Error) -> ReadFault {
         match error.kind() {

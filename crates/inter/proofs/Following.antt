@@ -15,7 +15,7 @@ use Rattle.ospf_types.specs.Keys.{key_cmp}
 use Rattle.ospf_types.proofs.Elements.{no_element}
 use Rattle.lsdb.specs.Databases.{Database}
 use Rattle.ospf_types.proofs.Elements.{contains_more}
-use Rattle.advertised_index.specs.Indexes.{OfferIndexValue, ChangedOffersValue, AreTouched, IsIndexOf, LsasDifferAmong, IsLedTo, HasDest}
+use Rattle.advertised_index.specs.Indexes.{OfferIndexValue, ChangedOffersValue, AreDestsAffected, IsIndexOf, LsasDifferAmong, IsLedTo, HasDest}
 use Rattle.inter.specs.Following.{area_of, ExaminedDifferAmong, IsIndexBefore, IsIndexSince, AreLed, IsPushed, ArePushed, IsFollowed}
 use Rattle.inter.specs.Inputs.{ExaminedValue, InterInputsValue}
 use Rattle.inter.specs.Inters.{IsIndexFor}
@@ -45,14 +45,14 @@ since root keys x area i is same = of x is.0 is.2 is.3 (sym is.1 ∙ same)
         subst (λ (n : ℕ). SinceIn root keys n x.lsas i) (sym area) (y.lsas, index, differ y x refl refl area)
 
 -- what is touched in an area that is examined as before
-pub led_same : (before after : Option ℕ) (old new : OfferIndexValue) (a b : ChangedOffersValue) → after ≡ before → AreTouched old new a b → AreLed before after old new b.dests
+pub led_same : (before after : Option ℕ) (old new : OfferIndexValue) (a b : ChangedOffersValue) → after ≡ before → AreDestsAffected old new a b → AreLed before after old new b.dests
 led_same before after old new a b same touched k = elim (touched.each k) [
   | inl e ↦ inl (same, e)
   | inr all ↦ inr all.0
 ]
 
 -- what was there and what is there now, of another area
-pub led_other : (before after : Option ℕ) (old mid new : OfferIndexValue) (a b c : ChangedOffersValue) → mid ≡ record { routes = empty } → AreTouched old mid a b → AreTouched mid new b c → AreLed before after old new c.dests
+pub led_other : (before after : Option ℕ) (old mid new : OfferIndexValue) (a b c : ChangedOffersValue) → mid ≡ record { routes = empty } → AreDestsAffected old mid a b → AreDestsAffected mid new b c → AreLed before after old new c.dests
 led_other before after old mid new a b c none first second k = inr (λ d has. elim has [
   | inl was ↦ second.dests d (elim (first.each k) [
     | inl e ↦ absurd (nothing d (was.0, e ∙ was.1, was.2))

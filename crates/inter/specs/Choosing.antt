@@ -14,7 +14,7 @@ use Rattle.ospf_types.specs.Intra.{B}
 use Rattle.route_choice.specs.Choices.{Chosen}
 use Rattle.intra.specs.Intras.{AreaIntraValue, reached_at}
 use Rattle.intra.specs.ReachedRouter.{HandsOut}
-use Rattle.route_choice.specs.Takes.{Takes, OnlyOffer, OfferedBySome}
+use Rattle.route_choice.specs.Takes.{TakesOffers, OnlyOffer, OfferedBySome}
 use Rattle.advertised_index.specs.AdvertisedRoute.{AdvertisedValue}
 use Rattle.advertised_index.specs.Indexes.{OfferIndexValue}
 use Rattle.inter.specs.Inputs.{InterInputsValue, examined_area}
@@ -43,7 +43,7 @@ IsChosenFor v i d e = IsChosenWhere v (examined_area v) i d e
 
 -- just these offers of paths were taken
 abbrev pub TakesPaths : (ℕ → Path → Type 0) → Option (Chosen ℕ Path) → Option (Chosen ℕ Path) → Type 0
-TakesPaths offers old new = Takes nat_cmp path_cmp offers old new
+TakesPaths offers old new = TakesOffers nat_cmp path_cmp offers old new
 
 -- what is advertised under the key, over each next hop of its border router
 abbrev pub KeyOffers : List AreaIntraValue → ℕ → OfferIndexValue → Key → ℕ → Path → Type 0

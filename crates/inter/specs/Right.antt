@@ -10,7 +10,7 @@ use Rattle.ospf_types.specs.Inputs.{Inputs, Area}
 use Rattle.ospf_types.specs.Inter.{InterOffers}
 use Rattle.ospf_types.specs.Boundary.{BoundaryInterOffers}
 use Rattle.ospf_types.specs.Ranges.{IsExamined}
-use Rattle.lsdb.specs.Contents.{IsSound}
+use Rattle.lsdb.specs.Contents.{IsDatabaseSound}
 use Rattle.intra.specs.Right.{IsRightFor as IsIntraRight}
 use Rattle.active_ranges.specs.Right.{IsRightFor as AreRangesRight}
 use Rattle.inter.specs.Inputs.{ExaminedValue, InterInputsValue}
@@ -21,7 +21,7 @@ pub record IsExaminedArea (s : Inputs) (a : Area) (x : ExaminedValue) : Type 0 w
   pub examined : IsExamined s a
   pub id : a.id ≡ x.area
   pub lsas : a.lsas ≡ values x.lsas
-  pub sound : IsSound x.lsas
+  pub sound : IsDatabaseSound x.lsas
 
 abbrev pub IsExaminedFor : Inputs → Option ExaminedValue → Type 0
 IsExaminedFor s None = (a : Area) → IsExamined s a → ⊥

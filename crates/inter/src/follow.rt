@@ -1,7 +1,7 @@
 //! Updates of the index by the LSAs of the examined area, and the destinations whose entry may
 //! change.
 ghost use Rattle.std.specs.Prelude.{◌≡◌, Contains, OnOk};
-ghost use Rattle.advertised_index.specs.Indexes.{AreTouched, IsLedTo, empty_index};
+ghost use Rattle.advertised_index.specs.Indexes.{AreDestsAffected, IsLedTo, empty_index};
 ghost use Rattle.advertised_index.specs.Lists.{KeepsAll};
 ghost use Rattle.inter.specs.Following.{IsIndexBefore, IsIndexSince, AreLed, HasAllBehind};
 ghost use Rattle.inter.specs.Following.{IsPushed, ArePushed};
@@ -44,7 +44,7 @@ impl InterInputs<'_> {
     ) -> Result<(), Memory>
         requires { IsIndexSince self.now.root keys.now self.now.examined index.old }
         ensures index { OnOk result (IsIndexFor self.now.root self.now.examined index.new) }
-        ensures touched { OnOk result (AreTouched index.old index.new affected.old affected.new) }
+        ensures touched { OnOk result (AreDestsAffected index.old index.new affected.old affected.new) }
     {
         match &self.examined {
             Some(examined) => {
@@ -67,7 +67,7 @@ impl InterInputs<'_> {
     ) -> Result<(), Memory>
         requires { index.old ≡ empty_index }
         ensures index { OnOk result (IsIndexFor self.now.root self.now.examined index.new) }
-        ensures touched { OnOk result (AreTouched index.old index.new affected.old affected.new) }
+        ensures touched { OnOk result (AreDestsAffected index.old index.new affected.old affected.new) }
     {
         match &self.examined {
             Some(examined) => {

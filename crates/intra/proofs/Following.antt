@@ -17,9 +17,9 @@ use Rattle.area_trees.specs.Areas.{body_at, vertex_of, router_key, network_key, 
 use Rattle.ospf_types.specs.declared.hop.NextHop.{NextHop}
 use Rattle.intra.specs.Inputs.{AreaValue, distance_at, hops_at}
 use Rattle.intra.specs.ReachedRouter.{ReachedValue, is_abr_or_asbr, has_bits, reached_by}
-use Rattle.intra.specs.Indexes.{IndexValue, IsIndex, IsIndexOf, IsOfferedFor, AreTouched}
+use Rattle.intra.specs.Indexes.{IndexValue, IsIndex, IsAreaIndexOf, IsOfferedFor, ArePrefixesAffected}
 use Rattle.intra.specs.Intras.{AreaIntraValue}
-use Rattle.intra.specs.Following.{LsasDifferAmong, NamesVertex, NamesIn, IsCurrent, IsTaken, HasOffered, IsGathered, AreRoutersUpdated, IsRouterNamed, flags_in, router_now, with_index_of}
+use Rattle.intra.specs.Following.{LsasDifferAmong, NamesVertex, NamesIn, IsVertexCurrent, IsIndexUpdated, HasOffered, IsIndexFollowed, AreRoutersUpdated, IsRouterNamed, flags_in, router_now, with_index_of}
 use Rattle.ospf_types.proofs.VertexOrder.{vertex_total, vertex_exact}
 use Rattle.route_choice.proofs.Adding.{more_one}
 pub use Rattle.route_choice.proofs.KeyedMaps.{one_or_other}
@@ -27,7 +27,7 @@ pub use Rattle.route_choice.proofs.KeyedMaps.{one_or_other}
 -- ---- the index follows
 
 -- nothing was to be followed
-pub taken_none : (d : Database) (names : Vertex → Type 0) (a : AreaIntraValue) (ps : List Prefix) → IsIndex a.index → ((v : Vertex) → names v → ⊥) → IsTaken d names a a ps ps
+pub taken_none : (d : Database) (names : Vertex → Type 0) (a : AreaIntraValue) (ps : List Prefix) → IsIndex a.index → ((v : Vertex) → names v → ⊥) → IsIndexUpdated d names a a ps ps
 taken_none d names a ps is none = record {
   id = refl;
   reached = refl;
@@ -38,7 +38,7 @@ taken_none d names a ps is none = record {
 
 -- one after the other
 pub taken_then : (d : Database) (P Q R : Vertex → Type 0) (old mid new : AreaIntraValue) (before between after : List Prefix) → ((v : Vertex) → R v → P v ⊎ Q v)
-    → IsTaken d P old mid before between → IsTaken d Q mid new between after → IsTaken d R old new before after
+    → IsIndexUpdated d P old mid before between → IsIndexUpdated d Q mid new between after → IsIndexUpdated d R old new before after
 taken_then d P Q R old mid new before between after parts first second = record {
   id = second.id ∙ first.id;
   reached = second.reached ∙ first.reached;
@@ -61,14 +61,14 @@ taken_then d P Q R old mid new before between after parts first second = record 
 
 -- the index took what one vertex offers now
 pub taken_one : (d : Database) (vertex : Vertex) (names : Vertex → Type 0) (old new : AreaIntraValue) (before after : List Prefix) → ((v : Vertex) → names v → v ≡ vertex)
-    → new.id ≡ old.id → new.reached ≡ old.reached → IsIndex new.index → IsCurrent d new.index vertex
-    → ((w : Vertex) → w ≢ vertex → get new.index.offered w ≡ get old.index.offered w) → AreTouched old.index new.index before after → IsTaken d names old new before after
+    → new.id ≡ old.id → new.reached ≡ old.reached → IsIndex new.index → IsVertexCurrent d new.index vertex
+    → ((w : Vertex) → w ≢ vertex → get new.index.offered w ≡ get old.index.offered w) → ArePrefixesAffected old.index new.index before after → IsIndexUpdated d names old new before after
 taken_one d vertex names old new before after only id reached index current others touched = record {
   id = id;
   reached = reached;
   index = index;
   each = λ v. elim (one_or_other vertex_total vertex_exact vertex v) [
-    | inl e ↦ inl (subst (IsCurrent d new.index) (sym e) current)
+    | inl e ↦ inl (subst (IsVertexCurrent d new.index) (sym e) current)
     | inr other ↦ inr (others v other, λ named. other (only v named))
   ];
   touched = touched;
@@ -98,8 +98,8 @@ module _ (before after : Database) (v : Vertex) (same : (key : Key) → vertex_o
           ]
 
 -- an index that took what all named LSAs offer now belongs to the database
-pub index_followed : (keys : List (Scope × Key)) (area : ℕ) (was is : Database) (old new : AreaIntraValue) (before after : List Prefix) → IsIndexOf was old.index → LsasDifferAmong keys area was is
-    → IsTaken is (IsOfSome keys (NamesVertex area)) old new before after → IsIndexOf is new.index
+pub index_followed : (keys : List (Scope × Key)) (area : ℕ) (was is : Database) (old new : AreaIntraValue) (before after : List Prefix) → IsAreaIndexOf was old.index → LsasDifferAmong keys area was is
+    → IsIndexUpdated is (IsOfSome keys (NamesVertex area)) old new before after → IsAreaIndexOf is new.index
 index_followed keys area was is old new before after right differ taken = record {
   index = taken.index;
   offered = λ v. elim (taken.each v) [
@@ -134,8 +134,8 @@ none_of_empty xs n x len empty c = let none = eqb-true n 0 empty in let within =
 
 -- what was gathered in all
 pub gathered : (root : ℕ) (d : Database) (vertices : List (ℕ × Vertex)) (interfaces : List ℕ) (names own : Vertex → Type 0) (old new : AreaIntraValue) (before first second after : List Prefix)
-    → IsTaken d names old new before first → HasOffered new.index (IsOfSome vertices (NamesIn new.id)) first second → HasOffered new.index own second after
-    → ((id : ℕ) → Contains interfaces id → own (Router root)) → IsGathered root vertices interfaces old new before after
+    → IsIndexUpdated d names old new before first → HasOffered new.index (IsOfSome vertices (NamesIn new.id)) first second → HasOffered new.index own second after
+    → ((id : ℕ) → Contains interfaces id → own (Router root)) → IsIndexFollowed root vertices interfaces old new before after
 gathered root d vertices interfaces names own old new before first second after taken named last touched = record {
   id = taken.id;
   reached = taken.reached;
@@ -283,20 +283,20 @@ by_vertices root a vertices given area id old new before after same all updated 
 
 module _ (root : ℕ) (d : Database) (a : AreaValue) (keys : List (Scope × Key)) (vertices : List (ℕ × Vertex)) (interfaces : List ℕ) (names own : Vertex → Type 0) (old mid by_key new : AreaIntraValue)
     (before first second after : List Prefix) (r_before r_mid r_after : List ℕ)
-    (taken : IsTaken d names old mid before first) (keyed : AreRoutersUpdated root a (λ r. IsOfSome keys (NamesVertex old.id) (Router r)) mid by_key r_before r_mid)
+    (taken : IsIndexUpdated d names old mid before first) (keyed : AreRoutersUpdated root a (λ r. IsOfSome keys (NamesVertex old.id) (Router r)) mid by_key r_before r_mid)
     (settled : AreRoutersUpdated root a (λ r. IsOfSome vertices (NamesIn old.id) (Router r)) by_key new r_mid r_after) where
   -- what the index makes of the area, before its routers are updated
   mid_is : mid ≡ with_index_of old new
   mid_is = λ i. record { id = taken.id i; index = sym (settled.index ∙ keyed.index) i; reached = taken.reached i }
 
   pub area_gathered : HasOffered by_key.index (IsOfSome vertices (NamesIn by_key.id)) first second → HasOffered new.index own second after → ((id : ℕ) → Contains interfaces id → own (Router root))
-      → IsGathered root vertices interfaces old (with_index_of old new) before after
+      → IsIndexFollowed root vertices interfaces old (with_index_of old new) before after
   area_gathered named last touched =
-      let here : IsGathered root vertices interfaces old mid before after =
+      let here : IsIndexFollowed root vertices interfaces old mid before after =
       gathered root d vertices interfaces names own old mid before first second after taken
       (subst (λ (i : IndexValue). HasOffered i (IsOfSome vertices (NamesIn mid.id)) first second) keyed.index (subst (λ (id : ℕ). HasOffered by_key.index (IsOfSome vertices (NamesIn id)) first second) keyed.id named))
       (subst (λ (i : IndexValue). HasOffered i own second after) (settled.index ∙ keyed.index) last) touched in
-      subst (λ (m : AreaIntraValue). IsGathered root vertices interfaces old m before after) mid_is here
+      subst (λ (m : AreaIntraValue). IsIndexFollowed root vertices interfaces old m before after) mid_is here
 
   pub area_updated : AreRoutersUpdated root a (IsRouterNamed keys vertices old.id) (with_index_of old new) new r_before r_after
   area_updated =

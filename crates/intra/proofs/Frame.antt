@@ -40,11 +40,11 @@ use Rattle.lsdb.specs.Databases.{Database}
 use Rattle.area_trees.specs.Areas.{IsStanding, IsUsed, router_key, network_key, body_at}
 use Rattle.area_trees.proofs.Standing.{one_standing}
 use Rattle.intra.specs.Changes.{DiffersAmong, AreasDifferAmong, InputsDifferAmong}
-use Rattle.intra.specs.declared.area_index.Source.{Source}
-use Rattle.intra.specs.Indexes.{IndexValue, OfferedValue, sources_of, IsSource, IsIndexOf, IsOfferedFor, IndexedOffers, offers_of}
+use Rattle.intra.specs.declared.area_index.PrefixSource.{PrefixSource}
+use Rattle.intra.specs.Indexes.{IndexValue, OfferedValue, sources_of, IsSource, IsAreaIndexOf, IsOfferedFor, IndexedOffers, offers_of}
 use Rattle.intra.specs.Inputs.{AreaValue, InputsValue, distance_at, hops_at}
 use Rattle.intra.specs.Intras.{AreaIntraValue, IntraValue, IsIntraOf, AreAreaIntras, IsEntryFor}
-use Rattle.intra.specs.Offers.{Offering, OffersBy, HasOffer, IsReachedFor, OffersTransit, OffersStub, OffersOwn, AreaOffers, KeyedOffers, OffersOf}
+use Rattle.intra.specs.Offers.{Offering, BodyOffers, HasOffer, IsReachedFor, OffersTransit, OffersStub, OffersOwn, AreaOffers, KeyedOffers, OffersOf}
 use Rattle.intra.specs.ReachedRouter.{ReachedValue, IsReachedOf, reached_by}
 
 -- ---- an index, and the database that it is of
@@ -57,7 +57,7 @@ listed_is d w (Some b) (Some o) stands is p metric = (
   λ has.
       let one = one_standing d w (Some has.0) (Some b) has.1 stands in
       let same : has.0 ≡ b = cc in
-      (is.exact p metric).1 (subst (λ (x : Body). OffersBy w x p metric) same has.2),
+      (is.exact p metric).1 (subst (λ (x : Body). BodyOffers w x p metric) same has.2),
 )
 listed_is d w (Some b) None stands is p metric = absurd is
 listed_is d w None o stands is p metric = (
@@ -66,7 +66,7 @@ listed_is d w None o stands is p metric = (
 )
 
 -- the sources of an index are what the LSAs offer
-pub source_is : (d : Database) (i : IndexValue) → IsIndexOf d i → (w : Vertex) (p : Prefix) (metric : ℕ) → IsSource i w p metric ↔ HasOffer d w p metric
+pub source_is : (d : Database) (i : IndexValue) → IsAreaIndexOf d i → (w : Vertex) (p : Prefix) (metric : ℕ) → IsSource i w p metric ↔ HasOffer d w p metric
 source_is d i is w p metric =
     let at = is.offered w in
     let same = is.index w p metric in
@@ -76,7 +76,7 @@ source_is d i is w p metric =
 -- each area has the index of its database
 abbrev pub AreIndexesOf : List AreaValue → List IndexValue → Type 0
 AreIndexesOf [] [] = Unit {0}
-AreIndexesOf (a ∷ rest) (i ∷ is) = IsIndexOf a.lsas i × AreIndexesOf rest is
+AreIndexesOf (a ∷ rest) (i ∷ is) = IsAreaIndexOf a.lsas i × AreIndexesOf rest is
 AreIndexesOf [] (i ∷ is) = ⊥
 AreIndexesOf (a ∷ rest) [] = ⊥
 
@@ -268,7 +268,7 @@ AreAlike p old new (a ∷ rest) [] = ⊥
 AreAlike p old new (a ∷ rest) (b ∷ bs) = IsAlike p (HasOffer a.lsas) (HasOffer b.lsas) old new a b × AreAlike p old new rest bs
 
 module _ (keys : List (Scope × Key)) (vertices : List (ℕ × Vertex)) (ids : List ℕ) (old new : InputsValue) (differ : InputsDifferAmong keys vertices ids old new) (p : Prefix) where
-  clean_alike : (a b : AreaValue) (i j : IndexValue) → DiffersAmong keys vertices a b → IsIndexOf a.lsas i → IsIndexOf b.lsas j → IsClean vertices ids new.root p b.id i j
+  clean_alike : (a b : AreaValue) (i j : IndexValue) → DiffersAmong keys vertices a b → IsAreaIndexOf a.lsas i → IsAreaIndexOf b.lsas j → IsClean vertices ids new.root p b.id i j
       → IsAlike p (HasOffer a.lsas) (HasOffer b.lsas) old new a b
   clean_alike a b i j differs before after clean =
       let was = source_is a.lsas i before in
@@ -399,10 +399,10 @@ none_stands (Network n) = inr (λ router used. no_use (network_key n router) use
 no_offer : (w : Vertex) (p : Prefix) (metric : ℕ) → HasOffer empty w p metric → ⊥
 no_offer w p metric has = let one = one_standing empty w (Some has.0) None has.1 (none_stands w) in absurd cc
 
-blank_index_is : IsIndexOf empty (record { offered = empty; sources = empty })
+blank_index_is : IsAreaIndexOf empty (record { offered = empty; sources = empty })
 blank_index_is = record {
   index = λ w p metric. (
-    λ c. absurd (no_element _ (subst (λ (o : Option (List Source)). Contains (sources_of o) (record { vertex = w; metric = metric })) (get-empty network_cmp p) c)),
+    λ c. absurd (no_element _ (subst (λ (o : Option (List PrefixSource)). Contains (sources_of o) (record { vertex = w; metric = metric })) (get-empty network_cmp p) c)),
     λ c. absurd (no_element _ (subst (λ (o : Option OfferedValue). Contains (offers_of o) (record { prefix = p; metric = metric })) (get-empty vertex_cmp w) c)),
   );
   offered = λ w. (None, none_stands w, get-empty vertex_cmp w);

@@ -12,11 +12,11 @@ use Rattle.ospf_types.specs.Network.{Network, network_cmp}
 use Rattle.ospf_types.proofs.KeyOrders.{prefixes_equal}
 use Rattle.ospf_types.proofs.Orders.{network_total, network_exact}
 use Rattle.route_choice.proofs.KeyedMaps.{one_or_other, set_here, set_elsewhere, gone_here, gone_elsewhere}
-use Rattle.intra.specs.declared.area_index.Source.{Source}
+use Rattle.intra.specs.declared.area_index.PrefixSource.{PrefixSource}
 use Rattle.intra.specs.Indexes.{SourcesByPrefix, AreSourceLists}
 use Rattle.intra.proofs.SourceMaps.{sources_map, sources_written, sources_removed}
 
-abbrev pub IsSourceList : List Source → Type 0
+abbrev pub IsSourceList : List PrefixSource → Type 0
 IsSourceList list = (list ≢ []) × AllPairs (λ a b. a ≢ b) list
 
 pub none_kept : (m : SourcesByPrefix) → m ≡ empty → AreSourceLists m
@@ -24,7 +24,7 @@ none_kept m is p list stands = absurd (let wrong : Some list ≡ None = sym stan
 
 module _ (old : SourcesByPrefix) (p : Prefix) (are : AreSourceLists old) where
   -- where one prefix gets another list, all are lists of sources still
-  pub kept_with : (list : List Source) → IsSourceList list → AreSourceLists (insert old p list)
+  pub kept_with : (list : List PrefixSource) → IsSourceList list → AreSourceLists (insert old p list)
   kept_with list is q found stands =
       elim (one_or_other network_total network_exact p q) [
         | inl same ↦
@@ -35,7 +35,7 @@ module _ (old : SourcesByPrefix) (p : Prefix) (are : AreSourceLists old) where
       ]
 
   -- where one prefix loses its list, all are lists of sources still
-  pub kept_without : (list : List Source) → AreSourceLists (remove (insert old p list) p)
+  pub kept_without : (list : List PrefixSource) → AreSourceLists (remove (insert old p list) p)
   kept_without list q found stands =
       elim (one_or_other network_total network_exact p q) [
         | inl same ↦
@@ -46,7 +46,7 @@ module _ (old : SourcesByPrefix) (p : Prefix) (are : AreSourceLists old) where
       ]
 
 -- one prefix gets a list in the entries, and then loses it
-pub taken_out : (es fs gs : List (Network × SmallVec Source)) (p : Network) (list : SmallVec Source) → AreSourceLists (sources_map es)
+pub taken_out : (es fs gs : List (Network × SmallVec PrefixSource)) (p : Network) (list : SmallVec PrefixSource) → AreSourceLists (sources_map es)
     → ((q : Network) → lookup (prefixes_equal q) fs ≡ cond (prefixes_equal p q) (Some list) (lookup (prefixes_equal q) es))
     → ((q : Network) → lookup (prefixes_equal q) gs ≡ cond (prefixes_equal p q) None (lookup (prefixes_equal q) fs))
     → AreSourceLists (sources_map gs)
@@ -55,10 +55,10 @@ taken_out es fs gs p list are written removed =
     (kept_without (sources_map es) p are list.items)
 
 -- one more source, which is not there
-pub one_more : (had : List Source) (s : Source) → AllPairs (λ a b. a ≢ b) had → (Contains had s → ⊥) → IsSourceList (had ++ s ∷ [])
+pub one_more : (had : List PrefixSource) (s : PrefixSource) → AllPairs (λ a b. a ≢ b) had → (Contains had s → ⊥) → IsSourceList (had ++ s ∷ [])
 one_more had s apart absent = (
-  λ none. omega (arith, length_push had s, ap (λ (xs : List Source). length xs) none),
-  all_pairs_push (λ a b. a ≢ b) had s apart (λ k d lt same. absent (subst (λ (x : Source). Contains had x) same (Contains-get_or had k d lt))),
+  λ none. omega (arith, length_push had s, ap (λ (xs : List PrefixSource). length xs) none),
+  all_pairs_push (λ a b. a ≢ b) had s apart (λ k d lt same. absent (subst (λ (x : PrefixSource). Contains had x) same (Contains-get_or had k d lt))),
 )
 
 -- where none occurs twice, the one at a place is not before it

@@ -6,7 +6,7 @@ use Rattle.std.proofs.lemmas.List.Elements.{Contains-append_left, Contains-push,
 use Rattle.ospf_types.specs.declared.entry.Vertex.TheVariants.{Network, Router}
 use Rattle.ospf_types.specs.declared.prefix.Prefix.{Prefix}
 use Rattle.ospf_types.proofs.Elements.{no_element}
-use Rattle.intra.specs.declared.area_index.Source.{Source}
+use Rattle.intra.specs.declared.area_index.PrefixSource.{PrefixSource}
 use Rattle.intra.specs.declared.choose.ReachedNetwork.{ReachedNetwork}
 use Rattle.intra.specs.Choosing.{AmongSources, FindsNearest, IsNoFarther}
 use Rattle.intra.specs.Inputs.{AreaValue, distance_at}
@@ -31,7 +31,7 @@ module _ (a : AreaValue) (p : Prefix) where
   nearest_of_none = λ id distance reached. no_element (record { vertex = Network id; metric = 0 }) reached.0
 
   -- a network that is no farther than the one that was found is no farther than any before it
-  below_all : (before : List Source) (result : ReachedNetwork) (best : Option ReachedNetwork) → FindsNearest (AmongSources before) a p best → IfSome best (λ n. IsNoFarther result n) → (other d : ℕ) → IsReachedFor (AmongSources before) a p other d → IsNoFarther result (reached_at other d)
+  below_all : (before : List PrefixSource) (result : ReachedNetwork) (best : Option ReachedNetwork) → FindsNearest (AmongSources before) a p best → IfSome best (λ n. IsNoFarther result n) → (other d : ℕ) → IsReachedFor (AmongSources before) a p other d → IsNoFarther result (reached_at other d)
   below_all before result None found below other d reached = absurd (found other d reached)
   below_all before result (Some b) found below other d reached =
       let first = below.near in
@@ -45,7 +45,7 @@ module _ (a : AreaValue) (p : Prefix) where
             omega (arith, here, most);
       }
 
-  module _ (before : List Source) (s : Source) where
+  module _ (before : List PrefixSource) (s : PrefixSource) where
     abbrev After : Offering
     After = AmongSources (before ++ s ∷ [])
 
@@ -65,10 +65,10 @@ module _ (a : AreaValue) (p : Prefix) where
 
     -- the source is a stub link
     pub passes_router : (best : Option ReachedNetwork) (router : ℕ) → s.vertex ≡ Router router → FindsNearest (AmongSources before) a p best → FindsNearest After a p best
-    passes_router best router is = passed best (λ id d e far. let both : Router router ≡ Network id = sym is ∙ ap (λ (t : Source). t.vertex) e in absurd cc)
+    passes_router best router is = passed best (λ id d e far. let both : Router router ≡ Network id = sym is ∙ ap (λ (t : PrefixSource). t.vertex) e in absurd cc)
 
     pub passes_unreached : (best : Option ReachedNetwork) → distance_at a s.vertex ≡ None → FindsNearest (AmongSources before) a p best → FindsNearest After a p best
-    passes_unreached best none = passed best (λ id d e far. let both : Some d ≡ None = sym far ∙ ap (λ (t : Source). distance_at a t.vertex) (sym e) ∙ none in absurd cc)
+    passes_unreached best none = passed best (λ id d e far. let both : Some d ≡ None = sym far ∙ ap (λ (t : PrefixSource). distance_at a t.vertex) (sym e) ∙ none in absurd cc)
 
     -- the source is a transit network that is reached
     pub takes_reached : (best : Option ReachedNetwork) (id d : ℕ) (result : ReachedNetwork) → s.vertex ≡ Network id → s.metric ≡ 0 → distance_at a s.vertex ≡ Some d → (result ≡ reached_at id d) ⊎ (best ≡ Some result) → IsNoFarther result (reached_at id d) → IfSome best (λ n. IsNoFarther result n) → FindsNearest (AmongSources before) a p best → FindsNearest After a p (Some result)
@@ -77,9 +77,9 @@ module _ (a : AreaValue) (p : Prefix) where
         let all : (other e : ℕ) → IsReachedFor After a p other e → IsNoFarther result (reached_at other e) = λ other e reached.
         ⊎_elim (λ (c : Contains before (record { vertex = Network other; metric = 0 })). below_all before result best found below other e (c, reached.1))
         (λ (same : s ≡ record { vertex = Network other; metric = 0 }).
-        let v : Network id ≡ Network other = sym is ∙ ap (λ (t : Source). t.vertex) same in
+        let v : Network id ≡ Network other = sym is ∙ ap (λ (t : PrefixSource). t.vertex) same in
         let number : id ≡ other = cc in
-        let both : Some d ≡ Some e = sym far ∙ ap (λ (t : Source). distance_at a t.vertex) same ∙ reached.1 in
+        let both : Some d ≡ Some e = sym far ∙ ap (λ (t : PrefixSource). distance_at a t.vertex) same ∙ reached.1 in
         let distance : d ≡ e = cc in
         subst (IsNoFarther result) (λ i. reached_at (number i) (distance i)) here)
         (Contains-push_cases before s (record { vertex = Network other; metric = 0 }) reached.0) in

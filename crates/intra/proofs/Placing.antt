@@ -14,11 +14,11 @@ use Rattle.ospf_types.specs.declared.key.Scope.{Scope}
 use Rattle.ospf_types.specs.declared.key.Scope.TheVariants.{Area}
 use Rattle.ospf_types.proofs.Elements.{no_element}
 use Rattle.lsdb.specs.Databases.{Database}
-use Rattle.intra.specs.Indexes.{IsIndexOf}
+use Rattle.intra.specs.Indexes.{IsAreaIndexOf}
 use Rattle.intra.specs.Inputs.{AreaValue}
 use Rattle.intra.specs.Intras.{AreaIntraValue}
-use Rattle.intra.specs.Following.{IsGathered, AreRoutersUpdated, IsRouterNamed, LsasDifferAmong, with_index_of}
-use Rattle.intra.specs.Updating.{AreFirst, IsFollowed, IsSettled, IsBroughtTo, IsKeptBefore, HasOtherAmong}
+use Rattle.intra.specs.Following.{IsIndexFollowed, AreRoutersUpdated, IsRouterNamed, LsasDifferAmong, with_index_of}
+use Rattle.intra.specs.Updating.{AreFirst, IsFollowed, AreRoutersSettled, IsBroughtTo, IsKeptBefore, HasOtherAmong}
 
 -- nothing is done yet
 pub first_none : (P : AreaValue → AreaIntraValue → AreaIntraValue → Type 0) (areas : List AreaValue) (old : List AreaIntraValue) → AreFirst P areas old old 0
@@ -95,8 +95,8 @@ other_more old now place router i j within here rest = (
     was k e x = ap (λ (n : ℕ). get (get_or old n x).reached router) e ∙ ap (λ (z : AreaIntraValue). get z.reached router) (sym (rest place x (omega arith)) ∙ get_or_default now place x i within ∙ sym here)
 
 -- what one area gathered
-pub followed_from : (root : ℕ) (vertices : List (ℕ × Vertex)) (interfaces : List ℕ) (before after : List Prefix) (a : AreaValue) (i j : AreaIntraValue) → IsIndexOf a.lsas j.index
-    → IsGathered root vertices interfaces i j before after → IsFollowed root vertices interfaces after a i j
+pub followed_from : (root : ℕ) (vertices : List (ℕ × Vertex)) (interfaces : List ℕ) (before after : List Prefix) (a : AreaValue) (i j : AreaIntraValue) → IsAreaIndexOf a.lsas j.index
+    → IsIndexFollowed root vertices interfaces i j before after → IsFollowed root vertices interfaces after a i j
 followed_from root vertices interfaces before after a i j index was = record {
   index = index;
   gathered = record {
@@ -110,7 +110,7 @@ followed_from root vertices interfaces before after a i j index was = record {
 
 -- what a step settled
 pub settled_from : (root : ℕ) (keys : List (Scope × Key)) (vertices : List (ℕ × Vertex)) (before after : List ℕ) (a : AreaValue) (i j : AreaIntraValue)
-    → AreRoutersUpdated root a (IsRouterNamed keys vertices i.id) i j before after → IsSettled root keys vertices a i j
+    → AreRoutersUpdated root a (IsRouterNamed keys vertices i.id) i j before after → AreRoutersSettled root keys vertices a i j
 settled_from root keys vertices before after a i j is = record {
   id = is.id;
   index = is.index;
@@ -120,7 +120,7 @@ settled_from root keys vertices before after a i j is = record {
 -- the index of an area belonged to a database, from which the area's differs in no more than is
 -- named
 pub kept_before : (root : ℕ) (keys : List (Scope × Key)) (vertices : List (ℕ × Vertex)) (a : AreaValue) (i : AreaIntraValue) → IsKeptBefore root keys vertices a i
-    → (before : Database) × IsIndexOf before i.index × LsasDifferAmong keys i.id before a.lsas
+    → (before : Database) × IsAreaIndexOf before i.index × LsasDifferAmong keys i.id before a.lsas
 kept_before root keys vertices a i is =
     (is.0.lsas, is.1.index, λ key absent. is.2.lsas key (λ c. absent (subst (λ (id : ℕ). Contains keys (Area id, key)) (sym is.1.id) c)))
 

@@ -6,7 +6,7 @@ use Rattle.std.specs.List.Retain.{RetainsInTurn}
 use Rattle.std.proofs.lemmas.Bool.{true≢false}
 use Rattle.ospf_types.specs.declared.entry.Vertex.{Vertex}
 use Rattle.ospf_types.proofs.Elements.{no_element, first_element, later_element, first_or_later}
-use Rattle.intra.specs.declared.area_index.Source.{Source}
+use Rattle.intra.specs.declared.area_index.PrefixSource.{PrefixSource}
 use Rattle.ospf_types.proofs.VertexOrder.{vertices_equal, vertices_decided}
 
 module _ {X : Type 0} (test : X → Bool) where
@@ -41,7 +41,7 @@ retained R test f says (x ∷ xs) ys h =
     h.6 ∙ (λ i. cond (said.0 i) (said.2 i ∷ rest i) (rest i))
 
 -- the source is of another vertex
-abbrev pub is_of_another : Vertex → Source → Bool
+abbrev pub is_of_another : Vertex → PrefixSource → Bool
 is_of_another v s = not (vertices_equal s.vertex v)
 
 other_is : (b : Bool) → not b ≡ true → b ≡ true → ⊥
@@ -52,11 +52,11 @@ other_from : (b : Bool) → (b ≡ true → ⊥) → not b ≡ true
 other_from true other = absurd (other refl)
 other_from false other = refl
 
-pub left_out : (v : Vertex) (xs ys : List Source) → ys ≡ filter (is_of_another v) xs → (w : Vertex) (metric : ℕ)
+pub left_out : (v : Vertex) (xs ys : List PrefixSource) → ys ≡ filter (is_of_another v) xs → (w : Vertex) (metric : ℕ)
     → Contains ys (record { vertex = w; metric = metric }) ↔ (Contains xs (record { vertex = w; metric = metric }) × (w ≢ v))
 left_out v xs ys is w metric =
-    let s : Source = record { vertex = w; metric = metric } in (
-      λ c. let k = kept_from (is_of_another v) xs s (subst (λ (zs : List Source). Contains zs s) is c) in
+    let s : PrefixSource = record { vertex = w; metric = metric } in (
+      λ c. let k = kept_from (is_of_another v) xs s (subst (λ (zs : List PrefixSource). Contains zs s) is c) in
           (k.0, λ same. other_is (vertices_equal w v) k.1 ((vertices_decided w v).1 same)),
-      λ c. subst (λ (zs : List Source). Contains zs s) (sym is) (kept (is_of_another v) xs s c.0 (other_from (vertices_equal w v) (λ t. c.1 ((vertices_decided w v).0 t)))),
+      λ c. subst (λ (zs : List PrefixSource). Contains zs s) (sym is) (kept (is_of_another v) xs s c.0 (other_from (vertices_equal w v) (λ t. c.1 ((vertices_decided w v).0 t)))),
     )

@@ -14,7 +14,7 @@ use Rattle.ospf_types.specs.declared.entry.PathType.TheVariants.{Intra}
 use Rattle.ospf_types.specs.Hops.{path_cmp}
 use Rattle.ospf_types.specs.Intra.{AreaCost, area_cost_cmp, inside_area}
 use Rattle.ospf_types.specs.Routes.{entry_of}
-use Rattle.intra.specs.declared.area_index.Source.{Source}
+use Rattle.intra.specs.declared.area_index.PrefixSource.{PrefixSource}
 use Rattle.route_choice.specs.Choices.{Chosen, IsChosen}
 use Rattle.intra.specs.Choosing.{TakesPaths, AmongSources, ThisSource, KeyedStubs, KeyedTransit, HopsOffer, InterfaceOffers, IsOver, FindsNearest}
 use Rattle.intra.specs.Indexes.{IndexValue, IndexedOffers, IsSource, sources_of}
@@ -29,14 +29,14 @@ use Rattle.intra.proofs.Nearest.{nearest_is_one}
 abbrev PathChoice : Type 0
 PathChoice = Option (Chosen AreaCost Path)
 
-abbrev stub_link : ℕ → ℕ → Source
+abbrev stub_link : ℕ → ℕ → PrefixSource
 stub_link router metric = record { vertex = Router router; metric = metric }
 
 same_router : (r m router metric : ℕ) → stub_link r m ≡ stub_link router metric → r ≡ router
-same_router r m router metric e = let v : Router r ≡ Router router = ap (λ (s : Source). s.vertex) e in cc
+same_router r m router metric e = let v : Router r ≡ Router router = ap (λ (s : PrefixSource). s.vertex) e in cc
 
 same_metric : (r m router metric : ℕ) → stub_link r m ≡ stub_link router metric → m ≡ metric
-same_metric r m router metric e = ap (λ (s : Source). s.metric) e
+same_metric r m router metric e = ap (λ (s : PrefixSource). s.metric) e
 
 -- ---- over an interface
 
@@ -96,17 +96,17 @@ module _ (v : InputsValue) (a : AreaValue) (p : Prefix) where
   -- ---- the sources
 
   -- a router's is a stub link
-  pub takes_router : (s : Source) (router : ℕ) (old new : PathChoice) → s.vertex ≡ Router router → TakesPaths (KeyedStubs (ThisSource (stub_link router s.metric)) v a p) old new → TakesPaths (KeyedStubs (ThisSource s) v a p) old new
-  takes_router s router old new is takes = subst (λ (t : Source). TakesPaths (KeyedStubs (ThisSource t) v a p) old new) (λ i. record { vertex = sym is i; metric = s.metric }) takes
+  pub takes_router : (s : PrefixSource) (router : ℕ) (old new : PathChoice) → s.vertex ≡ Router router → TakesPaths (KeyedStubs (ThisSource (stub_link router s.metric)) v a p) old new → TakesPaths (KeyedStubs (ThisSource s) v a p) old new
+  takes_router s router old new is takes = subst (λ (t : PrefixSource). TakesPaths (KeyedStubs (ThisSource t) v a p) old new) (λ i. record { vertex = sym is i; metric = s.metric }) takes
 
   -- a network's is none
-  pub takes_network : (s : Source) (id : ℕ) (c : PathChoice) → s.vertex ≡ Network id → TakesPaths (KeyedStubs (ThisSource s) v a p) c c
+  pub takes_network : (s : PrefixSource) (id : ℕ) (c : PathChoice) → s.vertex ≡ Network id → TakesPaths (KeyedStubs (ThisSource s) v a p) c c
   takes_network s id c is = takes_none (KeyedStubs (ThisSource s) v a p) (λ key path h. ⊎_elim
-      (λ (w : OffersStub (ThisSource s) v.root a p key.0 path). let e : Network id ≡ Router w.0 = sym is ∙ ap (λ (t : Source). t.vertex) w.5 in absurd cc)
-      (λ (w : OffersOwn (ThisSource s) v a p key.0 path). let e : Network id ≡ Router v.root = sym is ∙ ap (λ (t : Source). t.vertex) w.2 in absurd cc)
+      (λ (w : OffersStub (ThisSource s) v.root a p key.0 path). let e : Network id ≡ Router w.0 = sym is ∙ ap (λ (t : PrefixSource). t.vertex) w.5 in absurd cc)
+      (λ (w : OffersOwn (ThisSource s) v a p key.0 path). let e : Network id ≡ Router v.root = sym is ∙ ap (λ (t : PrefixSource). t.vertex) w.2 in absurd cc)
       h.1) c
 
-  module _ (sources : List Source) where
+  module _ (sources : List PrefixSource) where
     -- one after the other
     pub takes_sources : (old new : PathChoice) → TakesPaths (OfferedBySome sources (λ s. KeyedStubs (ThisSource s) v a p)) old new → TakesPaths (KeyedStubs (AmongSources sources) v a p) old new
     takes_sources old new takes = takes_same (OfferedBySome sources (λ s. KeyedStubs (ThisSource s) v a p)) (KeyedStubs (AmongSources sources) v a p) (λ key path. (
@@ -173,13 +173,13 @@ module _ (f g : Offering) (v : InputsValue) (a : AreaValue) (p : Prefix) (same :
   )
 
 -- the sources of the prefix in an index
-pub takes_indexed : (i : IndexValue) (v : InputsValue) (a : AreaValue) (p : Prefix) (sources : List Source) (old new : PathChoice) → sources ≡ sources_of (get i.sources p) → TakesPaths (KeyedOffers (AmongSources sources) v a p) old new → TakesPaths (KeyedOffers (IsSource i) v a p) old new
+pub takes_indexed : (i : IndexValue) (v : InputsValue) (a : AreaValue) (p : Prefix) (sources : List PrefixSource) (old new : PathChoice) → sources ≡ sources_of (get i.sources p) → TakesPaths (KeyedOffers (AmongSources sources) v a p) old new → TakesPaths (KeyedOffers (IsSource i) v a p) old new
 takes_indexed i v a p sources old new is takes =
-    let indexed : List Source = sources_of (get i.sources p) in
+    let indexed : List PrefixSource = sources_of (get i.sources p) in
     takes_same (KeyedOffers (AmongSources indexed) v a p) (KeyedOffers (IsSource i) v a p) (λ key path. (
       keyed_alike (AmongSources indexed) (IsSource i) v a p (λ w metric. (λ c. c, λ c. c)) key path,
       keyed_alike (IsSource i) (AmongSources indexed) v a p (λ w metric. (λ c. c, λ c. c)) key path,
-    )) old new (subst (λ (xs : List Source). TakesPaths (KeyedOffers (AmongSources xs) v a p) old new) is takes)
+    )) old new (subst (λ (xs : List PrefixSource). TakesPaths (KeyedOffers (AmongSources xs) v a p) old new) is takes)
 
 -- ---- all areas
 

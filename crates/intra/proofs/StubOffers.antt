@@ -13,17 +13,17 @@ use Rattle.ospf_types.proofs.Elements.{no_element, first_element, first_or_later
 use Rattle.lsa_codec.specs.Readers.{links_of, prefix_of, without_tos}
 use Rattle.area_trees.specs.Areas.{vertex_of}
 use Rattle.vertex_graph.proofs.Gathered.{given_from, given}
-use Rattle.intra.specs.declared.offered.Offer.{Offer}
+use Rattle.intra.specs.declared.offered.OfferedPrefix.{OfferedPrefix}
 use Rattle.intra.specs.Indexes.{bits_of}
-use Rattle.intra.specs.Offers.{OffersBy}
+use Rattle.intra.specs.Offers.{BodyOffers}
 use Rattle.intra.specs.Stubs.{offer_by, offer_of_link, stub_of_link, transit_offers}
 
-abbrev record_of : Prefix → ℕ → Offer
+abbrev record_of : Prefix → ℕ → OfferedPrefix
 record_of p metric = record { prefix = p; metric = metric }
 
 -- the list has what the vertex offers by the body, and nothing else
-abbrev pub HasOffersOf : Vertex → Body → List Offer → Type 0
-HasOffersOf v body offers = (p : Prefix) (metric : ℕ) → Contains offers (record { prefix = p; metric = metric }) ↔ OffersBy v body p metric
+abbrev pub HasOffersOf : Vertex → Body → List OfferedPrefix → Type 0
+HasOffersOf v body offers = (p : Prefix) (metric : ℕ) → Contains offers (record { prefix = p; metric = metric }) ↔ BodyOffers v body p metric
 
 -- the TOS entries of a link do not count
 pub stubs_without_tos : (ls : List RouterLink) → filter_map offer_of_link (map without_tos ls) ≡ filter_map stub_of_link ls
@@ -37,7 +37,7 @@ kind_is kind.PointToPoint l p metric e = absurd cc
 kind_is kind.Transit l p metric e = absurd cc
 kind_is kind.Stub l p metric e =
     let same : record_of (network_of l.id l.detail) l.metric ≡ record_of p metric = ap (λ o. unwrap_or o (record_of p metric)) e in
-    (refl, ap (λ (o : Offer). o.prefix) same, ap (λ (o : Offer). o.metric) same)
+    (refl, ap (λ (o : OfferedPrefix). o.prefix) same, ap (λ (o : OfferedPrefix). o.metric) same)
 kind_is kind.Virtual l p metric e = absurd cc
 
 pub router_offers : (router : ℕ) (body : Body) → HasOffersOf (Router router) body (filter_map stub_of_link (links_of body))
@@ -53,7 +53,7 @@ transit_has : (o : Option Prefix) (p : Prefix) (metric : ℕ) → Contains (tran
 transit_has None p metric = (λ has. absurd (no_element _ has), λ is. absurd cc)
 transit_has (Some q) p metric = (
   λ has. ⊎_elim
-      (λ (same : record_of p metric ≡ record_of q 0). (ap (λ (o : Offer). Some o.prefix) (sym same), ap (λ (o : Offer). o.metric) same))
+      (λ (same : record_of p metric ≡ record_of q 0). (ap (λ (o : OfferedPrefix). Some o.prefix) (sym same), ap (λ (o : OfferedPrefix). o.metric) same))
       (λ (none : Contains [] (record_of p metric)). absurd (no_element _ none))
       (first_or_later (record_of q 0) (record_of p metric) [] has),
   λ is. let same : q ≡ p = ap (λ o. unwrap_or o p) is.0 in
@@ -74,7 +74,7 @@ pub network_has_at : (n : ℕ) (l : Lsa) → vertex_of (key_of l) ≡ Some (Netw
 network_has_at n l own =
     subst (λ (id : ℕ). HasOffersOf (Network id) l.body (transit_offers (prefix_of l))) (network_number (l.header.kind == 1) (l.header.kind == 2) l.header.router l.header.id n own) (network_has l)
 
-pub has_offers_of_same : (v w : Vertex) (body : Body) (given is : List Offer) → v ≡ w → ((o : Offer) → Contains given o ↔ Contains is o) → HasOffersOf w body is → HasOffersOf v body given
+pub has_offers_of_same : (v w : Vertex) (body : Body) (given is : List OfferedPrefix) → v ≡ w → ((o : OfferedPrefix) → Contains given o ↔ Contains is o) → HasOffersOf w body is → HasOffersOf v body given
 has_offers_of_same v w body given is same alike has p metric =
     let at = alike (record_of p metric) in
     let there = subst (λ (x : Vertex). HasOffersOf x body is) (sym same) has p metric in
@@ -85,7 +85,7 @@ pub transit_once : (o : Option Prefix) → AllPairs (λ a b. a ≢ b) (transit_o
 transit_once None i j d lt within = absurd (omega (arith, within))
 transit_once (Some p) i j d lt within = absurd (omega (arith, lt, within))
 
-pub has_offers_of_eq : (v w : Vertex) (body : Body) (given is : List Offer) → v ≡ w → given ≡ is → HasOffersOf w body is → HasOffersOf v body given
+pub has_offers_of_eq : (v w : Vertex) (body : Body) (given is : List OfferedPrefix) → v ≡ w → given ≡ is → HasOffersOf w body is → HasOffersOf v body given
 has_offers_of_eq v w body given is same equal has = subst (λ (x : Vertex). HasOffersOf x body given) (sym same) (subst (HasOffersOf w body) (sym equal) has)
 
 pub bits_are : (flags : Option ℕ) → unwrap_or flags 0 ≡ bits_of flags

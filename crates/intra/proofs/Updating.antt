@@ -20,13 +20,13 @@ use Rattle.lsa_codec.specs.Readers.{flags_of}
 use Rattle.area_trees.specs.Areas.{router_key}
 use Rattle.intra.specs.Changes.{AreasDifferAmong, InputsDifferAmong, HasOtherRouter, DiffersAt}
 use Rattle.intra.specs.Following.{router_now, with_index_of}
-use Rattle.intra.specs.Indexes.{IndexValue, OfferedValue, IsIndexOf, IsOfferedFor, IsSource, IndexedOffers, bits_of}
+use Rattle.intra.specs.Indexes.{IndexValue, OfferedValue, IsAreaIndexOf, IsOfferedFor, IsSource, IndexedOffers, bits_of}
 use Rattle.intra.specs.Inputs.{AreaValue, InputsValue, distance_at, hops_at}
 use Rattle.intra.specs.Intras.{AreaIntraValue, IntraValue, IsAreaIntra, AreAreaIntras, IsEntryFor, IsIntraOf}
 use Rattle.intra.specs.Offers.{OffersOf}
 use Rattle.intra.specs.ReachedRouter.{ReachedByRouter, ReachedValue, IsReachedOf, reached_by}
 use Rattle.intra.specs.ChosenAnew.{AreEntriesChosenAnew}
-use Rattle.intra.specs.Updating.{IsKeptBefore, AreKeptBefore, AreFirst, IsFollowed, IsSettled, IsBroughtTo, HasOtherAmong}
+use Rattle.intra.specs.Updating.{IsKeptBefore, AreKeptBefore, AreFirst, IsFollowed, AreRoutersSettled, IsBroughtTo, HasOtherAmong}
 use Rattle.route_choice.proofs.Among.{net_among, router_among}
 use Rattle.route_choice.proofs.KeyedMaps.{listed_or_not}
 use Rattle.intra.proofs.Frame.{IsClean, AreClean, indexes_in, indexes_of, indexed_is, entry_same, entry_kept, router_kept}
@@ -87,13 +87,13 @@ value_agrees root router (Some b) None distance hops is = absurd is
 value_agrees root router (Some b) (Some x) distance hops is = bits_agree root router x.flags (flags_of b) distance hops is.flags
 
 -- what is kept by the index of the database is right
-pub router_right : (root : ℕ) (a : AreaValue) (i : IndexValue) (router : ℕ) (value : Option ReachedValue) → IsIndexOf a.lsas i → value ≡ router_now root a i router → IsReachedOf root a router value
+pub router_right : (root : ℕ) (a : AreaValue) (i : IndexValue) (router : ℕ) (value : Option ReachedValue) → IsAreaIndexOf a.lsas i → value ≡ router_now root a i router → IsReachedOf root a router value
 router_right root a i router value is e =
     let at = is.offered (vertex.Router router) in
     (at.0, at.1, e ∙ value_agrees root router at.0 (get i.offered (vertex.Router router)) (distance_at a (vertex.Router router)) (hops_at a (vertex.Router router)) at.2)
 
 module _ (root : ℕ) (keys : List (Scope × Key)) (vertices : List (ℕ × Vertex)) (ids : List ℕ) (prefixes : List Prefix) (a : AreaValue) (i m j : AreaIntraValue)
-    (before : IsKeptBefore root keys vertices a i) (followed : IsFollowed root vertices ids prefixes a i m) (settled : IsSettled root keys vertices a m j) where
+    (before : IsKeptBefore root keys vertices a i) (followed : IsFollowed root vertices ids prefixes a i m) (settled : AreRoutersSettled root keys vertices a m j) where
   -- an area that followed belongs to the present one
   pub one_area : IsAreaIntra root a j
   one_area =
@@ -101,7 +101,7 @@ module _ (root : ℕ) (keys : List (Scope × Key)) (vertices : List (ℕ × Vert
       let was : m.id ≡ b.id = followed.gathered.id ∙ before.1.id in
       record {
         id = settled.id ∙ was ∙ sym before.2.id;
-        index = subst (IsIndexOf a.lsas) (sym settled.index) followed.index;
+        index = subst (IsAreaIndexOf a.lsas) (sym settled.index) followed.index;
         reached = λ r. elim (settled.each r) [
           | inl now ↦ router_right root a m.index r (get j.reached r) followed.index now
           | inr kept ↦

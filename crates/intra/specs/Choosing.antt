@@ -8,29 +8,29 @@ use Rattle.ospf_types.specs.declared.hop.Path.{Path}
 use Rattle.ospf_types.specs.declared.prefix.Prefix.{Prefix}
 use Rattle.ospf_types.specs.Hops.{path_cmp}
 use Rattle.ospf_types.specs.Intra.{AreaCost, area_cost_cmp, LiesIn, inside_area}
-use Rattle.intra.specs.declared.area_index.Source.{Source}
+use Rattle.intra.specs.declared.area_index.PrefixSource.{PrefixSource}
 use Rattle.intra.specs.declared.choose.ReachedNetwork.{ReachedNetwork}
 use Rattle.route_choice.specs.Choices.{Chosen}
 use Rattle.intra.specs.Indexes.{IndexedOffers}
 use Rattle.intra.specs.Inputs.{AreaValue, InputsValue}
 use Rattle.intra.specs.Intras.{AreaIntraValue}
 use Rattle.intra.specs.Offers.{Offering, IsReachedFor, IsNearest, KeyedOffers, OffersTransit, OffersStub, OffersOwn}
-use Rattle.route_choice.specs.Takes.{Takes, OnlyOffer, OfferedBySome}
+use Rattle.route_choice.specs.Takes.{TakesOffers, OnlyOffer, OfferedBySome}
 
 -- just these offers of paths were taken
 abbrev pub TakesPaths : (AreaCost → Path → Type 0) → Option (Chosen AreaCost Path) → Option (Chosen AreaCost Path) → Type 0
-TakesPaths offers old new = Takes area_cost_cmp path_cmp offers old new
+TakesPaths offers old new = TakesOffers area_cost_cmp path_cmp offers old new
 
 -- all that the areas offer to a network, by what is kept of them
 abbrev pub IndexOffers : InputsValue → List AreaIntraValue → Prefix → AreaCost → Path → Type 0
 IndexOffers v kept p = IndexedOffers v (map (λ (a : AreaIntraValue). a.index) kept) v.areas p
 
 -- the sources of one prefix offer it
-abbrev pub AmongSources : List Source → Offering
+abbrev pub AmongSources : List PrefixSource → Offering
 AmongSources sources v p metric = Contains sources (record { vertex = v; metric = metric })
 
 -- only one source offers it
-abbrev pub ThisSource : Source → Offering
+abbrev pub ThisSource : PrefixSource → Offering
 ThisSource source v p metric = source ≡ record { vertex = v; metric = metric }
 
 -- what an area offers by stub links, at its cost in that area
@@ -42,19 +42,19 @@ abbrev pub KeyedTransit : Offering → AreaValue → Prefix → AreaCost → Pat
 KeyedTransit offered a p key path = (key.1 ≡ a.id) × OffersTransit offered a p key.0 path
 
 -- what these sources of an area offer to a network
-abbrev pub SourcesOffer : List Source → InputsValue → AreaValue → Prefix → AreaCost → Path → Type 0
+abbrev pub SourcesOffer : List PrefixSource → InputsValue → AreaValue → Prefix → AreaCost → Path → Type 0
 SourcesOffer sources v a p = KeyedOffers (AmongSources sources) v a p
 
 -- what one source of an area offers by stub links
-abbrev pub StubOffers : Source → InputsValue → AreaValue → Prefix → AreaCost → Path → Type 0
+abbrev pub StubOffers : PrefixSource → InputsValue → AreaValue → Prefix → AreaCost → Path → Type 0
 StubOffers source v a p = KeyedStubs (ThisSource source) v a p
 
 -- what these sources of an area offer as transit networks
-abbrev pub TransitOffers : List Source → AreaValue → Prefix → AreaCost → Path → Type 0
+abbrev pub TransitOffers : List PrefixSource → AreaValue → Prefix → AreaCost → Path → Type 0
 TransitOffers sources a p = KeyedTransit (AmongSources sources) a p
 
 -- the source that a stub link of a router is
-abbrev pub router_source : ℕ → ℕ → Source
+abbrev pub router_source : ℕ → ℕ → PrefixSource
 router_source router metric = record { vertex = Router router; metric = metric }
 
 -- a path over each of these next hops
@@ -82,9 +82,9 @@ FindsNearest offered a p (Some found) = IsNearest offered a p found.id found.dis
 
 -- with one more source the nearest transit network is the one that is found, whichever sources came
 -- before
-abbrev pub FindsNearestWith : AreaValue → Source → Option ReachedNetwork → Option ReachedNetwork → Type 0
+abbrev pub FindsNearestWith : AreaValue → PrefixSource → Option ReachedNetwork → Option ReachedNetwork → Type 0
 FindsNearestWith a source nearest found =
-    (before : List Source) (p : Prefix) → FindsNearest (AmongSources before) a p nearest → FindsNearest (AmongSources (before ++ source ∷ [])) a p found
+    (before : List PrefixSource) (p : Prefix) → FindsNearest (AmongSources before) a p nearest → FindsNearest (AmongSources (before ++ source ∷ [])) a p found
 
 -- of two networks, each a number and a distance: the first is the nearer, or at one distance has
 -- the greater number, or is the second

@@ -13,7 +13,7 @@ use Rattle.spf.specs.HandedOn.{IsOfSome}
 use Rattle.area_trees.specs.Areas.{body_at, vertex_of, IsStanding}
 use Rattle.intra.specs.declared.dirty.Dirty.{Dirty}
 use Rattle.intra.specs.Inputs.{AreaValue, distance_at, hops_at}
-use Rattle.intra.specs.Indexes.{IndexValue, OfferedValue, IsIndex, IsIndexOf, IsOfferedFor, IsSource, AreTouched, offers_of}
+use Rattle.intra.specs.Indexes.{IndexValue, OfferedValue, IsIndex, IsAreaIndexOf, IsOfferedFor, IsSource, ArePrefixesAffected, offers_of}
 use Rattle.intra.specs.Intras.{AreaIntraValue}
 use Rattle.intra.specs.ReachedRouter.{ReachedValue, reached_by}
 
@@ -25,23 +25,23 @@ LsasDifferAmong keys area before after = (key : Key) → (Contains keys (Area ar
 
 -- the index belongs to a database from which this one differs in no more than is named
 abbrev pub IsIndexBefore : List (Scope × Key) → Database → AreaIntraValue → Type 0
-IsIndexBefore keys after i = (before : Database) × IsIndexOf before i.index × LsasDifferAmong keys i.id before after
+IsIndexBefore keys after i = (before : Database) × IsAreaIndexOf before i.index × LsasDifferAmong keys i.id before after
 
 -- the key is one of the area, and its LSA can stand for the vertex
 abbrev pub NamesVertex : ℕ → Scope × Key → Vertex → Type 0
 NamesVertex area named v = (named.0 ≡ Area area) × (vertex_of named.1 ≡ Some v)
 
 -- the vertex has what the LSA that stands for it offers
-abbrev pub IsCurrent : Database → IndexValue → Vertex → Type 0
-IsCurrent d i v = (body : Option Body) × IsStanding d v body × IsOfferedFor v body (get i.offered v)
+abbrev pub IsVertexCurrent : Database → IndexValue → Vertex → Type 0
+IsVertexCurrent d i v = (body : Option Body) × IsStanding d v body × IsOfferedFor v body (get i.offered v)
 
 -- the index took what the named vertices offer now, and has of the others what it had, or that too
-pub record IsTaken (d : Database) (names : Vertex → Type 0) (old new : AreaIntraValue) (before after : List Prefix) : Type 0 where
+pub record IsIndexUpdated (d : Database) (names : Vertex → Type 0) (old new : AreaIntraValue) (before after : List Prefix) : Type 0 where
   pub id : new.id ≡ old.id
   pub reached : new.reached ≡ old.reached
   pub index : IsIndex new.index
-  pub each : (v : Vertex) → IsCurrent d new.index v ⊎ ((get new.index.offered v ≡ get old.index.offered v) × (names v → ⊥))
-  pub touched : AreTouched old.index new.index before after
+  pub each : (v : Vertex) → IsVertexCurrent d new.index v ⊎ ((get new.index.offered v ≡ get old.index.offered v) × (names v → ⊥))
+  pub touched : ArePrefixesAffected old.index new.index before after
 
 -- the first, with the index of the second
 abbrev pub with_index_of : AreaIntraValue → AreaIntraValue → AreaIntraValue
@@ -60,17 +60,17 @@ NamesIn area named v = named ≡ (area, v)
 
 -- Only the index followed. The list has all of before, each prefix that has other sources, each
 -- that a named vertex offers, and, where an interface is named, each that the root offers.
-pub record IsGathered (root : ℕ) (vertices : List (ℕ × Vertex)) (interfaces : List ℕ) (old new : AreaIntraValue) (before after : List Prefix) : Type 0 where
+pub record IsIndexFollowed (root : ℕ) (vertices : List (ℕ × Vertex)) (interfaces : List ℕ) (old new : AreaIntraValue) (before after : List Prefix) : Type 0 where
   pub id : new.id ≡ old.id
   pub reached : new.reached ≡ old.reached
-  pub touched : AreTouched old.index new.index before after
+  pub touched : ArePrefixesAffected old.index new.index before after
   pub named : (v : Vertex) → Contains vertices (old.id, v) → (p : Prefix) (metric : ℕ) → IsSource new.index v p metric → Contains after p
   pub own : (id : ℕ) → Contains interfaces id → (p : Prefix) (metric : ℕ) → IsSource new.index (Router root) p metric → Contains after p
 
 -- the prefixes that may get another entry were gathered, for what is dirty
 abbrev pub IsGatheredFor : ℕ → Dirty → AreaIntraValue → AreaIntraValue → List Prefix → List Prefix → Type 0
 IsGatheredFor root dirty old new before after =
-    IsGathered root dirty.vertices.items dirty.interfaces.items old (with_index_of old new) before after
+    IsIndexFollowed root dirty.vertices.items dirty.interfaces.items old (with_index_of old new) before after
 
 -- ---- the routers
 

@@ -12,37 +12,37 @@ use Rattle.ospf_types.specs.Vertices.{vertex_cmp}
 use Rattle.lsa_codec.specs.Readers.{flags_of}
 use Rattle.lsdb.specs.Databases.{Database}
 use Rattle.area_trees.specs.Areas.{IsStanding}
-use Rattle.intra.specs.declared.offered.Offer.{Offer}
-use Rattle.intra.specs.declared.area_index.Source.{Source}
+use Rattle.intra.specs.declared.offered.OfferedPrefix.{OfferedPrefix}
+use Rattle.intra.specs.declared.area_index.PrefixSource.{PrefixSource}
 use Rattle.intra.specs.Inputs.{AreaValue, InputsValue}
-use Rattle.intra.specs.Offers.{Offering, OffersBy, KeyedOffers}
+use Rattle.intra.specs.Offers.{Offering, BodyOffers, KeyedOffers}
 
 -- the bits of a router-LSA, 0 for a network, and the prefixes with their metrics
 pub record OfferedValue : Type 0 where
   pub flags : ℕ
-  pub offers : List Offer
+  pub offers : List OfferedPrefix
 
 abbrev pub OfferedByVertex : Type 0
 OfferedByVertex = FinMap vertex_cmp OfferedValue
 
 abbrev pub SourcesByPrefix : Type 0
-SourcesByPrefix = FinMap network_cmp (List Source)
+SourcesByPrefix = FinMap network_cmp (List PrefixSource)
 
 pub record IndexValue : Type 0 where
   pub offered : OfferedByVertex
   pub sources : SourcesByPrefix
 
-abbrev pub offers_of : Option OfferedValue → List Offer
+abbrev pub offers_of : Option OfferedValue → List OfferedPrefix
 offers_of None = []
 offers_of (Some o) = o.offers
 
-abbrev pub sources_of : Option (List Source) → List Source
+abbrev pub sources_of : Option (List PrefixSource) → List PrefixSource
 sources_of None = []
 sources_of (Some sources) = sources
 
 -- no prefix is kept without a source, or with one twice
 abbrev pub AreSourceLists : SourcesByPrefix → Type 0
-AreSourceLists sources = (p : Prefix) (list : List Source) → get sources p ≡ Some list → (list ≢ []) × AllPairs (λ a b. a ≢ b) list
+AreSourceLists sources = (p : Prefix) (list : List PrefixSource) → get sources p ≡ Some list → (list ≢ []) × AllPairs (λ a b. a ≢ b) list
 
 -- the vertex is among those that offer the prefix
 abbrev pub IsSource : IndexValue → Offering
@@ -56,7 +56,7 @@ bits_of (Some flags) = flags
 -- what the vertex offers by an LSA of this body
 pub record IsOfferedBy (v : Vertex) (body : Body) (o : OfferedValue) : Type 0 where
   pub flags : o.flags ≡ bits_of (flags_of body)
-  pub exact : (p : Prefix) (metric : ℕ) → Contains o.offers (record { prefix = p; metric = metric }) ↔ OffersBy v body p metric
+  pub exact : (p : Prefix) (metric : ℕ) → Contains o.offers (record { prefix = p; metric = metric }) ↔ BodyOffers v body p metric
 
 -- the body of the LSA that stands for a vertex, if there is one
 abbrev pub body_of : Option Lsa → Option Body
@@ -85,7 +85,7 @@ abbrev pub IsIndex : IndexValue → Type 0
 IsIndex i = (v : Vertex) (p : Prefix) (metric : ℕ) → IsSource i v p metric ↔ Contains (offers_of (get i.offered v)) (record { prefix = p; metric = metric })
 
 -- the index belongs to the database
-pub record IsIndexOf (d : Database) (i : IndexValue) : Type 0 where
+pub record IsAreaIndexOf (d : Database) (i : IndexValue) : Type 0 where
   pub index : IsIndex i
   pub offered : (v : Vertex) → (body : Option Body) × IsStanding d v body × IsOfferedFor v body (get i.offered v)
 
@@ -98,6 +98,6 @@ IndexedOffers v (i ∷ is) [] p key path = ⊥
 
 -- these prefixes have all that from the one to the other have other sources, and all those of
 -- before
-pub record AreTouched (old new : IndexValue) (before after : List Prefix) : Type 0 where
+pub record ArePrefixesAffected (old new : IndexValue) (before after : List Prefix) : Type 0 where
   pub kept : (p : Prefix) → Contains before p → Contains after p
   pub others : (p : Prefix) → (Contains after p → ⊥) → (v : Vertex) (metric : ℕ) → IsSource new v p metric ↔ IsSource old v p metric

@@ -12,7 +12,7 @@ use Rattle.ospf_types.specs.Intra.{AreaCost, area_cost_cmp}
 use Rattle.ospf_types.specs.Network.{network_cmp}
 use Rattle.ospf_types.specs.Routes.{entry_of}
 pub use Rattle.route_choice.specs.Costs.{most_cost}
-use Rattle.intra.specs.Indexes.{IndexValue, IsIndexOf, empty_index}
+use Rattle.intra.specs.Indexes.{IndexValue, IsAreaIndexOf, empty_index}
 use Rattle.intra.specs.Inputs.{AreaValue, InputsValue}
 use Rattle.intra.specs.Offers.{OffersOf}
 use Rattle.intra.specs.ReachedRouter.{ReachedByRouter, ReachedValue, IsReachedOf}
@@ -73,8 +73,8 @@ abbrev pub IsKeptIn : List AreaIntraValue → ℕ → Type 0
 IsKeptIn areas router = (a : AreaIntraValue) × Contains areas a × IsSome (get a.reached router)
 
 -- just these routers are kept in some area
-abbrev pub AreKept : List AreaIntraValue → List ℕ → Type 0
-AreKept areas routers = (router : ℕ) → Contains routers router ↔ IsKeptIn areas router
+abbrev pub AreRoutersKept : List AreaIntraValue → List ℕ → Type 0
+AreRoutersKept areas routers = (router : ℕ) → Contains routers router ↔ IsKeptIn areas router
 
 -- each router is there as often as there are areas where it is kept
 abbrev pub AreAsOften : List AreaIntraValue → List ℕ → Type 0
@@ -84,7 +84,7 @@ AreAsOften areas routers =
 -- what is kept of an area belongs to its database and its tree
 pub record IsAreaIntra (root : ℕ) (a : AreaValue) (i : AreaIntraValue) : Type 0 where
   pub id : i.id ≡ a.id
-  pub index : IsIndexOf a.lsas i.index
+  pub index : IsAreaIndexOf a.lsas i.index
   pub reached : (router : ℕ) → IsReachedOf root a router (get i.reached router)
 
 abbrev pub AreAreaIntras : ℕ → List AreaValue → List AreaIntraValue → Type 0

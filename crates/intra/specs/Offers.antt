@@ -21,13 +21,13 @@ abbrev pub Offering : Type 1
 Offering = Vertex → Prefix → ℕ → Type 0
 
 -- an LSA of this body offers the prefix: a router by a stub link, a transit network as its own
-abbrev pub OffersBy : Vertex → Body → Prefix → ℕ → Type 0
-OffersBy (Router r) body p metric = (l : RouterLink) × Contains (links_of body) l × (l.kind ≡ Stub) × (network_of l.id l.detail ≡ p) × (l.metric ≡ metric)
-OffersBy (Network n) body p metric = (prefix_in n body ≡ Some p) × (metric ≡ 0)
+abbrev pub BodyOffers : Vertex → Body → Prefix → ℕ → Type 0
+BodyOffers (Router r) body p metric = (l : RouterLink) × Contains (links_of body) l × (l.kind ≡ Stub) × (network_of l.id l.detail ≡ p) × (l.metric ≡ metric)
+BodyOffers (Network n) body p metric = (prefix_in n body ≡ Some p) × (metric ≡ 0)
 
 -- the vertex offers the prefix by the LSA that stands for it
 abbrev pub HasOffer : Database → Offering
-HasOffer d v p metric = (body : Body) × IsStanding d v (Some body) × OffersBy v body p metric
+HasOffer d v p metric = (body : Body) × IsStanding d v (Some body) × BodyOffers v body p metric
 
 -- the network offers the prefix, and is reached at this distance
 abbrev pub IsReachedFor : Offering → AreaValue → Prefix → ℕ → ℕ → Type 0

@@ -11,8 +11,8 @@ use Rattle.ospf_types.specs.Network.{network_cmp}
 use Rattle.intra.specs.declared.dirty.Dirty.{Dirty}
 use Rattle.intra.specs.declared.affected.Affected.{Affected}
 use Rattle.intra.specs.Changes.{DiffersAmong}
-use Rattle.intra.specs.Following.{IsGathered, IsRouterNamed, router_now, with_index_of}
-use Rattle.intra.specs.Indexes.{IsIndexOf}
+use Rattle.intra.specs.Following.{IsIndexFollowed, IsRouterNamed, router_now, with_index_of}
+use Rattle.intra.specs.Indexes.{IsAreaIndexOf}
 use Rattle.intra.specs.Inputs.{AreaValue, InputsValue}
 use Rattle.intra.specs.Intras.{AreaIntraValue, IsAreaIntra}
 
@@ -37,12 +37,12 @@ pub record AreFirst (P : AreaValue → AreaIntraValue → AreaIntraValue → Typ
 
 -- the index belongs to the area, and the prefixes that may get another entry are among these
 pub record IsFollowed (root : ℕ) (vertices : List (ℕ × Vertex)) (interfaces : List ℕ) (prefixes : List Prefix) (a : AreaValue) (old new : AreaIntraValue) : Type 0 where
-  pub index : IsIndexOf a.lsas new.index
-  pub gathered : IsGathered root vertices interfaces old new [] prefixes
+  pub index : IsAreaIndexOf a.lsas new.index
+  pub gathered : IsIndexFollowed root vertices interfaces old new [] prefixes
 
 -- only what is kept of routers followed: the named ones are as they are to be, and the others as
 -- before
-pub record IsSettled (root : ℕ) (keys : List (Scope × Key)) (vertices : List (ℕ × Vertex)) (a : AreaValue) (old new : AreaIntraValue) : Type 0 where
+pub record AreRoutersSettled (root : ℕ) (keys : List (Scope × Key)) (vertices : List (ℕ × Vertex)) (a : AreaValue) (old new : AreaIntraValue) : Type 0 where
   pub id : new.id ≡ old.id
   pub index : new.index ≡ old.index
   pub each : (router : ℕ) → (get new.reached router ≡ router_now root a old.index router) ⊎ ((get new.reached router ≡ get old.reached router) × (IsRouterNamed keys vertices old.id router → ⊥))
@@ -50,7 +50,7 @@ pub record IsSettled (root : ℕ) (keys : List (Scope × Key)) (vertices : List 
 -- the index belongs to the area, as above, and then what is kept of routers followed
 pub record IsBroughtTo (root : ℕ) (keys : List (Scope × Key)) (vertices : List (ℕ × Vertex)) (interfaces : List ℕ) (prefixes : List Prefix) (a : AreaValue) (old new : AreaIntraValue) : Type 0 where
   pub followed : IsFollowed root vertices interfaces prefixes a old (with_index_of old new)
-  pub settled : IsSettled root keys vertices a (with_index_of old new) new
+  pub settled : AreRoutersSettled root keys vertices a (with_index_of old new) new
 
 -- in one of this many first areas something else is kept of the router
 abbrev pub HasOtherAmong : ℕ → List AreaIntraValue → List AreaIntraValue → ℕ → Type 0

@@ -4,10 +4,10 @@ ghost use Rattle.std.specs.FinMap as map;
 ghost use Rattle.ospf_types.specs.declared.entry.Vertex.{Vertex as VertexValue};
 ghost use Rattle.ospf_types.specs.declared.entry.Vertex.TheVariants as vertex_value;
 ghost use Rattle.spf.specs.HandedOn.{IsOfSome};
-ghost use Rattle.intra.specs.Indexes.{IsIndex, IsIndexOf};
+ghost use Rattle.intra.specs.Indexes.{IsIndex, IsAreaIndexOf};
 ghost use Rattle.intra.specs.Following.{AreRoutersBrought, AreRoutersUpdated, HasOffered};
 ghost use Rattle.intra.specs.Following.{IsAmongKeys, IsAmongVertices, IsGatheredFor, IsIndexBefore};
-ghost use Rattle.intra.specs.Following.{IsRouterIn, IsRouterOf, IsTaken, NamesIn, NamesVertex};
+ghost use Rattle.intra.specs.Following.{IsRouterIn, IsRouterOf, IsIndexUpdated, NamesIn, NamesVertex};
 ghost use Rattle.intra.specs.Following.{flags_in};
 ghost use Rattle.intra.specs.Inputs.{HasTree};
 ghost use Rattle.intra.specs.Intras.{empty_area};
@@ -57,8 +57,8 @@ impl Model for AreaIntra {
     ghost use Rattle.intra.specs.Indexes.{OfferedByVertex, SourcesByPrefix};
     ghost use Rattle.intra.specs.ReachedRouter.{ReachedByRouter};
     ghost use Rattle.intra.specs.Intras.{AreaIntraValue};
-    ghost use Rattle.intra.specs.contracts.offered.Offer as offer;
-    ghost use Rattle.intra.specs.contracts.area_index.Source as source;
+    ghost use Rattle.intra.specs.contracts.offered.OfferedPrefix as offer;
+    ghost use Rattle.intra.specs.contracts.area_index.PrefixSource as source;
 
     ghost Value = { AreaIntraValue };
 
@@ -130,7 +130,7 @@ impl AreaIntra {
     ) -> Result<(), Memory>
         requires ready { HasTree rooted.now.area.now }
         requires before { IsIndexBefore dirty.now.keys.items rooted.now.area.now.lsas self.old }
-        ensures index { OnOk result (IsIndexOf rooted.now.area.now.lsas self.new.index) }
+        ensures index { OnOk result (IsAreaIndexOf rooted.now.area.now.lsas self.new.index) }
         ensures gathered { OnOk result (IsGatheredFor rooted.now.root dirty.now self.old self.new
             named.old.prefixes.items named.new.prefixes.items) }
         ensures updated { OnOk result (AreRoutersBrought rooted.now.root rooted.now.area.now
@@ -155,7 +155,7 @@ impl AreaIntra {
     ) -> Result<(), Memory>
         requires index { IsIndex self.old.index }
         requires ready { HasTree area.now }
-        ensures { OnOk result (IsTaken area.now.lsas (IsOfSome keys.now (NamesVertex self.old.id))
+        ensures { OnOk result (IsIndexUpdated area.now.lsas (IsOfSome keys.now (NamesVertex self.old.id))
             self.old self.new prefixes.old.items prefixes.new.items) }
     {
         for named in keys {
@@ -173,7 +173,7 @@ impl AreaIntra {
     ) -> Result<(), Memory>
         requires index { IsIndex self.old.index }
         requires ready { HasTree area.now }
-        ensures { OnOk result (IsTaken area.now.lsas (NamesVertex self.old.id named)
+        ensures { OnOk result (IsIndexUpdated area.now.lsas (NamesVertex self.old.id named)
             self.old self.new prefixes.old.items prefixes.new.items) }
     {
         let Some(vertex) = vertex_in(self.id, named) else {

@@ -7,16 +7,16 @@ ghost use Rattle.std.specs.List.{AllPairs};
 ghost use Rattle.ospf_types.specs.Lsa.{key_of};
 ghost use Rattle.spf.specs.VertexSet.{HasNoDoubles};
 ghost use Rattle.area_trees.specs.Areas.{vertex_of};
-ghost use Rattle.intra.specs.Following.{IsCurrent};
+ghost use Rattle.intra.specs.Following.{IsVertexCurrent};
 ghost use Rattle.intra.specs.Inputs.{HasTree};
-ghost use Rattle.intra.specs.Indexes.{AreTouched, IsIndex, IsOfferedNow, IsSource, OffersNothing};
+ghost use Rattle.intra.specs.Indexes.{ArePrefixesAffected, IsIndex, IsOfferedNow, IsSource, OffersNothing};
 ghost use Rattle.intra.specs.Indexes.{empty_index, offers_of, sources_of};
-ghost use Rattle.intra.specs.IndexSteps.{AreAlike, AreGone, AreLeftOut, AreSameOrNamed, HaveCome};
+ghost use Rattle.intra.specs.IndexSteps.{AreAlike, AreOffersGone, AreLeftOut, AreSameOrNamed, HaveOffersCome};
 ghost use Rattle.intra.specs.IndexSteps.{IsOfferOf, IsPrefixOf, IsThisOffer, OtherVerticesStay};
 ghost use Rattle.intra.specs.Stubs.{KeepsAll};
 
 use crate::inputs::AreaInputs;
-use crate::offered::{Offer, Offered, offers_in, push_prefixes};
+use crate::offered::{Offered, OfferedPrefix, offers_in, push_prefixes};
 use area_trees::AreaTree;
 use indexmap::IndexMap;
 use lsa_codec::Checked;
@@ -33,16 +33,16 @@ use vertex_map::HintedVertex;
 
 /// A vertex that offers a prefix, and the metric of the offer.
 #[derive(Drop)]
-pub(crate) struct Source {
+pub(crate) struct PrefixSource {
     /// The vertex, with the index of its row in the area's graph as a hint.
     pub(crate) vertex: HintedVertex,
     pub(crate) metric: u16,
 }
 
 /// Fills the unused elements of an inline collection.
-impl<A: Drop> MadeWith<A> for Source {
-    fn made_with(_alloc: A) -> Source {
-        Source {
+impl<A: Drop> MadeWith<A> for PrefixSource {
+    fn made_with(_alloc: A) -> PrefixSource {
+        PrefixSource {
             vertex: HintedVertex::without_hint(Vertex::Router(0)),
             metric: 0,
         }
@@ -55,7 +55,7 @@ pub(crate) struct AreaIndex {
     alloc: Global,
     offered: IndexMap<Vertex, Offered, WordHash>,
     // Usually one vertex offers a prefix. Its source is then stored inline.
-    sources: IndexMap<Prefix, SmallVec<Source, 1>, WordHash>,
+    sources: IndexMap<Prefix, SmallVec<PrefixSource, 1>, WordHash>,
 }
 
 // proof: a value is dropped by one call, not part by part at each exit of a function.
@@ -76,8 +76,8 @@ impl Model for AreaIndex {
     ghost use Rattle.ospf_types.specs.Network.{network_code};
     ghost use Rattle.ospf_types.specs.Vertices.{vertex_code};
     ghost use Rattle.intra.specs.Indexes.{IndexValue, OfferedByVertex, SourcesByPrefix};
-    ghost use Rattle.intra.specs.contracts.offered.Offer as offer;
-    ghost use Rattle.intra.specs.contracts.area_index.Source as source;
+    ghost use Rattle.intra.specs.contracts.offered.OfferedPrefix as offer;
+    ghost use Rattle.intra.specs.contracts.area_index.PrefixSource as source;
 
     ghost Value = { IndexValue };
 
@@ -116,7 +116,7 @@ impl AreaIndex {
     ///
     /// `place` is a hint: the prefix is first looked for at this index. If it is found by its hash
     /// instead, `place` becomes its index.
-    pub(crate) fn sources(&self, prefix: Prefix, place: &mut usize) -> &[Source]
+    pub(crate) fn sources(&self, prefix: Prefix, place: &mut usize) -> &[PrefixSource]
         ensures { result.now ≡ sources_of (map.get self.now.sources prefix) }
     {
         match self.sources.get_index(*place) {
@@ -126,7 +126,7 @@ impl AreaIndex {
     }
 
     // Finds the prefix by its hash, and sets `place` to its index.
-    fn find_sources(&self, prefix: Prefix, place: &mut usize) -> &[Source]
+    fn find_sources(&self, prefix: Prefix, place: &mut usize) -> &[PrefixSource]
         ensures { result.now ≡ sources_of (map.get self.now.sources prefix) }
     {
         match self.sources.get_full(&prefix) {
@@ -149,9 +149,9 @@ impl AreaIndex {
         requires index { IsIndex self.old }
         requires ready { HasTree area.now }
         ensures index { OnOk result (IsIndex self.new) }
-        ensures taken { OnOk result (IsCurrent area.now.lsas self.new vertex) }
+        ensures taken { OnOk result (IsVertexCurrent area.now.lsas self.new vertex) }
         ensures others { OnOk result (OtherVerticesStay self.old self.new vertex) }
-        ensures touched { OnOk result (AreTouched self.old self.new
+        ensures touched { OnOk result (ArePrefixesAffected self.old self.new
             dirty.old.items dirty.new.items) }
     {
         let standing = area.tree.lsa_for_vertex(area.database, vertex);
@@ -188,9 +188,9 @@ impl AreaIndex {
     }
 
     // Removes the vertex as a source of the prefixes of these offers.
-    fn remove_sources(&mut self, vertex: Vertex, offers: &[Offer])
+    fn remove_sources(&mut self, vertex: Vertex, offers: &[OfferedPrefix])
         ensures offered { self.new.offered ≡ self.old.offered }
-        ensures gone { AreGone (IsPrefixOf vertex offers.now) self.old self.new }
+        ensures gone { AreOffersGone (IsPrefixOf vertex offers.now) self.old self.new }
     {
         for offer in offers {
             self.remove_source(vertex, offer.prefix);
@@ -200,7 +200,7 @@ impl AreaIndex {
     // Removes the vertex as a source of the prefix.
     fn remove_source(&mut self, vertex: Vertex, prefix: Prefix)
         ensures offered { self.new.offered ≡ self.old.offered }
-        ensures gone { AreGone (λ w p. (w ≡ vertex) × (p ≡ prefix)) self.old self.new }
+        ensures gone { AreOffersGone (λ w p. (w ≡ vertex) × (p ≡ prefix)) self.old self.new }
     {
         let Some(sources) = self.sources.get_mut(&prefix) else {
             return;
@@ -225,11 +225,11 @@ impl AreaIndex {
     }
 
     // Adds the vertex as a source of the prefixes of these offers.
-    fn add_sources(&mut self, vertex: &HintedVertex, offers: &[Offer]) -> Result<(), Memory>
+    fn add_sources(&mut self, vertex: &HintedVertex, offers: &[OfferedPrefix]) -> Result<(), Memory>
         requires absent { OffersNothing self.old vertex.now }
         requires each_once { AllPairs (λ a b. a ≢ b) offers.now }
         ensures offered { OnOk result (self.new.offered ≡ self.old.offered) }
-        ensures come { OnOk result (HaveCome (IsOfferOf vertex.now offers.now) self.old self.new) }
+        ensures come { OnOk result (HaveOffersCome (IsOfferOf vertex.now offers.now) self.old self.new) }
     {
         for offer in offers {
             self.add_source(vertex, *offer)?;
@@ -238,12 +238,12 @@ impl AreaIndex {
     }
 
     // Adds the vertex as a source of the prefix.
-    fn add_source(&mut self, vertex: &HintedVertex, offer: Offer) -> Result<(), Memory>
+    fn add_source(&mut self, vertex: &HintedVertex, offer: OfferedPrefix) -> Result<(), Memory>
         requires { IsSource self.old vertex.now offer.prefix offer.metric → ⊥ }
         ensures offered { OnOk result (self.new.offered ≡ self.old.offered) }
-        ensures come { OnOk result (HaveCome (IsThisOffer vertex.now offer) self.old self.new) }
+        ensures come { OnOk result (HaveOffersCome (IsThisOffer vertex.now offer) self.old self.new) }
     {
-        let source = Source {
+        let source = PrefixSource {
             vertex: vertex.copy(),
             metric: offer.metric,
         };
@@ -291,7 +291,7 @@ fn standing_offers(
 }
 
 // Returns the prefixes with their metrics, or an empty slice if there are no offers.
-fn listed(offered: Option<&Offered>) -> &[Offer]
+fn listed(offered: Option<&Offered>) -> &[OfferedPrefix]
     ensures { result.now ≡ offers_of (option_copied offered.entry) }
 {
     match offered {
@@ -302,7 +302,11 @@ fn listed(offered: Option<&Offered>) -> &[Offer]
 
 // Appends the prefixes of the offers that differ at the same index of the two lists. All other
 // prefixes are offered alike.
-fn name_differing(before: &[Offer], after: &[Offer], dirty: &mut Vec<Prefix>) -> Result<(), Memory>
+fn name_differing(
+    before: &[OfferedPrefix],
+    after: &[OfferedPrefix],
+    dirty: &mut Vec<Prefix>,
+) -> Result<(), Memory>
     ensures kept { OnOk result (KeepsAll dirty.old.items dirty.new.items) }
     ensures alike { OnOk result (AreAlike dirty.new.items before.now after.now) }
 {
@@ -321,7 +325,11 @@ fn name_differing(before: &[Offer], after: &[Offer], dirty: &mut Vec<Prefix>) ->
 }
 
 // Appends the prefixes of the two offers, if the offers differ.
-fn name_both(one: Offer, other: Offer, dirty: &mut Vec<Prefix>) -> Result<(), Memory>
+fn name_both(
+    one: OfferedPrefix,
+    other: OfferedPrefix,
+    dirty: &mut Vec<Prefix>,
+) -> Result<(), Memory>
     ensures kept { OnOk result (KeepsAll dirty.old.items dirty.new.items) }
     ensures named { OnOk result (AreSameOrNamed one other dirty.new.items) }
 {
@@ -334,7 +342,7 @@ fn name_both(one: Offer, other: Offer, dirty: &mut Vec<Prefix>) -> Result<(), Me
 }
 
 // Removes all sources of the vertex.
-fn leave_out(sources: &mut SmallVec<Source, 1>, vertex: Vertex)
+fn leave_out(sources: &mut SmallVec<PrefixSource, 1>, vertex: Vertex)
     ensures each_once { HasNoDoubles sources.old.items → HasNoDoubles sources.new.items }
     ensures left { AreLeftOut sources.old.items sources.new.items vertex }
 {

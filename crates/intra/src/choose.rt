@@ -7,7 +7,7 @@ ghost use Rattle.ospf_types.specs.declared.prefix.Prefix.{Prefix as PrefixValue}
 ghost use Rattle.ospf_types.specs.Hops.{path_cmp};
 ghost use Rattle.ospf_types.specs.Intra.{inside_area as path_inside};
 ghost use Rattle.spf.specs.Maps.{most_distance};
-ghost use Rattle.intra.specs.declared.area_index.Source.{Source as SourceValue};
+ghost use Rattle.intra.specs.declared.area_index.PrefixSource.{PrefixSource as SourceValue};
 ghost use Rattle.intra.specs.Inputs.{distance_at, hops_at};
 ghost use Rattle.route_choice.specs.Takes.{OnlyOffer};
 ghost use Rattle.intra.specs.Intras.{IsEntryFor, entry_at, most_cost};
@@ -17,7 +17,7 @@ ghost use Rattle.intra.specs.Choosing.{SourcesOffer, StubOffers, TakesPaths, Tra
 ghost use Rattle.intra.specs.Choosing.{router_source};
 
 use crate::area::AreaIntra;
-use crate::area_index::Source;
+use crate::area_index::PrefixSource;
 use crate::entry::IntraEntry;
 use crate::inputs::{AreaInputs, IntraInputs};
 use ospf_types::config::Interface;
@@ -140,7 +140,7 @@ fn offer_areas(
 fn offer_sources(
     best: &mut Best<AreaCost, Path>,
     network: &AreaNetwork<'_>,
-    sources: &[Source],
+    sources: &[PrefixSource],
 ) -> Result<(), Memory>
     ensures { OnOk result
         (TakesPaths (SourcesOffer sources.now network.now.inputs.now network.now.area.now
@@ -159,7 +159,7 @@ fn offer_source(
     best: &mut Best<AreaCost, Path>,
     network: &AreaNetwork<'_>,
     nearest: Option<ReachedNetwork>,
-    source: &Source,
+    source: &PrefixSource,
 ) -> Result<Option<ReachedNetwork>, Memory>
     requires { IfSome nearest (λ n. n.distance < most_distance) }
     ensures offered { OnOk result
@@ -182,7 +182,7 @@ fn offer_stub(
     best: &mut Best<AreaCost, Path>,
     network: &AreaNetwork<'_>,
     router: u32,
-    stub: &Source,
+    stub: &PrefixSource,
 ) -> Result<(), Memory>
     requires { stub.now.vertex ≡ vertex_value.Router router }
     ensures { OnOk result (TakesPaths
@@ -254,7 +254,7 @@ fn is_over(area: u32, prefix: Prefix, interface: Interface) -> bool
 fn offer_transit(
     best: &mut Best<AreaCost, Path>,
     area: &AreaInputs<'_>,
-    sources: &[Source],
+    sources: &[PrefixSource],
     nearest: Option<ReachedNetwork>,
 ) -> Result<(), Memory>
     requires { IfSome nearest (λ n. n.distance < most_distance) }
@@ -277,7 +277,7 @@ fn offer_transit(
 }
 
 // Returns the transit network as a vertex, with the hint of its source.
-fn network_of(sources: &[Source], id: u32) -> HintedVertex
+fn network_of(sources: &[PrefixSource], id: u32) -> HintedVertex
     ensures { result ≡ vertex_value.Network id }
 {
     let network = Vertex::Network(id);
@@ -293,7 +293,7 @@ fn network_of(sources: &[Source], id: u32) -> HintedVertex
 fn nearest_with(
     area: &AreaInputs<'_>,
     nearest: Option<ReachedNetwork>,
-    source: &Source,
+    source: &PrefixSource,
 ) -> Option<ReachedNetwork>
     requires { IfSome nearest (λ n. n.distance < most_distance) }
     ensures found { FindsNearestWith area.now source.now nearest result }

@@ -10,7 +10,7 @@ ghost use Rattle.ospf_types.specs.Network.{network_cmp};
 ghost use Rattle.intra.specs.Changes.{AreDiffering, HasKeysOf, HasKeysOfAll, IsIntraBefore};
 ghost use Rattle.intra.specs.ChosenAnew.{AreEntriesChosenAnew};
 ghost use Rattle.intra.specs.Inputs.{AreReady};
-ghost use Rattle.intra.specs.Intras.{AreAsOften, AreEntries, AreKept, HaveEntries, IsIntraOf};
+ghost use Rattle.intra.specs.Intras.{AreAsOften, AreEntries, AreRoutersKept, HaveEntries, IsIntraOf};
 ghost use Rattle.intra.specs.Intras.{empty_routes, most_cost, reached_at, spent_value};
 ghost use Rattle.intra.specs.Right.{IsRightWherever};
 ghost use Rattle.intra.specs.Stubs.{KeepsAll};
@@ -67,8 +67,8 @@ impl Model for Intra {
     ghost use Rattle.intra.specs.Indexes.{OfferedByVertex, SourcesByPrefix};
     ghost use Rattle.intra.specs.ReachedRouter.{ReachedByRouter};
     ghost use Rattle.intra.specs.Intras.{IntraValue, EntriesByPrefix};
-    ghost use Rattle.intra.specs.contracts.offered.Offer as offer;
-    ghost use Rattle.intra.specs.contracts.area_index.Source as source;
+    ghost use Rattle.intra.specs.contracts.offered.OfferedPrefix as offer;
+    ghost use Rattle.intra.specs.contracts.area_index.PrefixSource as source;
 
     ghost Value = { IntraValue };
 
@@ -194,7 +194,7 @@ impl Intra {
     /// in no stated order. A router occurs once for each area in which it is reached.
     pub fn routers(&self, alloc: Global) -> Result<Vec<u32>, Memory>
         ensures as_often { IfOk result (λ routers. AreAsOften self.now.areas routers.items) }
-        ensures exact { IfOk result (λ routers. AreKept self.now.areas routers.items) }
+        ensures exact { IfOk result (λ routers. AreRoutersKept self.now.areas routers.items) }
     {
         let mut routers = Vec::new(alloc);
         for kept in &self.areas {

@@ -21,7 +21,7 @@ use std::marker::Model;
 /// A prefix that a vertex offers, and its metric: 0 for a transit network. The cost of the offer is
 /// the distance of the vertex plus this metric.
 #[derive(Clone, Copy, PartialEq, Eq, PartialOrd, Ord)]
-pub(crate) struct Offer {
+pub(crate) struct OfferedPrefix {
     pub(crate) prefix: Prefix,
     pub(crate) metric: u16,
 }
@@ -31,7 +31,7 @@ pub(crate) struct Offered {
     /// The bits of a router-LSA (RFC 2328, A.4.2); 0 for a network.
     flags: u8,
     // Without duplicates.
-    offers: Vec<Offer>,
+    offers: Vec<OfferedPrefix>,
 }
 
 // proof: a value is dropped by one call, not part by part at each exit of a function.
@@ -65,7 +65,7 @@ impl Offered {
     }
 
     /// Returns the prefixes with their metrics, without duplicates.
-    pub(crate) fn offers(&self) -> &[Offer]
+    pub(crate) fn offers(&self) -> &[OfferedPrefix]
         ensures value { result.now ≡ self.now.offers }
         ensures each_once { AllPairs (λ a b. a ≢ b) self.now.offers }
     {
@@ -101,7 +101,7 @@ impl Offered {
 }
 
 // Returns true if these are the stub networks of a router-LSA, in the order of its links.
-fn are_stubs(offers: &[Offer], lsa: &Checked) -> bool
+fn are_stubs(offers: &[OfferedPrefix], lsa: &Checked) -> bool
     ensures { IsTrue result → offers.now ≡ stubs_of lsa.now.body }
 {
     let mut left = offers;
@@ -116,7 +116,7 @@ fn are_stubs(offers: &[Offer], lsa: &Checked) -> bool
 
 // Returns the offers that remain after the offer of the link, or `None` if they do not begin with
 // it.
-fn after_link<'a>(offers: &'a [Offer], link: Link) -> Option<&'a [Offer]>
+fn after_link<'a>(offers: &'a [OfferedPrefix], link: Link) -> Option<&'a [OfferedPrefix]>
     ensures { IfSome result (λ rest. offers.now ≡ cons_option (offer_of_link link) rest.now) }
 {
     let Some(offer) = stub_offer(link) else {
@@ -129,7 +129,10 @@ fn after_link<'a>(offers: &'a [Offer], link: Link) -> Option<&'a [Offer]>
 }
 
 /// Appends the prefixes of the offers.
-pub(crate) fn push_prefixes(offers: &[Offer], prefixes: &mut Vec<Prefix>) -> Result<(), Memory>
+pub(crate) fn push_prefixes(
+    offers: &[OfferedPrefix],
+    prefixes: &mut Vec<Prefix>,
+) -> Result<(), Memory>
     ensures kept { OnOk result (KeepsAll prefixes.old.items prefixes.new.items) }
     ensures offered { OnOk result (HasPrefixesOf offers.now prefixes.new.items) }
 {
@@ -153,7 +156,7 @@ pub(crate) fn offers_in(alloc: Global, vertex: Vertex, lsa: &Checked) -> Result<
 }
 
 // Returns the stub networks of a router-LSA, in ascending order without duplicates.
-fn stub_offers(alloc: Global, lsa: &Checked) -> Result<Vec<Offer>, Memory>
+fn stub_offers(alloc: Global, lsa: &Checked) -> Result<Vec<OfferedPrefix>, Memory>
     ensures exact { IfOk result (λ offers. HaveSameOffers offers.items (stubs_of lsa.now.body)) }
     ensures each_once { IfOk result (λ offers. AllPairs (λ a b. a ≢ b) offers.items) }
 {
@@ -164,7 +167,7 @@ fn stub_offers(alloc: Global, lsa: &Checked) -> Result<Vec<Offer>, Memory>
 }
 
 // Returns the stub networks of a router-LSA, in the order of its links.
-fn each_stub(alloc: Global, lsa: &Checked) -> Result<Vec<Offer>, Memory>
+fn each_stub(alloc: Global, lsa: &Checked) -> Result<Vec<OfferedPrefix>, Memory>
     ensures { IfOk result (λ offers. offers.items ≡ stubs_of lsa.now.body) }
 {
     let mut offers = Vec::new(alloc);
@@ -177,11 +180,11 @@ fn each_stub(alloc: Global, lsa: &Checked) -> Result<Vec<Offer>, Memory>
 }
 
 // Returns the offer of a link: the network, if it is a stub link (RFC 2328, 12.4.1).
-fn stub_offer(link: Link) -> Option<Offer>
+fn stub_offer(link: Link) -> Option<OfferedPrefix>
     ensures { result ≡ offer_of_link link }
 {
     match link.kind {
-        LinkKind::Stub => Some(Offer {
+        LinkKind::Stub => Some(OfferedPrefix {
             prefix: Prefix::from_mask(link.id, link.detail),
             metric: link.metric,
         }),
@@ -190,12 +193,12 @@ fn stub_offer(link: Link) -> Option<Offer>
 }
 
 // Returns the network of a network-LSA.
-fn network_offers(alloc: Global, lsa: &Checked) -> Result<Vec<Offer>, Memory>
+fn network_offers(alloc: Global, lsa: &Checked) -> Result<Vec<OfferedPrefix>, Memory>
     ensures { IfOk result (λ offers. offers.items ≡ transit_offers (prefix_of lsa.now)) }
 {
     let mut offers = Vec::new(alloc);
     if let Some(prefix) = lsa.prefix() {
-        offers.push(Offer { prefix, metric: 0 })?;
+        offers.push(OfferedPrefix { prefix, metric: 0 })?;
     }
     Ok(offers)
 }

@@ -36,9 +36,9 @@ fn main(rt: HostRuntime) -> Result<()> {
     let asked = asked_by(words.as_slice());
     drop(words);
     match asked {
-        Asked::Answers => try_index(&rt),
-        Asked::Times(set, threads) if threads > 0 => measure(&rt, set, threads),
-        Asked::TimesBesideWriter(set, threads) if threads > 0 => {
+        Action::Answers => try_index(&rt),
+        Action::Times(set, threads) if threads > 0 => measure(&rt, set, threads),
+        Action::TimesBesideWriter(set, threads) if threads > 0 => {
             measure_beside_writer(&rt, set, threads)
         }
         _ => Ok(println!(rt; "usage: lookup_speed [SET [THREADS [writer]]]")?),
@@ -47,7 +47,7 @@ fn main(rt: HostRuntime) -> Result<()> {
 
 // The action that the arguments ask for.
 #[derive(Drop)]
-enum Asked {
+enum Action {
     Answers,
     // The times of the set, by this number of threads.
     Times(Set, u32),
@@ -55,23 +55,23 @@ enum Asked {
     Usage,
 }
 
-fn asked_by(words: &[String]) -> Asked {
+fn asked_by(words: &[String]) -> Action {
     match words {
-        [] | [_] => Asked::Answers,
+        [] | [_] => Action::Answers,
         [_, name] => times(name.as_str(), "1", false),
         [_, name, threads] => times(name.as_str(), threads.as_str(), false),
         [_, name, threads, word] if word.as_str() == "writer" => {
             times(name.as_str(), threads.as_str(), true)
         }
-        _ => Asked::Usage,
+        _ => Action::Usage,
     }
 }
 
-fn times(name: &str, threads: &str, has_writer: bool) -> Asked {
+fn times(name: &str, threads: &str, has_writer: bool) -> Action {
     match (Set::named(name), threads.parse()) {
-        (Some(set), Ok(threads)) if has_writer => Asked::TimesBesideWriter(set, threads),
-        (Some(set), Ok(threads)) => Asked::Times(set, threads),
-        _ => Asked::Usage,
+        (Some(set), Ok(threads)) if has_writer => Action::TimesBesideWriter(set, threads),
+        (Some(set), Ok(threads)) => Action::Times(set, threads),
+        _ => Action::Usage,
     }
 }
 

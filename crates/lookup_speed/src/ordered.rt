@@ -2,7 +2,7 @@
 //! networks of ever shorter length.
 ghost use Rattle.std.specs.Prelude.{◌<◌, ◌≤◌};
 
-use crate::table::{Table, Value};
+use crate::table::{LookupTable, Value};
 use ospf_types::memory::Memory;
 use ospf_types::prefix::Prefix;
 use std::alloc::Global;
@@ -27,7 +27,7 @@ impl OrderedMap {
     }
 }
 
-impl Table for OrderedMap {
+impl LookupTable for OrderedMap {
     fn longest(&self, address: u32) -> Option<(Prefix, &Value)> {
         // No network of the map that contains the address is longer than `length`.
         let mut length = 32;

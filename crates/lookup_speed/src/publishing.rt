@@ -6,7 +6,7 @@ use crate::ordered::OrderedMap;
 use crate::random::Random;
 use crate::sets::{Set, addresses};
 use crate::speed::{Each, LOOKUPS, found, insert_all, nanoseconds_since};
-use crate::table::{Table, Value};
+use crate::table::{LookupTable, Value};
 use anyhow::Result;
 use left_right::{Absorb, ReadHandle, WriteHandle};
 use ospf_types::memory::Memory;
@@ -29,7 +29,7 @@ const PUBLICATIONS: u64 = 1_000_000;
 
 /// A change that gives a network a value.
 #[derive(Clone, Copy)]
-struct Change {
+struct ValueChange {
     network: Prefix,
     value: Value,
 }
@@ -40,14 +40,14 @@ struct Shown<T> {
     table: T,
 }
 
-impl<T: Table + Drop> Absorb<Change> for Shown<T> {
+impl<T: LookupTable + Drop> Absorb<ValueChange> for Shown<T> {
     type State = ();
 
     ghost state = { λ shown. tt };
 
     ghost applied = { λ state change. state };
 
-    fn absorb_first(&mut self, change: &Change, _other: &Shown<T>) -> Result<(), AllocError> {
+    fn absorb_first(&mut self, change: &ValueChange, _other: &Shown<T>) -> Result<(), AllocError> {
         self.table
             .insert(change.network, change.value)
             .map_err(|_| AllocError)
@@ -70,7 +70,7 @@ pub fn measure_beside_writer<R: AllocGlobal + RandomSource + Clock + Print + Thr
     let alloc = rt.alloc();
     let networks = set.networks(alloc)?;
     let addresses = addresses(alloc, networks.as_slice(), LOOKUPS)?;
-    let load = Load {
+    let load = PublishingLoad {
         networks: networks.as_slice(),
         addresses: addresses.as_slice(),
         threads,
@@ -80,7 +80,7 @@ pub fn measure_beside_writer<R: AllocGlobal + RandomSource + Clock + Print + Thr
 
 fn measure_tables<R: AllocGlobal + RandomSource + Clock + Print + Threads + Wait + Sync>(
     rt: &R,
-    load: &Load<'_>,
+    load: &PublishingLoad<'_>,
 ) -> Result<()>
     requires { 0 < load.now.threads }
 {
@@ -92,18 +92,18 @@ fn measure_tables<R: AllocGlobal + RandomSource + Clock + Print + Threads + Wait
 
 /// The networks that are changed, the addresses that are looked up, and the number of readers.
 #[derive(Clone, Copy)]
-struct Load<'a> {
+struct PublishingLoad<'a> {
     networks: &'a [Prefix],
     addresses: &'a [u32],
     threads: u32,
 }
 
-fn run<R: AllocGlobal + Clock + Print + Threads + Wait + Sync, T: Table + Drop + Send + Sync>(
+fn run<R: AllocGlobal + Clock + Print + Threads + Wait + Sync, T: LookupTable + Drop + Send + Sync>(
     rt: &R,
     name: &str,
     first: T,
     second: T,
-    load: &Load<'_>,
+    load: &PublishingLoad<'_>,
 ) -> Result<()>
     requires { 0 < load.now.threads }
 {
@@ -134,16 +134,16 @@ struct Pass {
 }
 
 // Returns the table with the networks.
-fn with_networks<T: Table + Drop>(table: T, networks: &[Prefix]) -> Result<Shown<T>, Memory> {
+fn with_networks<T: LookupTable + Drop>(table: T, networks: &[Prefix]) -> Result<Shown<T>, Memory> {
     let mut table = table;
     insert_all(&mut table, networks)?;
     Ok(Shown { table })
 }
 
 // Creates a reader for each thread.
-fn readers_of<R: AllocGlobal + Wait, T: Table + Drop + Send + Sync>(
+fn readers_of<R: AllocGlobal + Wait, T: LookupTable + Drop + Send + Sync>(
     rt: &R,
-    writer: &WriteHandle<Shown<T>, Change, &R>,
+    writer: &WriteHandle<Shown<T>, ValueChange, &R>,
     threads: u32,
 ) -> Result<Vec<ReadHandle<Shown<T>>>> {
     let mut readers = Vec::new(rt.alloc());
@@ -153,10 +153,13 @@ fn readers_of<R: AllocGlobal + Wait, T: Table + Drop + Send + Sync>(
     Ok(readers)
 }
 
-fn read_and_publish<R: AllocGlobal + Clock + Threads + Wait + Sync, T: Table + Drop + Send + Sync>(
+fn read_and_publish<
+    R: AllocGlobal + Clock + Threads + Wait + Sync,
+    T: LookupTable + Drop + Send + Sync,
+>(
     rt: &R,
-    writer: WriteHandle<Shown<T>, Change, &R>,
-    load: &Load<'_>,
+    writer: WriteHandle<Shown<T>, ValueChange, &R>,
+    load: &PublishingLoad<'_>,
 ) -> Result<Times>
     requires { 0 < load.now.threads }
 {
@@ -190,7 +193,7 @@ fn added(passes: &[Pass], lookups: usize) -> (Each, u64) {
 }
 
 // Looks the addresses up, and returns the fastest pass.
-fn read<R: Clock, T: Table + Drop>(
+fn read<R: Clock, T: LookupTable + Drop>(
     rt: &R,
     reader: ReadHandle<Shown<T>>,
     addresses: &[u32],
@@ -202,7 +205,7 @@ fn read<R: Clock, T: Table + Drop>(
     pass.unwrap_or(Pass { time: 0, sum: 0 })
 }
 
-fn fastest_pass<R: Clock, T: Table + Drop>(
+fn fastest_pass<R: Clock, T: LookupTable + Drop>(
     rt: &R,
     reader: &mut ReadHandle<Shown<T>>,
     addresses: &[u32],
@@ -217,7 +220,7 @@ fn fastest_pass<R: Clock, T: Table + Drop>(
 }
 
 // Enters the table for each burst of addresses.
-fn read_once<T: Table + Drop>(
+fn read_once<T: LookupTable + Drop>(
     reader: &mut ReadHandle<Shown<T>>,
     addresses: &[u32],
     sum: u64,
@@ -232,9 +235,9 @@ fn read_once<T: Table + Drop>(
 }
 
 // Replaces values and publishes until no reader is left. Returns the nanoseconds of a publication.
-fn publish<R: Clock + Wait, T: Table + Drop>(
+fn publish<R: Clock + Wait, T: LookupTable + Drop>(
     rt: &R,
-    writer: WriteHandle<Shown<T>, Change, &R>,
+    writer: WriteHandle<Shown<T>, ValueChange, &R>,
     networks: &[Prefix],
     left: &AtomicU64,
 ) -> Result<Each> {
@@ -245,8 +248,8 @@ fn publish<R: Clock + Wait, T: Table + Drop>(
 }
 
 // Replaces values and publishes until no reader is left. Returns the number of publications.
-fn publish_all<R: Wait, T: Table + Drop>(
-    writer: &mut WriteHandle<Shown<T>, Change, &R>,
+fn publish_all<R: Wait, T: LookupTable + Drop>(
+    writer: &mut WriteHandle<Shown<T>, ValueChange, &R>,
     networks: &[Prefix],
     left: &AtomicU64,
 ) -> Result<usize> {
@@ -261,7 +264,7 @@ fn publish_all<R: Wait, T: Table + Drop>(
         }
         let value = Value::of(network);
         writer
-            .append(Change { network, value })
+            .append(ValueChange { network, value })
             .map_err(|_| AllocError)?;
         writer.publish()?;
         made = made.saturating_add(1);

@@ -3,7 +3,7 @@
 use crate::new_index;
 use crate::ordered::OrderedMap;
 use crate::sets::{Set, addresses, repeated};
-use crate::table::{Table, Value};
+use crate::table::{LookupTable, Value};
 use anyhow::Result;
 use ospf_types::memory::Memory;
 use ospf_types::prefix::Prefix;
@@ -38,7 +38,7 @@ pub fn measure<R: Files + AllocGlobal + RandomSource + Clock + Print + Threads +
     set: Set,
     threads: u32,
 ) -> Result<()> {
-    let asked = Asked::of(rt.alloc(), set)?;
+    let asked = LookupSet::of(rt.alloc(), set)?;
     let load = Load {
         networks: asked.networks.as_slice(),
         random: asked.random.as_slice(),
@@ -60,8 +60,8 @@ fn measure_index<R: Files + AllocGlobal + RandomSource + Clock + Print + Threads
 
 fn measure_both<
     R: AllocGlobal + Clock + Print + Threads + Sync,
-    A: Table + Drop + Sync,
-    B: Table + Drop + Sync,
+    A: LookupTable + Drop + Sync,
+    B: LookupTable + Drop + Sync,
 >(rt: &R, ordered: &mut Measured<A>, index: &mut Measured<B>, load: &Load<'_>) -> Result<()> {
     run_passes(rt, ordered, index, load)?;
     print_both(rt, ordered, index, load)?;
@@ -71,8 +71,8 @@ fn measure_both<
 // The passes of the two tables alternate, so that other load on the machine slows both.
 fn run_passes<
     R: AllocGlobal + Clock + Threads + Sync,
-    A: Table + Drop + Sync,
-    B: Table + Drop + Sync,
+    A: LookupTable + Drop + Sync,
+    B: LookupTable + Drop + Sync,
 >(rt: &R, one: &mut Measured<A>, other: &mut Measured<B>, load: &Load<'_>) -> Result<()> {
     let start = Instant::now(rt)?;
     for _ in 0..PASSES {
@@ -85,7 +85,7 @@ fn run_passes<
     Ok(())
 }
 
-fn print_both<A: Table, B: Table>(
+fn print_both<A: LookupTable, B: LookupTable>(
     rt: &impl Print,
     ordered: &Measured<A>,
     index: &Measured<B>,
@@ -100,19 +100,19 @@ fn print_both<A: Table, B: Table>(
 
 /// The networks of a set, and the addresses that are looked up.
 #[derive(Drop)]
-struct Asked {
+struct LookupSet {
     networks: Vec<Prefix>,
     random: Vec<u32>,
     hot: Vec<u32>,
 }
 
-impl Asked {
-    fn of(alloc: Global, set: Set) -> Result<Asked, AllocError> {
+impl LookupSet {
+    fn of(alloc: Global, set: Set) -> Result<LookupSet, AllocError> {
         let networks = set.networks(alloc)?;
         let random = addresses(alloc, networks.as_slice(), LOOKUPS)?;
         let few = addresses(alloc, networks.as_slice(), HOT)?;
         let hot = repeated(alloc, few.as_slice(), LOOKUPS)?;
-        Ok(Asked {
+        Ok(LookupSet {
             networks,
             random,
             hot,
@@ -146,7 +146,7 @@ struct Measured<T> {
     sum: u64,
 }
 
-impl<T: Table + Drop + Sync> Measured<T> {
+impl<T: LookupTable + Drop + Sync> Measured<T> {
     // Builds the table by giving each network a value.
     fn build<R: Files + AllocGlobal + Clock>(
         rt: &R,
@@ -249,21 +249,21 @@ fn some_of(networks: &[Prefix]) -> &[Prefix] {
         .unwrap_or(networks)
 }
 
-pub fn insert_all<T: Table>(table: &mut T, networks: &[Prefix]) -> Result<(), Memory> {
+pub fn insert_all<T: LookupTable>(table: &mut T, networks: &[Prefix]) -> Result<(), Memory> {
     for network in networks {
         table.insert(*network, Value::of(*network))?;
     }
     Ok(())
 }
 
-fn remove_all<T: Table>(table: &mut T, networks: &[Prefix]) {
+fn remove_all<T: LookupTable>(table: &mut T, networks: &[Prefix]) {
     for network in networks {
         table.remove(*network);
     }
 }
 
 // Looks up all addresses in each thread, and returns the sum of the numbers found.
-fn found_by_threads<R: AllocGlobal + Threads + Sync, T: Table + Sync>(
+fn found_by_threads<R: AllocGlobal + Threads + Sync, T: LookupTable + Sync>(
     rt: &R,
     table: &T,
     addresses: &[u32],
@@ -283,7 +283,7 @@ fn found_by_threads<R: AllocGlobal + Threads + Sync, T: Table + Sync>(
 }
 
 // Looks up all addresses. Each thread begins at another address.
-fn found_from<T: Table>(table: &T, addresses: &[u32], thread: usize, sum: u64) -> u64 {
+fn found_from<T: LookupTable>(table: &T, addresses: &[u32], thread: usize, sum: u64) -> u64 {
     let begin = (addresses.len() / 8)
         .saturating_mul(thread)
         .min(addresses.len());
@@ -293,9 +293,9 @@ fn found_from<T: Table>(table: &T, addresses: &[u32], thread: usize, sum: u64) -
 
 // Looks up the addresses, and mixes the numbers found into the sum.
 //
-// No other function calls `Table::longest`, so the compiler inlines the lookup into the loop, as in
-// a forwarder.
-pub fn found<T: Table>(table: &T, addresses: &[u32], sum: u64) -> u64 {
+// No other function calls `LookupTable::longest`, so the compiler inlines the lookup into the
+// loop, as in a forwarder.
+pub fn found<T: LookupTable>(table: &T, addresses: &[u32], sum: u64) -> u64 {
     let mut sum = sum;
     for address in addresses {
         let number = match table.longest(*address) {
@@ -309,7 +309,7 @@ pub fn found<T: Table>(table: &T, addresses: &[u32], sum: u64) -> u64 {
 
 // Returns the number of addresses for which the tables find different numbers. Each network's value
 // has its own number.
-fn differing<A: Table, B: Table>(one: &A, other: &B, addresses: &[u32]) -> u64 {
+fn differing<A: LookupTable, B: LookupTable>(one: &A, other: &B, addresses: &[u32]) -> u64 {
     let mut differ: u64 = 0;
     for address in addresses.chunks(1) {
         let is_same = found(one, address, 0) == found(other, address, 0);

@@ -23,7 +23,7 @@ impl Value {
 }
 
 /// A table of values by network.
-pub trait Table {
+pub trait LookupTable {
     /// Returns the longest network that contains the address (in host order), with its value.
     fn longest(&self, address: u32) -> Option<(Prefix, &Value)>;
 
@@ -32,7 +32,7 @@ pub trait Table {
     fn remove(&mut self, network: Prefix);
 }
 
-impl Table for PrefixIndex<Value> {
+impl LookupTable for PrefixIndex<Value> {
     fn longest(&self, address: u32) -> Option<(Prefix, &Value)> {
         PrefixIndex::longest(self, address)
     }

@@ -30,14 +30,14 @@ const CENTRES: [u32; 8] = [
 ];
 
 // A network with its value.
-type Entry = (Prefix, u64);
+type ValuedNetwork = (Prefix, u64);
 
 /// An index and a list with the same networks and values, and counts of the steps.
 #[derive(Drop)]
 pub struct Trial {
     index: PrefixIndex<u64>,
     // The networks in no order, without duplicates.
-    plain: Vec<Entry>,
+    plain: Vec<ValuedNetwork>,
     random: Random,
     insertions: u64,
     removals: u64,
@@ -163,7 +163,7 @@ impl Trial {
     }
 
     // Returns the list's longest network that contains the address, with its value.
-    fn longest(&self, address: u32) -> Option<Entry> {
+    fn longest(&self, address: u32) -> Option<ValuedNetwork> {
         self.plain
             .as_slice()
             .iter()
@@ -249,7 +249,7 @@ fn found(index: &PrefixIndex<u64>, networks: &[Prefix]) -> u64 {
 }
 
 // Returns the index's longest network that contains the address, with its value.
-fn longest(index: &PrefixIndex<u64>, address: u32) -> Option<Entry> {
+fn longest(index: &PrefixIndex<u64>, address: u32) -> Option<ValuedNetwork> {
     match index.longest(address) {
         Some((network, value)) => Some((network, *value)),
         None => None,

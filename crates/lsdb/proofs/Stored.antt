@@ -22,7 +22,7 @@ use Rattle.lsa_codec.proofs.Ages.{IsLegal-with_age}
 use Rattle.lsdb.specs.Databases.{Database, changed_at, aged_out, purge_refusal_of}
 use Rattle.lsdb.specs.declared.refusal.PurgeRefusal.TheVariants as purge
 use Rattle.lsdb.specs.Columns.{present, is_key, IsOwn, AreColumns}
-use Rattle.lsdb.specs.Contents.{IsSound, contents_of, used_at}
+use Rattle.lsdb.specs.Contents.{IsDatabaseSound, contents_of, used_at}
 use Rattle.lsdb.proofs.KeyTests.{equals, equals_key, equals_all, key_same}
 use Rattle.lsdb.proofs.Entries.{find-insert_entry, get_is, inserted, len_is, find_at, find_missing, swapped}
 use Rattle.lsdb.proofs.Rows.{Entry, length_present, keys_present, present_at, present-push, present-set_value_at, present-set_age, get_or-present, present-swap_remove, swap_remove-map, length-swap_remove}
@@ -118,7 +118,7 @@ module _ {es : List Entry} {ages kinds routers : List ℕ} {limit : ℕ} (c : Ar
       let e = entry_at es i lt in
       at_row q i e.0.0 e.0.1 (get_or ages i 0) at e.1 (slice_get-get_or ages i 0 (omega (arith, lt, c.a_row_each)))
 
-  pub sound_columns : IsSound (map_of (present es ages))
+  pub sound_columns : IsDatabaseSound (map_of (present es ages))
   sound_columns = record {
     under_own_key = λ k l e. (found_own (present es ages) k l c.own (sym (get_is key_total key_exact (present es ages) k) ∙ e)).0;
     legal = λ k l e. (found_own (present es ages) k l c.own (sym (get_is key_total key_exact (present es ages) k) ∙ e)).1;

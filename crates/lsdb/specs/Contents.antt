@@ -48,7 +48,7 @@ abbrev pub NoneComes : Database → Type 0
 NoneComes d = count_by comes_to_max_age (values d) ≡ 0
 
 -- each LSA is under its own key and is in the grammar
-pub record IsSound (d : Database) : Type 0 where
+pub record IsDatabaseSound (d : Database) : Type 0 where
   pub under_own_key : (k : Key) (l : Lsa) → get d k ≡ Some l → k ≡ key_of l
   pub legal : (k : Key) (l : Lsa) → get d k ≡ Some l → IsLegal l
 

@@ -35,7 +35,7 @@ ghost use Rattle.lsdb.specs.Databases.{IsPurgeRefusal, IsPurgeable, with_lsa, Ad
 ghost use Rattle.lsdb.specs.Databases.{order_without, keys_in, lsas_of_keys, all_aged, aged_out};
 ghost use Rattle.lsdb.specs.Databases.{comes_to_max_age, order_with, ages_of, keys_by, keys_aged};
 ghost use Rattle.lsdb.specs.Columns.{is_key};
-ghost use Rattle.lsdb.specs.Contents.{at_age_beside, body_at, IsSound, IsOrder, TellsUseAt};
+ghost use Rattle.lsdb.specs.Contents.{at_age_beside, body_at, IsDatabaseSound, IsOrder, TellsUseAt};
 ghost use Rattle.lsdb.specs.Contents.{TellsUseOf};
 
 use crate::contents::is_used_otherwise;
@@ -111,7 +111,7 @@ impl Database {
     /// Returns the number of LSAs.
     pub fn len(&self) -> usize
         ensures value { result ≡ map.len self.now.lsas }
-        ensures sound { IsSound self.now.lsas }
+        ensures sound { IsDatabaseSound self.now.lsas }
         ensures within { map.len self.now.lsas ≤ self.now.limit }
         ensures ordered { IsOrder self.now }
     {

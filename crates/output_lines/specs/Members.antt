@@ -14,15 +14,15 @@ abbrev pub json_line : Data → List ℕ
 json_line value = compact_text value ++ 10 ∷ []
 
 -- a name, and what is under it
-abbrev pub Member : Type 0
-Member = List ℕ × Data
+abbrev pub JsonMember : Type 0
+JsonMember = List ℕ × Data
 
-abbrev pub members_in : List Member → Members
+abbrev pub members_in : List JsonMember → Members
 members_in [] = no_members
 members_in (m ∷ ms) = member m.0 m.1 (members_in ms)
 
 -- the object with these members, in this order
-abbrev pub object_of : List Member → Data
+abbrev pub object_of : List JsonMember → Data
 object_of ms = object (members_in ms)
 
 abbrev pub number_data : ℕ → Data

@@ -7,19 +7,19 @@ use Rattle.ospf_types.specs.declared.entry.Entry.{Entry}
 use Rattle.ospf_types.specs.declared.hop.NextHop.{NextHop}
 use Rattle.ospf_types.specs.declared.hop.NextHop.TheVariants.{Direct, Peer, Router}
 use Rattle.ospf_types.specs.declared.hop.Path.{Path}
-use Rattle.output_lines.specs.Members.{Member, object_of, number_data, address_data}
+use Rattle.output_lines.specs.Members.{JsonMember, object_of, number_data, address_data}
 
 -- a next hop of this kind over the interface
-abbrev pub interface_members : (hop : List ℕ) (interface : ℕ) → List Member
+abbrev pub interface_members : (hop : List ℕ) (interface : ℕ) → List JsonMember
 interface_members hop interface = (codes "hop", string hop) ∷ (codes "interface", number_data interface) ∷ []
 
-abbrev pub hop_members : NextHop → List Member
+abbrev pub hop_members : NextHop → List JsonMember
 hop_members (Direct id) = interface_members (codes "direct") id
 hop_members (Peer id) = interface_members (codes "peer") id
 hop_members (Router id address) = (codes "address", address_data address) ∷ interface_members (codes "router") id
 
 -- the border router, or the AS boundary router, that the path leads to
-abbrev pub through_members : Option ℕ → List Member
+abbrev pub through_members : Option ℕ → List JsonMember
 through_members None = []
 through_members (Some router) = (codes "through", address_data router) ∷ []
 

@@ -5,11 +5,11 @@ use Rattle.std.specs.List.{list_any, find}
 use Rattle.std.specs.Option.{unwrap_or}
 use Rattle.std.proofs.lemmas.List.{length-append}
 use Rattle.packets.specs.declared.fragments.TheConstants.{MOST}
-use Rattle.packets.specs.declared.key.Key.{Key}
-use Rattle.packets.specs.Parts.{Part, AreAgreed}
+use Rattle.packets.specs.declared.key.FragmentKey.{FragmentKey}
+use Rattle.packets.specs.Parts.{FragmentPart, AreAgreed}
 use Rattle.packets.specs.Kept.{Kept, nothing_of, same_key, IsMadeOf, contradicts, with_part, is_whole, payload_of}
-use Rattle.packets.specs.Keeping.{AreApart, has_key, kept_of, without, put, latest, is_done, kept_after, whole_with, Answers}
-use Rattle.packets.specs.Taking.{IsTaken}
+use Rattle.packets.specs.Keeping.{AreKeysApart, has_key, kept_of, without, put, latest, is_done, kept_after, whole_with, IsPayloadAnswer}
+use Rattle.packets.specs.Taking.{IsFragmentTaken}
 use Rattle.packets.proofs.Choices.{not_second, both, or_left, or_right, neither_is}
 use Rattle.packets.proofs.ByKey.{key_equal, key_itself}
 use Rattle.packets.proofs.Finding.{find_out, find_put, find_latest, find_others, find_beside, find_before, find_dropped}
@@ -19,22 +19,22 @@ use Rattle.packets.proofs.Stepping.{apart_push}
 
 -- ---- the datagram itself
 
-pub nothing_made : (key : Key) → IsMadeOf [] (nothing_of key)
+pub nothing_made : (key : FragmentKey) → IsMadeOf [] (nothing_of key)
 nothing_made key = record { ended = refl; agreed = tt; long = refl; bytes = λ place. refl }
 
-key_step : (b : Bool) (key : Key) (kept : Kept) (all : List Kept) → has_key key kept ≡ b → (kept_of key all).key ≡ key → (kept_of key (kept ∷ all)).key ≡ key
+key_step : (b : Bool) (key : FragmentKey) (kept : Kept) (all : List Kept) → has_key key kept ≡ b → (kept_of key all).key ≡ key → (kept_of key (kept ∷ all)).key ≡ key
 key_step true key kept all e rest = ap (λ b. (unwrap_or (cond b (Some kept) (find (has_key key) all)) (nothing_of key)).key) e ∙ key_equal kept.key key e
 key_step false key kept all e rest = ap (λ b. (unwrap_or (cond b (Some kept) (find (has_key key) all)) (nothing_of key)).key) e ∙ rest
 
 -- what is kept of a datagram has its key
-found_key : (key : Key) (all : List Kept) → (kept_of key all).key ≡ key
+found_key : (key : FragmentKey) (all : List Kept) → (kept_of key all).key ≡ key
 found_key key [] = refl
 found_key key (kept ∷ all) = key_step (has_key key kept) key kept all refl (found_key key all)
 
-has_its_key : (key : Key) (w : Kept) → w.key ≡ key → has_key key w ≡ true
-has_its_key key w e = ap (λ (k : Key). same_key k key) e ∙ key_itself key
+has_its_key : (key : FragmentKey) (w : Kept) → w.key ≡ key → has_key key w ≡ true
+has_its_key key w e = ap (λ (k : FragmentKey). same_key k key) e ∙ key_itself key
 
-module _ (key : Key) (all : List Kept) where
+module _ (key : FragmentKey) (all : List Kept) where
   forgotten_of : kept_of key (without key all) ≡ nothing_of key
   forgotten_of = ap (λ (o : Option Kept). unwrap_or o (nothing_of key)) (find_out (has_key key) all)
 
@@ -55,7 +55,7 @@ module _ (key : Key) (all : List Kept) where
 
   -- ---- other datagrams
 
-  module _ (other : Key) (differs : other ≢ key) where
+  module _ (other : FragmentKey) (differs : other ≢ key) where
     misses_by : (b : Bool) (x : Kept) → has_key key x ≡ true → has_key other x ≡ b → has_key other x ≡ false
     misses_by true x e f = absurd (differs (sym (key_equal x.key other f) ∙ key_equal x.key key e))
     misses_by false x e f = f
@@ -66,7 +66,7 @@ module _ (key : Key) (all : List Kept) where
     without_other : kept_of other (without key all) ≡ kept_of other all
     without_other = ap (λ (o : Option Kept). unwrap_or o (nothing_of other)) (find_others (has_key other) (has_key key) all misses)
 
-    latest_other : (w : Kept) → has_key other w ≡ false → AreApart (all ++ w ∷ [])
+    latest_other : (w : Kept) → has_key other w ≡ false → AreKeysApart (all ++ w ∷ [])
         → (find (has_key other) (latest (all ++ w ∷ [])) ≡ find (has_key other) all) ⊎ (find (has_key other) (latest (all ++ w ∷ [])) ≡ None)
     latest_other w fails apart =
         let only = λ (i j : ℕ) (d : Kept) (before : i < j) (inside : j < length (all ++ w ∷ []))
@@ -77,7 +77,7 @@ module _ (key : Key) (all : List Kept) where
           | inr none ↦ inr none
         ]
 
-    put_beside : (w : Kept) (b : Bool) → has_key key w ≡ true → list_any (has_key key) all ≡ b → (b ≡ false → AreApart (all ++ w ∷ []))
+    put_beside : (w : Kept) (b : Bool) → has_key key w ≡ true → list_any (has_key key) all ≡ b → (b ≡ false → AreKeysApart (all ++ w ∷ []))
         → (find (has_key other) (put key w all) ≡ find (has_key other) all) ⊎ (find (has_key other) (put key w all) ≡ None)
     unfolding put_by
     put_beside w true passes e apart =
@@ -88,10 +88,10 @@ module _ (key : Key) (all : List Kept) where
           | inr none ↦ inr (ap (λ b. find (has_key other) (put_by w b)) e ∙ none)
         ]
 
-    put_other : (w : Kept) → w.key ≡ key → AreApart all → (kept_of other (put key w all) ≡ kept_of other all) ⊎ (kept_of other (put key w all) ≡ nothing_of other)
+    put_other : (w : Kept) → w.key ≡ key → AreKeysApart all → (kept_of other (put key w all) ≡ kept_of other all) ⊎ (kept_of other (put key w all) ≡ nothing_of other)
     put_other w same apart =
         elim (put_beside w (list_any (has_key key) all) (has_its_key key w same) refl
-        (λ none. apart_push all w (ap (λ (k : Key). list_any (has_key k) all) same ∙ none) apart)) [
+        (λ none. apart_push all w (ap (λ (k : FragmentKey). list_any (has_key k) all) same ∙ none) apart)) [
           | inl found ↦ inl (ap (λ (o : Option Kept). unwrap_or o (nothing_of other)) found)
           | inr none ↦ inr (ap (λ (o : Option Kept). unwrap_or o (nothing_of other)) none)
         ]
@@ -102,7 +102,7 @@ some_none : (o : Option (List ℕ)) → IsSome o → None ≡ o → ⊥
 some_none None some e = absurd cc
 some_none (Some b) some e = cc
 
-module _ (key : Key) (p : Part) (all : List Kept) where
+module _ (key : FragmentKey) (p : FragmentPart) (all : List Kept) where
   before : Kept
   before = kept_of key all
 
@@ -112,7 +112,7 @@ module _ (key : Key) (p : Part) (all : List Kept) where
   after_by : Bool → List Kept
   after_by b = if b then without key all else put key after all
 
-  done_by : (parts : List Part) → IsMadeOf parts before → ((AreAgreed (p ∷ parts) → ⊥) ⊎ IsSome (whole_with p before))
+  done_by : (parts : List FragmentPart) → IsMadeOf parts before → ((AreAgreed (p ∷ parts) → ⊥) ⊎ IsSome (whole_with p before))
       → (c d : Bool) → contradicts p before ≡ c → is_whole after ≡ d → is_done p before ≡ true
   unfolding before after
   done_by parts of why true d against whole = or_left (contradicts p before) (is_whole after) against
@@ -123,7 +123,7 @@ module _ (key : Key) (p : Part) (all : List Kept) where
         | inr some ↦ absurd (some_none (whole_with p before) some (not_second (contradicts p before) (is_whole after) (Some (payload_of after)) None whole))
       ]
 
-  going_on : (parts : List Part) → IsMadeOf parts before → AreAgreed (p ∷ parts) → whole_with p before ≡ None
+  going_on : (parts : List FragmentPart) → IsMadeOf parts before → AreAgreed (p ∷ parts) → whole_with p before ≡ None
       → (c d : Bool) → contradicts p before ≡ c → is_whole after ≡ d → (is_done p before ≡ false) × IsMadeOf (p ∷ parts) after
   unfolding before after
   going_on parts of agreed none true d against whole = absurd (refused p parts before of against agreed)
@@ -132,7 +132,7 @@ module _ (key : Key) (p : Part) (all : List Kept) where
   going_on parts of agreed none false false fits whole =
       (neither_is (contradicts p before) (is_whole after) fits whole, made p parts before of fits)
 
-  others_by : (b : Bool) (other : Key) → other ≢ key → AreApart all → is_done p before ≡ b
+  others_by : (b : Bool) (other : FragmentKey) → other ≢ key → AreKeysApart all → is_done p before ≡ b
       → (kept_of other (kept_after key p all) ≡ kept_of other all) ⊎ (kept_of other (kept_after key p all) ≡ nothing_of other)
   unfolding before after after_by
   others_by true other differs apart done = inl (ap (λ b. kept_of other (after_by b)) done ∙ without_other key all other differs)
@@ -142,7 +142,7 @@ module _ (key : Key) (p : Part) (all : List Kept) where
         | inr none ↦ inr (ap (λ b. kept_of other (after_by b)) done ∙ none)
       ]
 
-  pub all_taken : AreApart all → IsTaken key p all (kept_after key p all) (whole_with p (kept_of key all))
+  pub all_taken : AreKeysApart all → IsFragmentTaken key p all (kept_after key p all) (whole_with p (kept_of key all))
   unfolding before after after_by
   all_taken apart = record {
     whole = λ parts of payload. whole_just p parts before of payload;
@@ -157,10 +157,10 @@ module _ (key : Key) (p : Part) (all : List Kept) where
 
 -- ---- what a call answers
 
-pub taken_from : {E : Type 0} (r : Result (Option (Vec ℕ Global)) E) (key : Key) (p : Part) (all new : List Kept) → AreApart all
-    → OnOk r (new ≡ kept_after key p all) → Answers r (whole_with p (kept_of key all))
-    → IfOk r (λ payload. IsTaken key p all new (option_map (λ v. v.items) payload))
+pub taken_from : {E : Type 0} (r : Result (Option (Vec ℕ Global)) E) (key : FragmentKey) (p : FragmentPart) (all new : List Kept) → AreKeysApart all
+    → OnOk r (new ≡ kept_after key p all) → IsPayloadAnswer r (whole_with p (kept_of key all))
+    → IfOk r (λ payload. IsFragmentTaken key p all new (option_map (λ v. v.items) payload))
 taken_from (Ok payload) key p all new apart kept answer =
-    subst (λ (n : List Kept). IsTaken key p all n (option_map (λ v. v.items) payload)) (sym kept)
-    (subst (λ (a : Option (List ℕ)). IsTaken key p all (kept_after key p all) a) (sym answer) (all_taken key p all apart))
+    subst (λ (n : List Kept). IsFragmentTaken key p all n (option_map (λ v. v.items) payload)) (sym kept)
+    (subst (λ (a : Option (List ℕ)). IsFragmentTaken key p all (kept_after key p all) a) (sym answer) (all_taken key p all apart))
 taken_from (Err e) key p all new apart kept answer = tt

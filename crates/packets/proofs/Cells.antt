@@ -3,7 +3,7 @@ use Rattle.std.proofs.Common.{◌≡◌, ℕ, zero, suc, ◌+◌, ◌-◌, ◌�
 use Rattle.std.specs.List.{list_all}
 use Rattle.std.specs.Option.{unwrap_or}
 use Rattle.std.proofs.lemmas.List.{length-append, length-take, length-take-le, length-drop, length-replicate, take-append-le, take-append-drop, take_all, take-take, append-nil}
-use Rattle.packets.specs.declared.key.Key.{Key}
+use Rattle.packets.specs.declared.key.FragmentKey.{FragmentKey}
 use Rattle.packets.specs.Kept.{Kept, cells, grown, written}
 
 pub length-cells : (came : List Bool) (bytes : List ℕ) → length came ≤ length bytes → length (cells came bytes) ≡ length came
@@ -117,6 +117,6 @@ whole_all true all e = e
 whole_all false all e = absurd cc
 
 -- with equal bytes it is seen as the same
-pub seen_as : (key : Key) (has_end : Bool) (a b : List (Option ℕ)) (now : Kept) → a ≡ b
+pub seen_as : (key : FragmentKey) (has_end : Bool) (a b : List (Option ℕ)) (now : Kept) → a ≡ b
     → (let k : Kept = record { key = key; has_end = has_end; bytes = b } in k) ≡ now → (let k : Kept = record { key = key; has_end = has_end; bytes = a } in k) ≡ now
 seen_as key has_end a b now e f = ap (λ (bytes : List (Option ℕ)). record { key = key; has_end = has_end; bytes = bytes }) e ∙ f

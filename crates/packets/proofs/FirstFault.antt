@@ -5,7 +5,7 @@ use Rattle.ospf_types.specs.FirstOf.{first_of}
 use Rattle.packets.proofs.Choices.{or_false}
 use Rattle.packets.specs.declared.datagram_fault.DatagramFault.{DatagramFault}
 use Rattle.packets.specs.declared.datagram_fault.DatagramFault.TheVariants.{Header, Length, Fragment}
-use Rattle.packets.specs.Layout.{HasRoom, fault_of, has_wrong_header, has_wrong_length, is_wrong_fragment, header_length, total_length, payload_length, offset_field}
+use Rattle.packets.specs.Layout.{FitsDatagram, fault_of, has_wrong_header, has_wrong_length, is_wrong_fragment, header_length, total_length, payload_length, offset_field}
 
 here : (test : Bool) (fault : DatagramFault) (tests : List (Bool × DatagramFault)) → test ≡ true → Some fault ≡ first_of ((test, fault) ∷ tests)
 here true fault tests e = refl
@@ -49,7 +49,7 @@ is_none bytes e f g =
 no_more : (a b : ℕ) → ltb a b ≡ false → b ≤ a
 no_more a b e = grind (arith, common_steps)
 
-pub has_room : (bytes : List ℕ) → fault_of bytes ≡ None → HasRoom bytes
+pub has_room : (bytes : List ℕ) → fault_of bytes ≡ None → FitsDatagram bytes
 unfolding fault_of
 has_room bytes none =
     let first = none_here (has_wrong_header bytes) Header (second bytes) none in

@@ -4,7 +4,7 @@ use Rattle.std.specs.Prelude.{if◌then◌else◌, slice_index}
 use Rattle.std.specs.List.{AllByRecursion}
 use Rattle.std.proofs.lemmas.Bool.{cases_lt, le-leb, lt-leb, lt-ltb, le-ltb, ltb-true, ltb-false}
 use Rattle.std.proofs.lemmas.List.{length-append, length-drop, length-take-le, length-map, length-replicate, get_or_append_left, get_or-append_right, get_or-map, get_or-take, get_or-drop}
-use Rattle.packets.specs.Parts.{Part, end_of, has_place, byte_at, extent, has_last, AreAgreed}
+use Rattle.packets.specs.Parts.{FragmentPart, end_of, has_place, byte_at, extent, has_last, AreAgreed}
 use Rattle.packets.specs.Kept.{Kept, IsMadeOf, contradicts, grown, written, with_part}
 use Rattle.packets.proofs.Choices.{or_false, or_left, or_right, or_cases, and_false}
 
@@ -79,26 +79,26 @@ module _ (offset : ℕ) (payload : List ℕ) (cells : List (Option ℕ)) (inside
 
 -- ---- one more fragment
 
-abbrev IsMadeAt : List (Option ℕ) → List Part → Type 0
+abbrev IsMadeAt : List (Option ℕ) → List FragmentPart → Type 0
 IsMadeAt cells parts = (place : ℕ) → get_or cells place None ≡ byte_at parts place
 
-has_not_before : (p : Part) (i : ℕ) → i < p.offset → has_place i p ≡ false
+has_not_before : (p : FragmentPart) (i : ℕ) → i < p.offset → has_place i p ≡ false
 has_not_before p i lt = rw (lt-leb p.offset i lt) refl
 
-has_not_past : (p : Part) (i : ℕ) → end_of p ≤ i → has_place i p ≡ false
+has_not_past : (p : FragmentPart) (i : ℕ) → end_of p ≤ i → has_place i p ≡ false
 has_not_past p i from = and_false (leb p.offset i) (ltb i (end_of p)) (le-ltb i (end_of p) from)
 
-has_in : (p : Part) (i : ℕ) → p.offset ≤ i → i < end_of p → has_place i p ≡ true
+has_in : (p : FragmentPart) (i : ℕ) → p.offset ≤ i → i < end_of p → has_place i p ≡ true
 has_in p i from lt = rw (le-leb p.offset i from, lt-ltb i (end_of p) lt) refl
 
 -- the byte of the fragment, or that of the others
-byte_else : (p : Part) (parts : List Part) (i : ℕ) → has_place i p ≡ false → byte_at parts i ≡ byte_at (p ∷ parts) i
+byte_else : (p : FragmentPart) (parts : List FragmentPart) (i : ℕ) → has_place i p ≡ false → byte_at parts i ≡ byte_at (p ∷ parts) i
 byte_else p parts i e = ap (λ b. if b then Some (slice_index p.payload (i - p.offset)) else byte_at parts i) (sym e)
 
-byte_there : (p : Part) (parts : List Part) (i : ℕ) → has_place i p ≡ true → Some (slice_index p.payload (i - p.offset)) ≡ byte_at (p ∷ parts) i
+byte_there : (p : FragmentPart) (parts : List FragmentPart) (i : ℕ) → has_place i p ≡ true → Some (slice_index p.payload (i - p.offset)) ≡ byte_at (p ∷ parts) i
 byte_there p parts i e = ap (λ b. if b then Some (slice_index p.payload (i - p.offset)) else byte_at parts i) (sym e)
 
-made_at : (p : Part) (parts : List Part) (cells : List (Option ℕ)) → IsMadeAt cells parts → IsMadeAt (written p.offset p.payload (grown (end_of p) cells)) (p ∷ parts)
+made_at : (p : FragmentPart) (parts : List FragmentPart) (cells : List (Option ℕ)) → IsMadeAt cells parts → IsMadeAt (written p.offset p.payload (grown (end_of p) cells)) (p ∷ parts)
 made_at p parts cells made i =
     let all : List (Option ℕ) = grown (end_of p) cells in
     let inside : p.offset + length p.payload ≤ length all = omega (arith, length-grown (end_of p) cells) in
@@ -111,7 +111,7 @@ made_at p parts cells made i =
       ]
     ]
 
-pub long_at : (p : Part) (cells : List (Option ℕ)) → length (written p.offset p.payload (grown (end_of p) cells)) ≡ max (end_of p) (length cells)
+pub long_at : (p : FragmentPart) (cells : List (Option ℕ)) → length (written p.offset p.payload (grown (end_of p) cells)) ≡ max (end_of p) (length cells)
 long_at p cells =
     let inside : p.offset + length p.payload ≤ length (grown (end_of p) cells) = omega (arith, length-grown (end_of p) cells) in
     length-written p.offset p.payload (grown (end_of p) cells) inside ∙ length-grown (end_of p) cells
@@ -119,10 +119,10 @@ long_at p cells =
 -- ---- what agrees
 
 -- none of the fragments that is the last one ends before the place
-abbrev NoneEndsBefore : ℕ → List Part → Type 0
+abbrev NoneEndsBefore : ℕ → List FragmentPart → Type 0
 NoneEndsBefore place parts = AllByRecursion (λ p. p.is_last ≡ true → place ≤ end_of p) parts
 
-none_later : (from to : ℕ) (parts : List Part) → (has_last parts ≡ true → to ≤ from) → NoneEndsBefore from parts → NoneEndsBefore to parts
+none_later : (from to : ℕ) (parts : List FragmentPart) → (has_last parts ≡ true → to ≤ from) → NoneEndsBefore from parts → NoneEndsBefore to parts
 none_later from to [] bound all = tt
 none_later from to (p ∷ parts) bound all = (
   (λ last. let here : from ≤ end_of p = all.0 last in let near : to ≤ from = bound (or_left p.is_last (has_last parts) last) in omega arith),
@@ -130,7 +130,7 @@ none_later from to (p ∷ parts) bound all = (
 )
 
 -- where some fragment is the last one, the others reach as far
-last_reaches : (place : ℕ) (parts : List Part) → has_last parts ≡ true → NoneEndsBefore place parts → place ≤ extent parts
+last_reaches : (place : ℕ) (parts : List FragmentPart) → has_last parts ≡ true → NoneEndsBefore place parts → place ≤ extent parts
 last_reaches place [] some all = absurd cc
 last_reaches place (p ∷ parts) some all =
     elim (or_cases p.is_last (has_last parts) some) [
@@ -142,7 +142,7 @@ agrees_end : (a : Bool) (m n : ℕ) → (a && ltb m n) ≡ false → a ≡ true 
 agrees_end true m n e f = ltb-false m n e
 agrees_end false m n e f = absurd cc
 
-pub made : (p : Part) (parts : List Part) (kept : Kept) → IsMadeOf parts kept → contradicts p kept ≡ false → IsMadeOf (p ∷ parts) (with_part p kept)
+pub made : (p : FragmentPart) (parts : List FragmentPart) (kept : Kept) → IsMadeOf parts kept → contradicts p kept ≡ false → IsMadeOf (p ∷ parts) (with_part p kept)
 made p parts kept of fits =
     let split = or_false (kept.has_end && ltb (length kept.bytes) (end_of p)) (p.is_last && ltb (end_of p) (length kept.bytes)) fits in
     let reach : (has_last parts ≡ true → max (end_of p) (extent parts) ≤ extent parts) =
@@ -163,7 +163,7 @@ contradicted_end : (a : Bool) (m n : ℕ) → (a && ltb m n) ≡ true → (a ≡
 contradicted_end true m n e = (refl, ltb-true m n e)
 contradicted_end false m n e = absurd cc
 
-pub refused : (p : Part) (parts : List Part) (kept : Kept) → IsMadeOf parts kept → contradicts p kept ≡ true → AreAgreed (p ∷ parts) → ⊥
+pub refused : (p : FragmentPart) (parts : List FragmentPart) (kept : Kept) → IsMadeOf parts kept → contradicts p kept ≡ true → AreAgreed (p ∷ parts) → ⊥
 refused p parts kept of against agreed =
     elim (or_cases (kept.has_end && ltb (length kept.bytes) (end_of p)) (p.is_last && ltb (end_of p) (length kept.bytes)) against) [
       | inl past ↦

@@ -9,7 +9,7 @@ use Rattle.std.proofs.lemmas.Bool.{leb-true, le-leb, and_parts, and_from}
 use Rattle.byteorder.specs.Endian.{big_number}
 use Rattle.packets.specs.declared.fault.UpdateFault.{UpdateFault}
 use Rattle.packets.specs.declared.fault.UpdateFault.TheVariants.{LsaLength}
-use Rattle.packets.specs.Updates.{lsa_length, IsOneLsa, Piece, StartsWithLsa, IsWhole, IsCut, ArePieces, has_lsa, pieces_from, lent}
+use Rattle.packets.specs.Updates.{lsa_length, IsOneLsa, UpdatePiece, StartsWithLsa, IsUpdateWhole, IsUpdateCut, ArePieces, has_lsa, pieces_from, lent}
 
 -- ---- an LSA in front
 
@@ -80,16 +80,16 @@ one_in_front n place lsa behind one =
 -- ---- they are the pieces
 
 -- the end is the same where an LSA more is at the start, and where it is taken away
-abbrev IsEnd : (found count place : ℕ) → List ℕ → List Piece → Type 0
-IsEnd found count place rest end = IsWhole found count end ⊎ IsCut found count place rest end
+abbrev IsEnd : (found count place : ℕ) → List ℕ → List UpdatePiece → Type 0
+IsEnd found count place rest end = IsUpdateWhole found count end ⊎ IsUpdateCut found count place rest end
 
-end_more : (found count place size more : ℕ) (rest : List ℕ) (end : List Piece) → IsEnd found count (place + size + more) rest end → IsEnd (suc found) (suc count) (place + (size + more)) rest end
+end_more : (found count place size more : ℕ) (rest : List ℕ) (end : List UpdatePiece) → IsEnd found count (place + size + more) rest end → IsEnd (suc found) (suc count) (place + (size + more)) rest end
 end_more found count place size more rest end (inl whole) = inl (record { all = omega (arith, whole.all); nothing = whole.nothing })
 end_more found count place size more rest end (inr cut) =
     let same : place + size + more ≡ place + (size + more) = omega arith in
     inr (record { fewer = omega (arith, cut.fewer); none = cut.none; fault = cut.fault ∙ ap (λ (n : ℕ). Err (LsaLength n) ∷ []) same })
 
-end_less : (found count place size more : ℕ) (rest : List ℕ) (end : List Piece) → IsEnd (suc found) (suc count) (place + (size + more)) rest end → IsEnd found count (place + size + more) rest end
+end_less : (found count place size more : ℕ) (rest : List ℕ) (end : List UpdatePiece) → IsEnd (suc found) (suc count) (place + (size + more)) rest end → IsEnd found count (place + size + more) rest end
 end_less found count place size more rest end (inl whole) = inl (record { all = omega (arith, whole.all); nothing = whole.nothing })
 end_less found count place size more rest end (inr cut) =
     let same : place + (size + more) ≡ place + size + more = omega arith in
@@ -102,7 +102,7 @@ with_lsa n place bytes front others = record {
   end = others.end;
   whole = front.whole ∙ ap (λ (b : List ℕ). front.lsa ++ b) others.whole ∙ sym (append_assoc front.lsa (concat others.lsas) others.rest);
   each = (front.is_lsa, others.each);
-  all = ap (pieces_from (suc n) place) front.whole ∙ one_in_front n place front.lsa front.behind front.is_lsa ∙ ap (λ (p : List Piece). Ok front.lsa ∷ p) others.all;
+  all = ap (pieces_from (suc n) place) front.whole ∙ one_in_front n place front.lsa front.behind front.is_lsa ∙ ap (λ (p : List UpdatePiece). Ok front.lsa ∷ p) others.all;
   ends = subst (λ (k : ℕ). IsEnd (suc (length others.lsas)) (suc n) (place + k) others.rest others.end) (sym (length-append front.lsa (concat others.lsas))) (end_more (length others.lsas) n place (length front.lsa) (length (concat others.lsas)) others.rest others.end others.ends);
 }
 
@@ -127,7 +127,7 @@ are_pieces (suc n) place bytes = by_front n place bytes (has_lsa bytes) refl (λ
 
 -- ---- and no others are
 
-only_with : (lsas : List (List ℕ)) (rest : List ℕ) (end : List Piece) (count place : ℕ) (bytes : List ℕ) (pieces : List Piece) → bytes ≡ concat lsas ++ rest → AllByRecursion IsOneLsa lsas → pieces ≡ map Ok lsas ++ end
+only_with : (lsas : List (List ℕ)) (rest : List ℕ) (end : List UpdatePiece) (count place : ℕ) (bytes : List ℕ) (pieces : List UpdatePiece) → bytes ≡ concat lsas ++ rest → AllByRecursion IsOneLsa lsas → pieces ≡ map Ok lsas ++ end
     → IsEnd (length lsas) count (place + length (concat lsas)) rest end → pieces ≡ pieces_from count place bytes
 only_with [] rest end zero place bytes pieces whole each all (inl e) = all ∙ e.nothing
 only_with [] rest end zero place bytes pieces whole each all (inr e) = absurd (omega (arith, e.fewer))
@@ -142,9 +142,9 @@ only_with (lsa ∷ lsas) rest end (suc n) place bytes pieces whole each all ends
     let behind : List ℕ = concat lsas ++ rest in
     let parts : bytes ≡ lsa ++ behind = whole ∙ append_assoc lsa (concat lsas) rest in
     let others = only_with lsas rest end n (place + length lsa) behind (map Ok lsas ++ end) refl each.1 refl (end_less (length lsas) n place (length lsa) (length (concat lsas)) rest end (subst (λ (k : ℕ). IsEnd (suc (length lsas)) (suc n) (place + k) rest end) (length-append lsa (concat lsas)) ends)) in
-    all ∙ ap (λ (p : List Piece). Ok lsa ∷ p) others ∙ sym (ap (pieces_from (suc n) place) parts ∙ one_in_front n place lsa behind each.0)
+    all ∙ ap (λ (p : List UpdatePiece). Ok lsa ∷ p) others ∙ sym (ap (pieces_from (suc n) place) parts ∙ one_in_front n place lsa behind each.0)
 
-pub only_pieces : (count place : ℕ) (bytes : List ℕ) (pieces : List Piece) → ArePieces count place bytes pieces → pieces ≡ pieces_from count place bytes
+pub only_pieces : (count place : ℕ) (bytes : List ℕ) (pieces : List UpdatePiece) → ArePieces count place bytes pieces → pieces ≡ pieces_from count place bytes
 only_pieces count place bytes pieces p =
     only_with p.lsas p.rest p.end count place bytes pieces p.whole p.each p.all p.ends
 
@@ -165,5 +165,5 @@ takes_fault zero place body rest some at none = absurd (omega (arith, some))
 takes_fault (suc n) place body rest some at none = ap (pieces_from (suc n) place) (sym at) ∙ stuck n place rest none
 
 -- to take the first of what is left is progress
-pub first_goes : (first : Result (Bor (List ℕ)) UpdateFault) (before after : List Piece) → before ≡ lent first ∷ after → MakesProgress (λ _. Unit {0}) (item_count (λ s. s)) before (Some first) after
+pub first_goes : (first : Result (Bor (List ℕ)) UpdateFault) (before after : List UpdatePiece) → before ≡ lent first ∷ after → MakesProgress (λ _. Unit {0}) (item_count (λ s. s)) before (Some first) after
 first_goes first before after e = record { on = λ _. (tt, tt, omega (arith, ap length e)); keeps = tt; rests = λ _. tt }

@@ -4,7 +4,7 @@ use Rattle.std.specs.Prelude.{slice_index}
 use Rattle.std.specs.List.{list_all}
 use Rattle.std.specs.Option.{unwrap_or}
 use Rattle.std.proofs.lemmas.List.{length-map}
-use Rattle.packets.specs.Parts.{Part, IsWhole}
+use Rattle.packets.specs.Parts.{FragmentPart, IsPayloadWhole}
 use Rattle.packets.specs.Kept.{Kept, IsMadeOf, contradicts, with_part, is_whole, payload_of}
 use Rattle.packets.specs.Keeping.{whole_with}
 use Rattle.packets.proofs.Choices.{not_first, not_second, both, and_true, true_not_false}
@@ -27,7 +27,7 @@ all_from (x ∷ cells) (b ∷ payload) long there =
     let rest = all_from cells payload (omega arith) (λ i lt. there (suc i) (omega arith)) in
     (rw here rest.0, rw here (ap (λ (r : List ℕ). b ∷ r) rest.1))
 
-whole_made : (parts : List Part) (kept : Kept) → IsMadeOf parts kept → is_whole kept ≡ true → IsWhole parts (payload_of kept)
+whole_made : (parts : List FragmentPart) (kept : Kept) → IsMadeOf parts kept → is_whole kept ≡ true → IsPayloadWhole parts (payload_of kept)
 whole_made parts kept of whole =
     let split = and_true kept.has_end (list_all is_some kept.bytes) whole in
     let long : length (payload_of kept) ≡ length kept.bytes = length-map kept.bytes (λ b. unwrap_or b 0) in
@@ -38,7 +38,7 @@ whole_made parts kept of whole =
       bytes = λ i lt. sym (of.bytes i) ∙ all_there kept.bytes split.1 i (omega (arith, long));
     }
 
-made_whole : (parts : List Part) (kept : Kept) (payload : List ℕ) → IsMadeOf parts kept → IsWhole parts payload → (is_whole kept ≡ true) × (payload_of kept ≡ payload)
+made_whole : (parts : List FragmentPart) (kept : Kept) (payload : List ℕ) → IsMadeOf parts kept → IsPayloadWhole parts payload → (is_whole kept ≡ true) × (payload_of kept ≡ payload)
 made_whole parts kept payload of whole =
     let cells = all_from kept.bytes payload (whole.long ∙ sym of.long) (λ i lt. of.bytes i ∙ whole.bytes i lt) in
     (rw (of.ended ∙ whole.ended) cells.0, cells.1)
@@ -50,12 +50,12 @@ none_some : (o : Option (List ℕ)) (b : List ℕ) → None ≡ o → o ≡ Some
 none_some None b n s = cc
 none_some (Some a) b n s = cc
 
-module _ (p : Part) (parts : List Part) (kept : Kept) (of : IsMadeOf parts kept) (payload : List ℕ) where
-  by_whole : (fits : contradicts p kept ≡ false) (d : Bool) → is_whole (with_part p kept) ≡ d → (whole_with p kept ≡ Some payload) ↔ IsWhole (p ∷ parts) payload
+module _ (p : FragmentPart) (parts : List FragmentPart) (kept : Kept) (of : IsMadeOf parts kept) (payload : List ℕ) where
+  by_whole : (fits : contradicts p kept ≡ false) (d : Bool) → is_whole (with_part p kept) ≡ d → (whole_with p kept ≡ Some payload) ↔ IsPayloadWhole (p ∷ parts) payload
   by_whole fits true whole =
       let now = made p parts kept of fits in
       let found : Some (payload_of (with_part p kept)) ≡ whole_with p kept = both (contradicts p kept) (is_whole (with_part p kept)) (Some (payload_of (with_part p kept))) None fits whole in (
-        λ e. subst (IsWhole (p ∷ parts)) (same_some (payload_of (with_part p kept)) payload (found ∙ e)) (whole_made (p ∷ parts) (with_part p kept) now whole),
+        λ e. subst (IsPayloadWhole (p ∷ parts)) (same_some (payload_of (with_part p kept)) payload (found ∙ e)) (whole_made (p ∷ parts) (with_part p kept) now whole),
         λ w. sym found ∙ ap (λ (b : List ℕ). Some b) (made_whole (p ∷ parts) (with_part p kept) payload now w).1,
       )
   by_whole fits false whole =
@@ -65,7 +65,7 @@ module _ (p : Part) (parts : List Part) (kept : Kept) (of : IsMadeOf parts kept)
         λ w. absurd (true_not_false (made_whole (p ∷ parts) (with_part p kept) payload now w).0 whole),
       )
 
-  by_fit : (b : Bool) → contradicts p kept ≡ b → (whole_with p kept ≡ Some payload) ↔ IsWhole (p ∷ parts) payload
+  by_fit : (b : Bool) → contradicts p kept ≡ b → (whole_with p kept ≡ Some payload) ↔ IsPayloadWhole (p ∷ parts) payload
   by_fit true against =
       let found : None ≡ whole_with p kept = not_first (contradicts p kept) (is_whole (with_part p kept)) (Some (payload_of (with_part p kept))) None against in (
         λ e. absurd (none_some (whole_with p kept) payload found e),
@@ -73,5 +73,5 @@ module _ (p : Part) (parts : List Part) (kept : Kept) (of : IsMadeOf parts kept)
       )
   by_fit false fits = by_whole fits (is_whole (with_part p kept)) refl
 
-  pub whole_just : (whole_with p kept ≡ Some payload) ↔ IsWhole (p ∷ parts) payload
+  pub whole_just : (whole_with p kept ≡ Some payload) ↔ IsPayloadWhole (p ∷ parts) payload
   whole_just = by_fit (contradicts p kept) refl

@@ -3,35 +3,35 @@ use Rattle.std.specs.Prelude.{ℕ, ◌≡◌, ◌+◌, ◌-◌, ◌&&◌, ◌||�
 use Rattle.std.specs.List.{list_all, count_by}
 use Rattle.std.specs.Option.{unwrap_or}
 use Rattle.packets.specs.declared.datagram.Datagram.{Datagram}
-use Rattle.packets.specs.declared.key.Key.{Key}
-use Rattle.packets.specs.Parts.{Part, end_of, byte_at, extent, has_last, AreAgreed}
+use Rattle.packets.specs.declared.key.FragmentKey.{FragmentKey}
+use Rattle.packets.specs.Parts.{FragmentPart, end_of, byte_at, extent, has_last, AreAgreed}
 
 -- the two addresses, the identification and the protocol, which separate a datagram from others
-abbrev pub key_of : Datagram → Key
+abbrev pub key_of : Datagram → FragmentKey
 key_of d = record { source = d.source; destination = d.destination; identification = d.identification; protocol = d.protocol }
 
-abbrev pub same_key : Key → Key → Bool
+abbrev pub same_key : FragmentKey → FragmentKey → Bool
 same_key a b = (a.source == b.source) && (a.destination == b.destination) && (a.identification == b.identification) && (a.protocol == b.protocol)
 
 -- the bytes received, each at its place, and whether the last fragment is among them: then the
 -- datagram ends where they end
 pub record Kept : Type 0 where
-  pub key : Key
+  pub key : FragmentKey
   pub has_end : Bool
   pub bytes : List (Option ℕ)
 
-abbrev pub nothing_of : Key → Kept
+abbrev pub nothing_of : FragmentKey → Kept
 nothing_of key = record { key = key; has_end = false; bytes = [] }
 
 -- it is what these fragments make: the byte at each place, and no more
-pub record IsMadeOf (parts : List Part) (kept : Kept) : Type 0 where
+pub record IsMadeOf (parts : List FragmentPart) (kept : Kept) : Type 0 where
   pub ended : kept.has_end ≡ has_last parts
   pub agreed : AreAgreed parts
   pub long : length kept.bytes ≡ extent parts
   pub bytes : (place : ℕ) → get_or kept.bytes place None ≡ byte_at parts place
 
 -- one more fragment goes past an end that is known, or is the last one and ends before another
-abbrev pub contradicts : Part → Kept → Bool
+abbrev pub contradicts : FragmentPart → Kept → Bool
 contradicts p kept =
     (kept.has_end && nat_lt (length kept.bytes) (end_of p)) || (p.is_last && nat_lt (end_of p) (length kept.bytes))
 
@@ -44,7 +44,7 @@ abbrev pub written : ℕ → List ℕ → List (Option ℕ) → List (Option ℕ
 written offset payload bytes = take offset bytes ++ map (λ b. Some b) payload ++ drop (offset + length payload) bytes
 
 -- with one more fragment
-abbrev pub with_part : Part → Kept → Kept
+abbrev pub with_part : FragmentPart → Kept → Kept
 with_part p kept = record kept { has_end = p.is_last || kept.has_end; bytes = written p.offset p.payload (grown (end_of p) kept.bytes) }
 
 -- the end is known, and no place before it is empty

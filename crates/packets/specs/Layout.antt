@@ -49,7 +49,7 @@ abbrev pub payload_field : List ℕ → List ℕ
 payload_field bytes = take (payload_length bytes) (drop (header_length bytes) bytes)
 
 -- header and payload lie in the bytes, and the payload in the longest datagram
-pub record HasRoom (bytes : List ℕ) : Type 0 where
+pub record FitsDatagram (bytes : List ℕ) : Type 0 where
   pub header : 20 ≤ header_length bytes
   pub total : header_length bytes ≤ total_length bytes
   pub whole : total_length bytes ≤ length bytes

@@ -3,7 +3,7 @@ ghost use Rattle.std.specs.Prelude.{◌≡◌, ◌≤◌, [], length, OnOk, OnEr
 ghost use Rattle.std.specs.List.{position};
 
 use crate::datagram::Datagram;
-use crate::key::Key;
+use crate::key::FragmentKey;
 use crate::partial::Partial;
 use crate::steps::{begin, go_on};
 use ospf_types::memory::Memory;
@@ -35,26 +35,26 @@ impl Drop for Fragments {
 impl Model for Fragments {
     ghost use Rattle.std.specs.Prelude.{◌≤◌, List, length};
     ghost use Rattle.packets.specs.Kept.{Kept};
-    ghost use Rattle.packets.specs.Keeping.{AreApart, AreShort};
+    ghost use Rattle.packets.specs.Keeping.{AreKeysApart, AreShort};
     ghost use Rattle.packets.specs.declared.fragments.TheConstants.{MOST};
 
     ghost Value = { List Kept };
 
     ghost view = { λ f. f.partials.items };
 
-    ghost invariant = { λ f. (length f.partials.items ≤ MOST) × AreApart f.partials.items × AreShort f.partials.items };
+    ghost invariant = { λ f. (length f.partials.items ≤ MOST) × AreKeysApart f.partials.items × AreShort f.partials.items };
 }
 
 impl Fragments {
     ghost use Rattle.packets.specs.Kept.{IsMadeOf};
-    ghost use Rattle.packets.specs.Taking.{Takes, kept_with, payload_with};
-    ghost use Rattle.packets.specs.declared.key.Key.{Key};
-    ghost use Rattle.packets.specs.Keeping.{AreApart, AreShort, Answers, has_key, kept_of};
+    ghost use Rattle.packets.specs.Taking.{TakesFragment, kept_with, payload_with};
+    ghost use Rattle.packets.specs.declared.key.FragmentKey.{FragmentKey};
+    ghost use Rattle.packets.specs.Keeping.{AreKeysApart, AreShort, IsPayloadAnswer, has_key, kept_of};
 
     /// Creates an empty collection.
     pub fn new(alloc: Global) -> Fragments
         ensures value { result ≡ [] }
-        ensures nothing { (key : Key) → IsMadeOf [] (kept_of key result) }
+        ensures nothing { (key : FragmentKey) → IsMadeOf [] (kept_of key result) }
     {
         Fragments {
             partials: Vec::new(alloc),
@@ -65,7 +65,7 @@ impl Fragments {
     pub fn count(&self) -> usize
         ensures value { result ≡ length self.now }
         ensures few { result ≤ MOST }
-        ensures apart { AreApart self.now }
+        ensures apart { AreKeysApart self.now }
         ensures short { AreShort self.now }
     {
         self.partials.len()
@@ -88,13 +88,13 @@ impl Fragments {
         fragment: &Datagram<'_>,
     ) -> Result<Option<Vec<u8>>, Memory>
         ensures kept { OnOk result (self.new ≡ kept_with fragment.now self.old) }
-        ensures answer { Answers result (payload_with fragment.now self.old) }
+        ensures answer { IsPayloadAnswer result (payload_with fragment.now self.old) }
         // If memory runs out, nothing changes.
         ensures unchanged { OnErr result (self.new ≡ self.old) }
         // The result and the kept parts are made of all fragments received and not forgotten.
-        ensures taken { Takes fragment.now self.old self.new result }
+        ensures taken { TakesFragment fragment.now self.old self.new result }
     {
-        let key = Key::of(fragment);
+        let key = FragmentKey::of(fragment);
         match self.place_of(&key) {
             Some(place) => go_on(&mut self.partials, place, fragment),
             None => begin(&mut self.partials, Partial::new(alloc, key), fragment),
@@ -102,7 +102,7 @@ impl Fragments {
     }
 
     // Returns the index of the datagram with the key.
-    fn place_of(&self, key: &Key) -> Option<usize>
+    fn place_of(&self, key: &FragmentKey) -> Option<usize>
         ensures { result ≡ position (has_key key.now) self.now }
     {
         self.partials

@@ -5,20 +5,20 @@ use crate::datagram::Datagram;
 
 /// The key of a datagram: the fields that all its fragments share (RFC 791, 3.2).
 #[derive(Clone, Copy, Debug)]
-pub(crate) struct Key {
+pub(crate) struct FragmentKey {
     source: u32,
     destination: u32,
     identification: u16,
     protocol: u8,
 }
 
-impl Key {
+impl FragmentKey {
     ghost use Rattle.packets.specs.Kept.{key_of, same_key};
 
-    pub(crate) fn of(datagram: &Datagram<'_>) -> Key
+    pub(crate) fn of(datagram: &Datagram<'_>) -> FragmentKey
         ensures { result ≡ key_of datagram.now }
     {
-        Key {
+        FragmentKey {
             source: datagram.source,
             destination: datagram.destination,
             identification: datagram.identification,
@@ -26,7 +26,7 @@ impl Key {
         }
     }
 
-    pub(crate) fn is_same(&self, other: &Key) -> bool
+    pub(crate) fn is_same(&self, other: &FragmentKey) -> bool
         ensures { result ≡ same_key self.now other.now }
     {
         self.source == other.source

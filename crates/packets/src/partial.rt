@@ -4,7 +4,7 @@ ghost use Rattle.std.specs.Prelude.{◌≡◌, ◌≤◌, ◌+◌, ◌++◌, ◌
 ghost use Rattle.std.specs.Prelude.{drop, replicate, true};
 
 use crate::datagram::Datagram;
-use crate::key::Key;
+use crate::key::FragmentKey;
 use ospf_types::memory::Memory;
 use std::alloc::Global;
 use std::marker::Model;
@@ -12,7 +12,7 @@ use std::marker::Model;
 /// The received bytes of a datagram's payload.
 #[derive(Drop)]
 pub(crate) struct Partial {
-    key: Key,
+    key: FragmentKey,
     /// True if the last fragment was received. The payload then ends with the last place.
     has_end: bool,
     /// For each place, true if its byte was received.
@@ -40,7 +40,7 @@ impl Partial {
     ghost use Rattle.packets.specs.Kept.{with_part, is_whole as is_whole_test, payload_of};
 
     /// Creates the part of a datagram of which nothing was received.
-    pub(crate) fn new(alloc: Global, key: Key) -> Partial
+    pub(crate) fn new(alloc: Global, key: FragmentKey) -> Partial
         ensures { result ≡ nothing_of key }
     {
         Partial {
@@ -52,7 +52,7 @@ impl Partial {
         }
     }
 
-    pub(crate) fn has_key(&self, key: &Key) -> bool
+    pub(crate) fn has_key(&self, key: &FragmentKey) -> bool
         ensures { result ≡ same_key self.now.key key.now }
     {
         self.key.is_same(key)

@@ -4,7 +4,7 @@ ghost use Rattle.packets.specs.Layout.{has_wrong_header as has_wrong_header_test
 ghost use Rattle.packets.specs.Layout.{has_wrong_length as has_wrong_length_test};
 ghost use Rattle.packets.specs.Layout.{is_wrong_fragment as is_wrong_fragment_test};
 ghost use Rattle.packets.specs.Layout.{header_length as header_length_of};
-ghost use Rattle.packets.specs.Layout.{total_length as total_length_of, fault_of, HasRoom};
+ghost use Rattle.packets.specs.Layout.{total_length as total_length_of, fault_of, FitsDatagram};
 ghost use Rattle.packets.specs.Layout.{has_more as has_more_test, offset_field};
 ghost use Rattle.packets.specs.Reading.{IsDatagram};
 
@@ -99,7 +99,7 @@ fn fault(bytes: &[u8]) -> Option<DatagramFault>
 
 /// Returns the datagram with the fields of the header.
 fn datagram_in(bytes: &[u8]) -> Datagram<'_>
-    requires { HasRoom bytes.now }
+    requires { FitsDatagram bytes.now }
     ensures { IsDatagram bytes.now result }
 {
     Datagram {

@@ -2,7 +2,7 @@
 ghost use Rattle.std.specs.Prelude.{◌≡◌, ◌≤◌, ◌<◌, Some, length, OnOk, OnErr, slice_get};
 ghost use Rattle.packets.specs.Parts.{part_of};
 ghost use Rattle.packets.specs.Kept.{Kept, with_part};
-ghost use Rattle.packets.specs.Keeping.{Answers, changed, begun, whole_with, whole_at_once};
+ghost use Rattle.packets.specs.Keeping.{IsPayloadAnswer, changed, begun, whole_with, whole_at_once};
 
 use crate::datagram::Datagram;
 use crate::fragments::MOST;
@@ -21,7 +21,7 @@ pub(crate) fn go_on(
         → OnOk result (partials.new.items
         ≡ changed (part_of fragment.now) before partials.old.items place) }
     ensures answer { (before : Kept) → slice_get partials.old.items place ≡ Some before
-        → Answers result (whole_with (part_of fragment.now) before) }
+        → IsPayloadAnswer result (whole_with (part_of fragment.now) before) }
     ensures unchanged { OnErr result (partials.new.items ≡ partials.old.items) }
 {
     let partial = &mut partials[place];
@@ -45,7 +45,7 @@ pub(crate) fn begin(
     requires { length partials.old.items ≤ MOST }
     ensures kept { OnOk result (partials.new.items
         ≡ begun (with_part (part_of fragment.now) partial) partials.old.items) }
-    ensures answer { Answers result (whole_at_once (with_part (part_of fragment.now) partial)) }
+    ensures answer { IsPayloadAnswer result (whole_at_once (with_part (part_of fragment.now) partial)) }
     ensures unchanged { OnErr result (partials.new.items ≡ partials.old.items) }
 {
     partial.add(fragment)?;

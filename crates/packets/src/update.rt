@@ -2,7 +2,7 @@
 
 ghost use Rattle.std.specs.Prelude.{◌≡◌, ◌≤◌, ◌<◌, List, IfOk, IfErr, length, true};
 ghost use Rattle.packets.specs.declared.fault.UpdateFault.TheVariants.{Count as CountFault};
-ghost use Rattle.packets.specs.Updates.{Piece, ArePiecesOf, pieces_of, has_lsa as has_lsa_test};
+ghost use Rattle.packets.specs.Updates.{UpdatePiece, ArePiecesOf, pieces_of, has_lsa as has_lsa_test};
 ghost use Rattle.packets.specs.Updates.{lsa_length as length_of_lsa};
 
 use crate::fault::UpdateFault;
@@ -27,9 +27,9 @@ pub struct UpdateLsas<'a> {
 
 impl<'a> Model for UpdateLsas<'a> {
     ghost use Rattle.std.specs.Prelude.{List, drop, ◌≤◌, length};
-    ghost use Rattle.packets.specs.Updates.{Piece, pieces_from};
+    ghost use Rattle.packets.specs.Updates.{UpdatePiece, pieces_from};
 
-    ghost Value = { List Piece };
+    ghost Value = { List UpdatePiece };
 
     ghost view = { λ u. pieces_from u.left u.place (drop u.place u.body.now) };
 
@@ -78,7 +78,7 @@ pub fn update_lsas(body: &[u8]) -> Result<UpdateLsas<'_>, UpdateFault>
     // counts, or only the LSAs before the first that is not whole, and then a fault with its place.
     ensures pieces { IfOk result (λ lsas. ArePiecesOf body.now lsas) }
     // No other pieces have this property.
-    ensures only { IfOk result (λ lsas. (others : List Piece) → ArePiecesOf body.now others → others ≡ lsas) }
+    ensures only { IfOk result (λ lsas. (others : List UpdatePiece) → ArePiecesOf body.now others → others ≡ lsas) }
 {
     if body.len() < 4 {
         return Err(UpdateFault::Count);

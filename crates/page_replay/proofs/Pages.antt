@@ -5,11 +5,11 @@ use Rattle.event_core.specs.Cores.{CoreValue}
 use Rattle.recording.specs.declared.line.Line.{Line}
 use Rattle.recording.specs.declared.version.Version.{Version}
 use Rattle.recording.specs.Recordings.{RecordingValue}
-use Rattle.replay.specs.Parts.{IsRead}
+use Rattle.replay.specs.Parts.{IsRecordingRead}
 use Rattle.replay.specs.Runs.{IsOpened}
 use Rattle.replay.specs.Writing.{AppendsPart}
 use Rattle.replay.specs.declared.fault.ReplayFault.{ReplayFault}
-use Rattle.page_replay.specs.Outputs.{IsMadeOf, IsPageOf, WritesPage, WritesPagePart}
+use Rattle.page_replay.specs.Outputs.{IsMadePage, IsPageOf, WritesPage, WritesPagePart}
 
 -- the fault of a writer that took a part only
 pub part_of : (r : Result (Unit {0}) ReplayFault) (e : ReplayFault) (P : Type 0) → OnErr r P → r ≡ Err e → P
@@ -17,12 +17,12 @@ part_of (Ok u) e P part is = cc
 part_of (Err x) e P part is = part
 
 module _ (r : RecordingValue) (v : Version) (lines : List Line) (opened : CoreValue) (page shown : List ℕ) (is_page : shown ≡ page) (same_version : v ≡ r.version) (same_base : opened.base ≡ r.base) (same_lines : lines ≡ r.lines)
-    (opening : IsOpened opened.base opened) (made : IsMadeOf v opened lines page) (before after old new : Option (List ℕ)) (read : IsRead before after r) where
+    (opening : IsOpened opened.base opened) (made : IsMadePage v opened lines page) (before after old new : Option (List ℕ)) (read : IsRecordingRead before after r) where
   its_page : IsPageOf r page
   its_page = record {
     opened = opened;
     opening = subst (λ b. IsOpened b opened) same_base opening;
-    made = subst (λ (l : List Line). IsMadeOf r.version opened l page) same_lines (subst (λ (w : Version). IsMadeOf w opened lines page) same_version made);
+    made = subst (λ (l : List Line). IsMadePage r.version opened l page) same_lines (subst (λ (w : Version). IsMadePage w opened lines page) same_version made);
   }
 
   pub writes : Appends old new shown → WritesPage before after old new

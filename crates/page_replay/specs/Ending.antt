@@ -31,7 +31,7 @@ pub record IsToldLast (old : CoreValue) (number : ℕ) (lines : List Line) (clos
   pub current : IsCurrent closed
 
 -- the core, after the lines before, led to the other over the last ones
-pub record IsEnded (v : Version) (opened : CoreValue) (lines : List Line) (closed : CoreValue) (told : List ℕ) : Type 0 where
+pub record IsRunToEnd (v : Version) (opened : CoreValue) (lines : List Line) (closed : CoreValue) (told : List ℕ) : Type 0 where
   pub middle : CoreValue
   pub earlier : IsRunTo opened (earlier_lines lines) middle
   pub last : IsToldLast middle (first_number v opened.base + length (earlier_lines lines)) (last_lines lines) closed told

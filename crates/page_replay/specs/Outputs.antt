@@ -8,22 +8,22 @@ use Rattle.recording.specs.Recordings.{RecordingValue, IsText}
 use Rattle.replay.specs.Inputs.{ReadsAll}
 use Rattle.replay.specs.Runs.{IsOpened}
 use Rattle.replay.specs.Writing.{AppendsPart}
-use Rattle.page_replay.specs.Ending.{IsEnded}
+use Rattle.page_replay.specs.Ending.{IsRunToEnd}
 use Rattle.page_replay.specs.Sections.{IsPage}
 
 -- a core was run over the lines of a recording of the version, and the page shows its end and the
 -- changes of the last lines
-pub record IsMadeOf (v : Version) (opened : CoreValue) (lines : List Line) (page : List ℕ) : Type 0 where
+pub record IsMadePage (v : Version) (opened : CoreValue) (lines : List Line) (page : List ℕ) : Type 0 where
   pub closed : CoreValue
   pub told : List ℕ
-  pub ended : IsEnded v opened lines closed told
+  pub ended : IsRunToEnd v opened lines closed told
   pub shown : IsPage closed told page
 
 -- the recording was run to its end, and this is its page
 pub record IsPageOf (r : RecordingValue) (page : List ℕ) : Type 0 where
   pub opened : CoreValue
   pub opening : IsOpened r.base opened
-  pub made : IsMadeOf r.version opened r.lines page
+  pub made : IsMadePage r.version opened r.lines page
 
 -- all the bytes that a reader had were a recording, and a writer's known bytes grew by its page
 pub record WritesPage (before after old new : Option (List ℕ)) : Type 0 where

@@ -3,7 +3,7 @@ ghost use Rattle.std.specs.Prelude.{◌≡◌, ◌<◌, ◌+◌, ◌^◌, [], If
 ghost use Rattle.event_core.specs.Cores.{IsCore, IsCurrent};
 ghost use Rattle.replay.specs.Advance.{ShowsProgress};
 ghost use Rattle.replay.specs.Lines.{first_number};
-ghost use Rattle.page_replay.specs.Ending.{IsEnded, IsToldLast, earlier_lines, last_lines};
+ghost use Rattle.page_replay.specs.Ending.{IsRunToEnd, IsToldLast, earlier_lines, last_lines};
 
 use change_log::{ChangeFilter, LineContext, print_line_changes};
 use event_core::Core;
@@ -19,15 +19,15 @@ const LAST_LINES: usize = 10;
 
 /// The core after the last line of a recording, and the changes of the last lines as the command
 /// `changes` prints them.
-pub(crate) struct Ended {
+pub(crate) struct LastState {
     pub(crate) core: Core,
     pub(crate) told: Vec<u8>,
 }
 
 // proof: a value is dropped by one call, not part by part at each exit of a function.
-impl Drop for Ended {
+impl Drop for LastState {
     fn drop(self) {
-        let Ended {
+        let LastState {
             core: _core,
             told: _told,
         } = self;
@@ -41,8 +41,8 @@ pub(crate) fn run_to_end<F: io::Write>(
     opened: OpenedRecording,
     is_shown: bool,
     faults: &mut F,
-) -> Result<Ended, Memory>
-    ensures ended { IfOk result (λ ended. IsEnded opened.version opened.core opened.lines.items
+) -> Result<LastState, Memory>
+    ensures ended { IfOk result (λ ended. IsRunToEnd opened.version opened.core opened.lines.items
         ended.core ended.told.items) }
     ensures progress { ShowsProgress is_shown (F.contents faults.old) (F.contents faults.new) }
 {
@@ -78,7 +78,7 @@ fn split_last(opened: OpenedRecording) -> Result<(OpenedRecording, Vec<Line>), M
 
 // Runs the last lines, the first of which has this number, and lists their changes. Returns
 // `Memory` if the core is behind.
-fn tell_last(alloc: Global, core: Core, number: usize, last: Vec<Line>) -> Result<Ended, Memory>
+fn tell_last(alloc: Global, core: Core, number: usize, last: Vec<Line>) -> Result<LastState, Memory>
     requires { number + length last.items < 2 ^ 64 }
     ensures { IfOk result (λ ended. IsToldLast core number last.items ended.core ended.told.items) }
 {
@@ -102,5 +102,5 @@ fn tell_last(alloc: Global, core: Core, number: usize, last: Vec<Line>) -> Resul
     let Ok(()) = flush_buffer(&mut told, &mut page) else {
         return Err(Memory);
     };
-    Ok(Ended { core, told })
+    Ok(LastState { core, told })
 }

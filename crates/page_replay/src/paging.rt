@@ -7,7 +7,7 @@ ghost use Rattle.replay.specs.declared.fault.ReplayFault.TheVariants as replay_f
 ghost use Rattle.replay.specs.Advance.{ShowsProgress};
 ghost use Rattle.replay.specs.Inputs.{ReadsAll};
 ghost use Rattle.replay.specs.Writing.{AppendsPart};
-ghost use Rattle.page_replay.specs.Outputs.{IsMadeOf, WritesPage, WritesPagePart};
+ghost use Rattle.page_replay.specs.Outputs.{IsMadePage, WritesPage, WritesPagePart};
 
 use crate::ending::run_to_end;
 use crate::sections::page_of;
@@ -74,7 +74,7 @@ fn made<F: io::Write>(
     faults: &mut F,
 ) -> Result<Vec<u8>, Memory>
     ensures page { IfOk result (λ page.
-        IsMadeOf opened.version opened.core opened.lines.items page.items) }
+        IsMadePage opened.version opened.core opened.lines.items page.items) }
     ensures progress { ShowsProgress is_shown (F.contents faults.old) (F.contents faults.new) }
 {
     let ended = run_to_end(alloc, opened, is_shown, faults)?;

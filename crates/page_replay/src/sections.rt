@@ -5,7 +5,7 @@ ghost use Rattle.event_core.specs.Cores.{state_of};
 ghost use Rattle.page_sections.specs.Frame.{changes_text, end_text};
 ghost use Rattle.page_replay.specs.Sections.{AddsAreas, AddsFront, IsPage, tables_text};
 
-use crate::ending::Ended;
+use crate::ending::LastState;
 use crate::pictures::{pictures_of, put_areas};
 use event_core::{Calculated, Core};
 use ospf_types::memory::Memory;
@@ -17,7 +17,7 @@ use route_layers::area_inputs;
 use std::alloc::Global;
 
 /// Returns the page that shows a core and the last changes.
-pub(crate) fn page_of(alloc: Global, ended: &Ended) -> Result<Vec<u8>, Memory>
+pub(crate) fn page_of(alloc: Global, ended: &LastState) -> Result<Vec<u8>, Memory>
     ensures { IfOk result (λ page. IsPage ended.now.core ended.now.told.items page.items) }
 {
     let mut text = String::new(alloc);

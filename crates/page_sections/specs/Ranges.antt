@@ -10,7 +10,7 @@ use Rattle.ospf_types.specs.declared.entry.PathType.{PathType}
 use Rattle.ospf_types.specs.declared.entry.PathType.TheVariants.{Intra}
 use Rattle.route_table.specs.declared.table.Item.{Item}
 use Rattle.route_table.specs.declared.table.Item.TheVariants as item
-use Rattle.page_sections.specs.declared.ranges.Counted.{Counted}
+use Rattle.page_sections.specs.declared.ranges.RangeNetwork.{RangeNetwork}
 
 -- the inner network is as long as the outer one or longer, and agrees with it in its first bits
 abbrev pub is_inside : (outer inner : Network) → Bool
@@ -30,25 +30,25 @@ intra_cost_of area (item.Route e) = if is_intra_area e.kind && is_of_area area e
 intra_cost_of area item.Discard = None
 
 -- the network at this cost, if there is one
-abbrev pub at_cost : Network → Option ℕ → Option Counted
+abbrev pub at_cost : Network → Option ℕ → Option RangeNetwork
 at_cost p None = None
 at_cost p (Some cost) = Some (record { network = p; cost = cost })
 
 -- the network with its cost, if it lies in the range, and an intra-area route of the area leads
 -- there
-abbrev pub counted_in : (area : ℕ) → (range : Network) → Network × Item → Option Counted
+abbrev pub counted_in : (area : ℕ) → (range : Network) → Network × Item → Option RangeNetwork
 counted_in area range x = if is_inside range x.0 then at_cost x.0 (intra_cost_of area x.1) else None
 
 -- a network, and its cost
-abbrev pub network_row : Counted → List ℕ
+abbrev pub network_row : RangeNetwork → List ℕ
 network_row n = concat (codes "<li>" ∷ prefix_text n.network ∷ codes " <b>" ∷ decimal n.cost ∷ codes "</b>\n" ∷ [])
 
 -- a list of the networks
-abbrev pub some_text : List Counted → List ℕ
+abbrev pub some_text : List RangeNetwork → List ℕ
 some_text networks = codes "<ul class=\"nets\">\n" ++ (flat_map network_row networks ++ codes "</ul>\n")
 
 -- a list of the networks; nothing where there is none
-abbrev pub list_text : List Counted → List ℕ
+abbrev pub list_text : List RangeNetwork → List ℕ
 list_text networks = if length networks == 0 then [] else some_text networks
 
 -- the number of networks
@@ -59,7 +59,7 @@ count_text count =
     else (if count == 1 then codes ": 1 network</h4>\n" else concat (codes ": " ∷ decimal count ∷ codes " networks</h4>\n" ∷ []))
 
 -- the number of networks, and each of them
-abbrev pub networks_text : List Counted → List ℕ
+abbrev pub networks_text : List RangeNetwork → List ℕ
 networks_text networks = count_text (length networks) ++ list_text networks
 
 -- the text for a range that is advertised to other areas, or is not

@@ -2,7 +2,7 @@
 ghost use Rattle.std.specs.Prelude.{List, ◌≡◌, ◌++◌, IfOk, OnOk, length, string_bytes};
 ghost use Rattle.std.specs.List.{cons_option, filter_map, flat_map, list_any};
 ghost use Rattle.std.specs.FinMap.{entries};
-ghost use Rattle.page_sections.specs.declared.ranges.Counted.{Counted};
+ghost use Rattle.page_sections.specs.declared.ranges.RangeNetwork.{RangeNetwork};
 ghost use Rattle.page_sections.specs.Ranges.{advertised_text, area_text, areas_text, count_text};
 ghost use Rattle.page_sections.specs.Ranges.{counted_in, has_range, intra_cost_of, is_inside};
 ghost use Rattle.page_sections.specs.Ranges.{is_intra_area, list_text, network_row, networks_text};
@@ -19,7 +19,7 @@ use std::alloc::Global;
 
 /// A network in a range, and its cost.
 #[derive(Clone, Copy)]
-struct Counted {
+struct RangeNetwork {
     network: Prefix,
     cost: u32,
 }
@@ -119,7 +119,7 @@ fn put_range(area: u32, range: &Range, table: &Table, text: &mut String) -> Resu
 }
 
 // Appends a range, and these networks.
-fn put_range_and(range: &Range, networks: &[Counted], text: &mut String) -> Result<(), Memory>
+fn put_range_and(range: &Range, networks: &[RangeNetwork], text: &mut String) -> Result<(), Memory>
     ensures { OnOk result (string_bytes text.new ≡ string_bytes text.old
         ++ (range_heading_text range.now ++ networks_text networks.now)) }
 {
@@ -151,7 +151,7 @@ fn advertised(advertise: bool) -> &'static str
 }
 
 // Appends the number of networks, and each of them.
-fn put_networks(networks: &[Counted], text: &mut String) -> Result<(), Memory>
+fn put_networks(networks: &[RangeNetwork], text: &mut String) -> Result<(), Memory>
     ensures { OnOk result (string_bytes text.new ≡ string_bytes text.old
         ++ networks_text networks.now) }
 {
@@ -173,7 +173,7 @@ fn put_count(count: usize, text: &mut String) -> Result<(), Memory>
 }
 
 // Appends the networks as a list, if there are any.
-fn put_list(networks: &[Counted], text: &mut String) -> Result<(), Memory>
+fn put_list(networks: &[RangeNetwork], text: &mut String) -> Result<(), Memory>
     ensures { OnOk result (string_bytes text.new ≡ string_bytes text.old
         ++ list_text networks.now) }
 {
@@ -184,7 +184,7 @@ fn put_list(networks: &[Counted], text: &mut String) -> Result<(), Memory>
 }
 
 // Appends a list of the networks.
-fn put_some(networks: &[Counted], text: &mut String) -> Result<(), Memory>
+fn put_some(networks: &[RangeNetwork], text: &mut String) -> Result<(), Memory>
     ensures { OnOk result (string_bytes text.new ≡ string_bytes text.old
         ++ some_text networks.now) }
 {
@@ -195,7 +195,7 @@ fn put_some(networks: &[Counted], text: &mut String) -> Result<(), Memory>
 }
 
 // Appends each of the networks.
-fn put_rows(networks: &[Counted], text: &mut String) -> Result<(), Memory>
+fn put_rows(networks: &[RangeNetwork], text: &mut String) -> Result<(), Memory>
     ensures { OnOk result (string_bytes text.new ≡ string_bytes text.old
         ++ flat_map network_row networks.now) }
 {
@@ -206,7 +206,7 @@ fn put_rows(networks: &[Counted], text: &mut String) -> Result<(), Memory>
 }
 
 // Appends a network and its cost.
-fn put_row(row: &Counted, text: &mut String) -> Result<(), Memory>
+fn put_row(row: &RangeNetwork, text: &mut String) -> Result<(), Memory>
     ensures { OnOk result (string_bytes text.new ≡ string_bytes text.old
         ++ network_row row.now) }
 {
@@ -222,7 +222,7 @@ fn networks_in(
     area: u32,
     range: Prefix,
     table: &Table,
-) -> Result<Vec<Counted>, Memory>
+) -> Result<Vec<RangeNetwork>, Memory>
     ensures { IfOk result (λ networks.
         networks.items ≡ filter_map (counted_in area range) (entries table.now.items)) }
 {
@@ -234,8 +234,8 @@ fn networks_in(
 }
 
 // Appends the network, if there is one.
-fn push_if(network: Option<Counted>, networks: &mut Vec<Counted>) -> Result<(), Memory>
-    ensures { OnOk result ((rest : List Counted)
+fn push_if(network: Option<RangeNetwork>, networks: &mut Vec<RangeNetwork>) -> Result<(), Memory>
+    ensures { OnOk result ((rest : List RangeNetwork)
         → networks.new.items ++ rest ≡ networks.old.items ++ cons_option network rest) }
 {
     if let Some(network) = network {
@@ -246,14 +246,14 @@ fn push_if(network: Option<Counted>, networks: &mut Vec<Counted>) -> Result<(), 
 
 // Returns the network with its cost, if the range covers it and the area has an intra-area route to
 // it.
-fn look_at(area: u32, range: Prefix, network: Prefix, item: &Item) -> Option<Counted>
+fn look_at(area: u32, range: Prefix, network: Prefix, item: &Item) -> Option<RangeNetwork>
     ensures { result ≡ counted_in area range (network, item.now) }
 {
     if !covers(range, network) {
         return None;
     }
     match intra_cost(area, item) {
-        Some(cost) => Some(Counted { network, cost }),
+        Some(cost) => Some(RangeNetwork { network, cost }),
         None => None,
     }
 }

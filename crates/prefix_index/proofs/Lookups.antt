@@ -5,7 +5,7 @@ use Rattle.std.specs.List.{AllPairs}
 use Rattle.std.proofs.lemmas.Option.{slice_get-get_or, slice_get_within, get_or_from_slice_get}
 use Rattle.ospf_types.proofs.Orders.{network_total}
 use Rattle.ospf_types.specs.Network.{Network, network_cmp}
-use Rattle.prefix_index.specs.Slots.{HasNetwork, IsPlaced, IsOnce}
+use Rattle.prefix_index.specs.Slots.{HasNetwork, IsSlotPlaced, IsOnce}
 use Rattle.prefix_index.proofs.Standing.{map_of, gotten, nowhere}
 
 module _ {V : Type 0} where
@@ -50,6 +50,6 @@ module _ {V : Type 0} where
   value_at es once k i has x is =
       ap (λ (e : Network × V). Some e.1) (is ∙ get_or_from_slice_get es i (k, has.value) x has.stands) ∙ sym (gotten es once k has.value i has.stands)
 
-pub placed_as : {xs ys : List ℕ} {h g m n : ℕ} → xs ≡ ys → h ≡ g → m ≡ n → IsPlaced ys g n → IsPlaced xs h m
+pub placed_as : {xs ys : List ℕ} {h g m n : ℕ} → xs ≡ ys → h ≡ g → m ≡ n → IsSlotPlaced ys g n → IsSlotPlaced xs h m
 placed_as {xs} {ys} {h} {g} {m} {n} numbers home number placed =
-    subst (λ (zs : List ℕ). IsPlaced zs h m) (sym numbers) (subst (λ (z : ℕ). IsPlaced ys z m) (sym home) (subst (λ (z : ℕ). IsPlaced ys g z) (sym number) placed))
+    subst (λ (zs : List ℕ). IsSlotPlaced zs h m) (sym numbers) (subst (λ (z : ℕ). IsSlotPlaced ys z m) (sym home) (subst (λ (z : ℕ). IsSlotPlaced ys g z) (sym number) placed))

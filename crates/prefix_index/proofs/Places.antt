@@ -3,7 +3,7 @@ use Rattle.std.proofs.Common.{◌≡◌, ◌≢◌, ℕ, ◌<◌, ◌≤◌, ◌
 use Rattle.std.specs.Prelude.{slice_index}
 use Rattle.std.proofs.lemmas.Bool.Decides.{Decides-eqb, nat_tests}
 use Rattle.std.proofs.Math.ListN.{get_or-eq_default}
-use Rattle.prefix_index.specs.Slots.{IsPlaced}
+use Rattle.prefix_index.specs.Slots.{IsSlotPlaced}
 
 pub same_or_not : (a b : ℕ) → (a ≡ b) ⊎ (a ≢ b)
 same_or_not a b = elim (a == b) as (λ t. (a == b) ≡ t → (a ≡ b) ⊎ (a ≢ b)) [
@@ -31,10 +31,10 @@ inside xs p some = elim (below_or_not p (length xs)) as (λ _. p < length xs) [ 
 
 module _ {xs : List ℕ} {h n : ℕ} where
   -- the search ends at no empty slot
-  pub placed_here : IsPlaced xs h n → n ≢ 0 → slice_index xs h ≢ 0
+  pub placed_here : IsSlotPlaced xs h n → n ≢ 0 → slice_index xs h ≢ 0
   placed_here placed some none = by_place h placed.slot
       (λ same. some (sym placed.has ∙ subst (λ (p : ℕ). slice_index xs p ≡ 0) same none))
       (λ apart. let at = placed.after in placed.filled h (omega arith) (omega (arith, apart, at)) none)
 
-  pub placed_inside : IsPlaced xs h n → n ≢ 0 → h < length xs
+  pub placed_inside : IsSlotPlaced xs h n → n ≢ 0 → h < length xs
   placed_inside placed some = inside xs h (placed_here placed some)

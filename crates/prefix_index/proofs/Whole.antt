@@ -7,7 +7,7 @@ use Rattle.std.proofs.lemmas.List.{get_or-set_same, get_or-set_other, get_or_pus
 use Rattle.std.proofs.lemmas.Option.{slice_get-get_or, slice_get_within, slice_get_past, get_or_from_slice_get, none-some}
 use Rattle.ospf_types.specs.Network.{Network, network_cmp}
 use Rattle.ospf_types.specs.declared.hasher.WordHash.{WordHash}
-use Rattle.prefix_index.specs.Slots.{base_of, home_of, AreSlotted, HasNetwork, IsMore, IsOnce, IsPlaced, IsReady, IsTaken, IsWhole}
+use Rattle.prefix_index.specs.Slots.{base_of, home_of, AreSlotted, HasNetwork, IsMore, IsOnce, IsSlotPlaced, HasFreeSlot, IsEntryRemoved, AreSlotsRight}
 use Rattle.prefix_index.specs.declared.slots.Slots.{Slots}
 use Rattle.prefix_index.proofs.Adding.{more_slotted}
 use Rattle.prefix_index.proofs.Lookups.{has_within}
@@ -49,13 +49,13 @@ module _ {E : Type 0} where
 pub has_value : {V : Type 0} (es : List (Network × V)) → IsOnce es → (k : Network) (i : ℕ) → HasNetwork es i k → (m : FinMap network_cmp V) → map_of es ≡ m → is_some (get m k) ≡ true
 has_value {V} es once k i has m is = ap is_some (ap (λ (n : FinMap network_cmp V). get n k) (sym is) ∙ gotten es once k has.value i has.stands)
 
-module _ {V : Type 0} {hashing : WordHash} (es : List (Network × V)) (s : Slots) (whole : IsWhole hashing es s) (k : Network) where
+module _ {V : Type 0} {hashing : WordHash} (es : List (Network × V)) (s : Slots) (whole : AreSlotsRight hashing es s) (k : Network) where
   -- a network that is not found has no entry
-  pub missing : ((i : ℕ) → HasNetwork es i k → IsPlaced s.numbers.items (home_of hashing s.bits k) (base_of hashing s.bits k + i) → ⊥) → get (map_of es) k ≡ None
+  pub missing : ((i : ℕ) → HasNetwork es i k → IsSlotPlaced s.numbers.items (home_of hashing s.bits k) (base_of hashing s.bits k + i) → ⊥) → get (map_of es) k ≡ None
   missing none = nowhere es k (λ i has. none i has (whole.slotted.placed i k has))
 
   -- and no value
-  pub none_by : (m : FinMap network_cmp V) → map_of es ≡ m → ((i : ℕ) → HasNetwork es i k → IsPlaced s.numbers.items (home_of hashing s.bits k) (base_of hashing s.bits k + i) → ⊥) → get m k ≡ None
+  pub none_by : (m : FinMap network_cmp V) → map_of es ≡ m → ((i : ℕ) → HasNetwork es i k → IsSlotPlaced s.numbers.items (home_of hashing s.bits k) (base_of hashing s.bits k + i) → ⊥) → get m k ≡ None
   none_by m is none = ap (λ (n : FinMap network_cmp V). get n k) (sym is) ∙ missing none
 
   module _ (i : ℕ) (has : HasNetwork es i k) (v : V) where
@@ -68,7 +68,7 @@ module _ {V : Type 0} {hashing : WordHash} (es : List (Network × V)) (s : Slots
         (λ other. record { value = at.value; stands = sym (set_others es i (k, v) q other) ∙ at.stands })
 
     -- another value is put in its place
-    pub replaced : IsWhole hashing (set es i (k, v)) s
+    pub replaced : AreSlotsRight hashing (set es i (k, v)) s
     replaced =
         let same : length (set es i (k, v)) ≡ length es = length-set es i (k, v) in
         let slotted = whole.slotted in
@@ -110,7 +110,7 @@ module _ {V : Type 0} (es : List (Network × V)) (once : IsOnce es) (k : Network
       (λ f is. absurd (none-some f (sym (slice_get_past es (length es) (omega arith)) ∙ is)))
 
   -- a new network's entry comes last
-  pub pushed : (hashing : WordHash) (s t : Slots) → AreSlotted hashing es s → IsReady s (length es) → IsMore s t → IsPlaced t.numbers.items (home_of hashing t.bits k) (base_of hashing t.bits k + length es) → IsWhole hashing (es ++ (k, v) ∷ []) t
+  pub pushed : (hashing : WordHash) (s t : Slots) → AreSlotted hashing es s → HasFreeSlot s (length es) → IsMore s t → IsSlotPlaced t.numbers.items (home_of hashing t.bits k) (base_of hashing t.bits k + length es) → AreSlotsRight hashing (es ++ (k, v) ∷ []) t
   pushed hashing s t slotted ready more here =
       let rest = more_slotted slotted ready.spare more in
       let one : length (es ++ (k, v) ∷ []) ≡ length es + 1 = length-append es ((k, v) ∷ []) in
@@ -120,8 +120,8 @@ module _ {V : Type 0} (es : List (Network × V)) (once : IsOnce es) (k : Network
           small = rest.small;
           room = subst (λ (b : ℕ). length (es ++ (k, v) ∷ []) + 2 ≤ 2 ^ b) (sym more.bits) (let room = ready.room in omega (arith, one));
           placed = λ i p at. old_or_new i p at
-              (λ last key. subst (λ (j : ℕ). IsPlaced t.numbers.items (home_of hashing t.bits p) (base_of hashing t.bits p + j)) (sym last)
-              (subst (λ (x : Network). IsPlaced t.numbers.items (home_of hashing t.bits x) (base_of hashing t.bits x + length es)) (sym key) here))
+              (λ last key. subst (λ (j : ℕ). IsSlotPlaced t.numbers.items (home_of hashing t.bits p) (base_of hashing t.bits p + j)) (sym last)
+              (subst (λ (x : Network). IsSlotPlaced t.numbers.items (home_of hashing t.bits x) (base_of hashing t.bits x + length es)) (sym key) here))
               (λ old. rest.placed i p old);
           used = rest.used;
           bound = rest.bound;
@@ -177,7 +177,7 @@ module _ {V : Type 0} (es fs : List (Network × V)) (i : ℕ) (swapped : IsSwapp
     pub taken_map : (k : Network) → HasNetwork es i k → map_of fs ≡ remove (map_of es) k
     taken_map k has = take_stands es fs once taken_once i k has was_there still_there
 
-  pub taken : (hashing : WordHash) (s t : Slots) → IsWhole hashing es s → IsTaken hashing es i s t → IsWhole hashing fs t
+  pub taken : (hashing : WordHash) (s t : Slots) → AreSlotsRight hashing es s → IsEntryRemoved hashing es i s t → AreSlotsRight hashing fs t
   taken hashing s t whole gone =
       let slotted = whole.slotted in
       let less = swapped.less in
@@ -189,7 +189,7 @@ module _ {V : Type 0} (es fs : List (Network × V)) (i : ℕ) (swapped : IsSwapp
           small = subst (λ (b : ℕ). b ≤ 31) (sym gone.bits) slotted.small;
           room = subst (λ (b : ℕ). length fs + 2 ≤ 2 ^ b) (sym gone.bits) (let room = slotted.room in omega arith);
           placed = λ q p at. before q (p, at.value) at.stands
-              (λ same more last. subst (λ (j : ℕ). IsPlaced t.numbers.items (home_of hashing t.bits p) (base_of hashing t.bits p + j)) (sym same) (gone.moved p more (record { value = at.value; stands = last })))
+              (λ same more last. subst (λ (j : ℕ). IsSlotPlaced t.numbers.items (home_of hashing t.bits p) (base_of hashing t.bits p + j)) (sym same) (gone.moved p more (record { value = at.value; stands = last })))
               (λ apart below old. gone.others q p apart below (record { value = at.value; stands = old }));
           used = subst (λ (b : ℕ). t.used ≤ 2 ^ b) (sym gone.bits) (let few = slotted.used in omega arith);
           bound = subst (λ (b : ℕ). length t.numbers.items ≤ 2 ^ b + 64 + t.used) (sym gone.bits) (let bound = slotted.bound in omega arith);

@@ -42,7 +42,7 @@ impl<V: Drop> Drop for NetworkMap<V> {
 impl<V> Model for NetworkMap<V> {
     ghost use Rattle.std.specs.FinMap as map;
     ghost use Rattle.ospf_types.specs.Network.{network_cmp, network_code};
-    ghost use Rattle.prefix_index.specs.Slots.{IsWhole};
+    ghost use Rattle.prefix_index.specs.Slots.{AreSlotsRight};
 
     ghost Value = { map.FinMap network_cmp V };
 
@@ -50,7 +50,7 @@ impl<V> Model for NetworkMap<V> {
 
     ghost view = { λ m. map.from_entries m.entries.items };
 
-    ghost invariant = { λ m. IsWhole m.hashing m.entries.items m.slots };
+    ghost invariant = { λ m. AreSlotsRight m.hashing m.entries.items m.slots };
 }
 
 // The entries are not printed.

@@ -3,10 +3,10 @@ ghost use Rattle.std.specs.Prelude.{◌≡◌, ◌≢◌, ℕ, ◌+◌, ◌^◌,
 ghost use Rattle.std.specs.Prelude.{IsTrue, OnOk, OnErr, length, slice_index};
 ghost use Rattle.std.specs.List.{slice_get};
 ghost use Rattle.ospf_types.specs.Network.{network_word};
-ghost use Rattle.prefix_index.specs.Slots.{base_of, home_of, AreBitsFor, AreFew, AreSlotted};
+ghost use Rattle.prefix_index.specs.Slots.{base_of, home_of, AreBitsFor, AreHomesFew, AreSlotted};
 ghost use Rattle.prefix_index.specs.Slots.{HasNetwork, IsFree, IsMissing, IsMore, IsOtherNumber};
-ghost use Rattle.prefix_index.specs.Slots.{IsOutOfUse, IsPlaced, IsReady, IsRenumbered, IsTaken};
-ghost use Rattle.prefix_index.specs.Slots.{KeepsNumbers, KeepsOthers, LeadsNowhere, LeadsTo};
+ghost use Rattle.prefix_index.specs.Slots.{IsOutOfUse, IsSlotPlaced, HasFreeSlot, IsRenumbered, IsEntryRemoved};
+ghost use Rattle.prefix_index.specs.Slots.{KeepsNumbers, KeepsOtherEntries, FindsNothing, SearchLeadsTo};
 
 use crate::home_bits::{HomeBits, homes};
 use ospf_types::WordHash;
@@ -65,11 +65,11 @@ impl Slots {
 
     // Creates empty slots, at least five for each of `count` entries.
     fn with_room(alloc: Global, count: usize) -> Result<Slots, AllocError>
-        ensures ready { IfOk result (λ s. IsReady s count) }
+        ensures ready { IfOk result (λ s. HasFreeSlot s count) }
         ensures empty { IfOk result (λ s. (q : ℕ) → slice_index s.numbers.items q ≡ 0) }
         ensures length { IfOk result (λ s. length s.numbers.items ≡ 2 ^ s.bits + 64) }
         ensures unused { IfOk result (λ s. s.used ≡ 0) }
-        ensures few { IfOk result (λ s. AreFew s.bits count) }
+        ensures few { IfOk result (λ s. AreHomesFew s.bits count) }
     {
         let Some(bits) = bits_for(count) else {
             return Err(AllocError);
@@ -90,8 +90,8 @@ impl Slots {
         entries: &[(Prefix, V)],
     ) -> Result<Slots, AllocError>
         ensures slotted { IfOk result (λ s. AreSlotted hashing entries.now s) }
-        ensures few { IfOk result (λ s. AreFew s.bits (length entries.now)) }
-        ensures ready { IfOk result (λ s. IsReady s (length entries.now)) }
+        ensures few { IfOk result (λ s. AreHomesFew s.bits (length entries.now)) }
+        ensures ready { IfOk result (λ s. HasFreeSlot s (length entries.now)) }
     {
         let mut slots = Slots::with_room(alloc, entries.len())?;
         for place in 0..entries.len() {
@@ -104,7 +104,7 @@ impl Slots {
     // are used, or its index has too many bits.
     pub(crate) fn is_full(&self, count: usize) -> bool
         requires { self.now.bits ≤ 31 }
-        ensures { result ≡ false → IsReady self.now count }
+        ensures { result ≡ false → HasFreeSlot self.now count }
     {
         let homes = self.bits.homes();
         self.numbers.len() < homes || self.used >= homes / 5 * 2 || count >= homes.saturating_sub(2)
@@ -146,8 +146,8 @@ impl Slots {
         network: Prefix,
         place: usize,
     ) -> Result<(), AllocError>
-        requires { IsReady self.old place }
-        ensures placed { OnOk result (LeadsTo hashing self.new network place) }
+        requires { HasFreeSlot self.old place }
+        ensures placed { OnOk result (SearchLeadsTo hashing self.new network place) }
         ensures err { OnErr result (self.new.numbers.items ≡ self.old.numbers.items) }
         ensures more { IsMore self.old self.new }
     {
@@ -167,7 +167,7 @@ impl Slots {
     pub(crate) fn take<V>(&mut self, hashing: WordHash, entries: &[(Prefix, V)], place: usize)
         requires slotted { AreSlotted hashing entries.now self.old }
         requires within { place < length entries.now }
-        ensures { IsTaken hashing entries.now place self.old self.new }
+        ensures { IsEntryRemoved hashing entries.now place self.old self.new }
     {
         self.remove(hashing, entries[place].0, place);
         let last = entries.len() - 1;
@@ -180,8 +180,8 @@ impl Slots {
     // Frees the slot of the network's entry, which is at index `place`.
     fn remove(&mut self, hashing: WordHash, network: Prefix, place: usize)
         requires room { place + 3 ≤ 2 ^ self.old.bits }
-        requires placed { LeadsTo hashing self.old network place }
-        ensures others { KeepsOthers hashing self.old self.new network place }
+        requires placed { SearchLeadsTo hashing self.old network place }
+        ensures others { KeepsOtherEntries hashing self.old self.new network place }
         ensures gone { IsOutOfUse hashing self.old self.new network place }
         ensures length { length self.new.numbers.items ≡ length self.old.numbers.items }
         ensures bits { self.new.bits ≡ self.old.bits }
@@ -200,9 +200,9 @@ impl Slots {
     fn relocate(&mut self, hashing: WordHash, network: Prefix, from: usize, to: usize)
         requires from { from + 3 ≤ 2 ^ self.old.bits }
         requires to { to + 3 ≤ 2 ^ self.old.bits }
-        requires placed { LeadsTo hashing self.old network from }
-        ensures placed { LeadsTo hashing self.new network to }
-        ensures others { KeepsOthers hashing self.old self.new network from }
+        requires placed { SearchLeadsTo hashing self.old network from }
+        ensures placed { SearchLeadsTo hashing self.new network to }
+        ensures others { KeepsOtherEntries hashing self.old self.new network from }
         ensures length { length self.new.numbers.items ≡ length self.old.numbers.items }
         ensures bits { self.new.bits ≡ self.old.bits }
         ensures used { self.new.used ≡ self.old.used }
@@ -227,7 +227,7 @@ pub(crate) fn make_room<V>(
 ) -> Result<(), AllocError>
     requires { AreSlotted hashing entries.now slots.old }
     ensures slotted { AreSlotted hashing entries.now slots.new }
-    ensures ready { OnOk result (IsReady slots.new (length entries.now)) }
+    ensures ready { OnOk result (HasFreeSlot slots.new (length entries.now)) }
 {
     if !slots.is_full(entries.len()) {
         return Ok(());
@@ -301,7 +301,7 @@ fn probe<V>(numbers: &[u32], entries: &[(Prefix, V)], sought: Sought) -> Option<
     requires { 2 ≤ sought.base }
     ensures found { IfSome result (λ i. HasNetwork entries.now i sought.network) }
     ensures missing { result ≡ None
-        → LeadsNowhere numbers.now sought.home sought.base entries.now sought.network }
+        → FindsNothing numbers.now sought.home sought.base entries.now sought.network }
 {
     let mut slot = sought.home;
     while slot < numbers.len() {
@@ -354,7 +354,7 @@ fn free_from(numbers: &[u32], home: usize) -> usize
 // Returns the first slot from the home on that has the number.
 fn slot_of(numbers: &[u32], home: usize, number: u32) -> usize
     requires some { number ≢ 0 }
-    requires placed { IsPlaced numbers.now home number }
+    requires placed { IsSlotPlaced numbers.now home number }
     ensures after { home ≤ result }
     ensures within { result < length numbers.now }
     ensures number { slice_index numbers.now result ≡ number }
@@ -369,10 +369,10 @@ fn slot_of(numbers: &[u32], home: usize, number: u32) -> usize
 
 // Replaces the number in the first slot from the home on that has it.
 fn renumber(numbers: &mut Vec<u32>, home: usize, old: u32, new: u32)
-    requires placed { IsPlaced numbers.old.items home old }
+    requires placed { IsSlotPlaced numbers.old.items home old }
     requires old { old ≢ 0 }
     requires new { new ≢ 0 }
-    ensures placed { IsPlaced numbers.new.items home new }
+    ensures placed { IsSlotPlaced numbers.new.items home new }
     ensures others { KeepsNumbers numbers.old.items numbers.new.items old }
     ensures set { IsRenumbered numbers.old.items numbers.new.items old new }
     ensures length { length numbers.new.items ≡ length numbers.old.items }

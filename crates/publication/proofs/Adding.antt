@@ -5,7 +5,7 @@ use Rattle.std.proofs.lemmas.List.{append-nil}
 use prog.Atomic.{either}
 use Rattle.logbook.specs.Pages.{Cell, cell, Nib, keeps, gives, adds, no_nib, may_write, step, Moves}
 use Rattle.publication.specs.declared.history.Page.{Page}
-use Rattle.publication.specs.HistoryRules.{IsHome, IsKept, AreOthers, Makes, Looks, Adds}
+use Rattle.publication.specs.HistoryRules.{IsHome, AreWordsHome, AreOthers, Makes, Looks, AddsPage}
 
 abbrev pub shown : List Page → List Page
 shown log = []
@@ -46,21 +46,21 @@ all_more : (P : Page → Type 0) (ps : List Page) (p : Page) → AllByRecursion 
 all_more P [] p all one = (one, tt)
 all_more P (q ∷ ps) p all one = (all.0, all_more P ps p all.1 one)
 
-kept_set : (cs : List Cell) (log : List Page) (j n : ℕ) → IsKept cs log → IsKept (slice_set cs j (n, true)) log
+kept_set : (cs : List Cell) (log : List Page) (j n : ℕ) → AreWordsHome cs log → AreWordsHome (slice_set cs j (n, true)) log
 kept_set cs log j n kept = record {
   some = long_set cs j 0 (n, true) kept.some;
   head = home_set cs j 0 n kept.head;
   wrote = all_weaker (λ p. IsHome cs p.pen) (λ p. IsHome (slice_set cs j (n, true)) p.pen) (λ p h. home_set cs j p.pen n h) log kept.wrote;
 }
 
-kept_more : (cs : List Cell) (log : List Page) (c : Cell) → IsKept cs log → IsKept (cs ++ c ∷ []) log
+kept_more : (cs : List Cell) (log : List Page) (c : Cell) → AreWordsHome cs log → AreWordsHome (cs ++ c ∷ []) log
 kept_more cs log c kept = record {
   some = omega (arith, length-append cs (c ∷ []));
   head = home_more cs c 0 kept.head;
   wrote = all_weaker (λ p. IsHome cs p.pen) (λ p. IsHome (cs ++ c ∷ []) p.pen) (λ p h. home_more cs c p.pen h) log kept.wrote;
 }
 
-kept_page : (cs : List Cell) (log : List Page) (p : Page) → IsKept cs log → IsHome cs p.pen → IsKept cs (log ++ p ∷ [])
+kept_page : (cs : List Cell) (log : List Page) (p : Page) → AreWordsHome cs log → IsHome cs p.pen → AreWordsHome cs (log ++ p ∷ [])
 kept_page cs log p kept home = record {
   some = kept.some;
   head = kept.head;
@@ -68,7 +68,7 @@ kept_page cs log p kept home = record {
 }
 
 -- a new word is added, whatever the book is
-pub makes_moves : (v : List Page) (ask : Page) → Moves IsKept shown moved 0 (v, (no_nib, None)) (λ n. either (n == 0) 0 n) (Makes (step 0 0 0 ask) (v, (no_nib, None)))
+pub makes_moves : (v : List Page) (ask : Page) → Moves AreWordsHome shown moved 0 (v, (no_nib, None)) (λ n. either (n == 0) 0 n) (Makes (step 0 0 0 ask) (v, (no_nib, None)))
 makes_moves v ask cs log kept pre away =
     let n = either ((cell cs 0).0 == 0) 0 (cell cs 0).0 in
     let set = slice_set cs 0 (n, true) in (
@@ -79,7 +79,7 @@ makes_moves v ask cs log kept pre away =
         [],
         None,
         tt,
-        subst (IsKept (set ++ (0, false) ∷ [])) (sym (append-nil log)) (kept_more set log (0, false) (kept_set cs log 0 n kept)),
+        subst (AreWordsHome (set ++ (0, false) ∷ [])) (sym (append-nil log)) (kept_more set log (0, false) (kept_set cs log 0 n kept)),
         inl (refl, refl),
         refl,
       ),
@@ -89,11 +89,11 @@ apart : (cs : List Cell) (a b : ℕ) → IsHome cs a → (cell cs b).1 ≡ false
 apart cs a b home away same = absurd (cc (home, away, ap (λ k. (cell cs k).1) same))
 
 -- a pen whose word is away wrote nothing
-unused : (cs : List Cell) (log : List Page) (key : ℕ) → IsKept cs log → (cell cs key).1 ≡ false → AreOthers key log
+unused : (cs : List Cell) (log : List Page) (key : ℕ) → AreWordsHome cs log → (cell cs key).1 ≡ false → AreOthers key log
 unused cs log key kept away = all_weaker (λ p. IsHome cs p.pen) (λ p. p.pen ≢ key) (λ p h e. apart cs p.pen key h away e) log kept.wrote
 
 pub looks_moves : (v : List Page) (nib : Nib) (ask : Page) → nib.right ≡ may_write
-    → Moves IsKept shown moved 0 (v, (nib, None)) (λ n. either (n == 0) 0 n) (Looks (step 0 0 0 ask) (v, (nib, None)))
+    → Moves AreWordsHome shown moved 0 (v, (nib, None)) (λ n. either (n == 0) 0 n) (Looks (step 0 0 0 ask) (v, (nib, None)))
 looks_moves v nib ask may cs log kept pre away =
     let n = either ((cell cs 0).0 == 0) 0 (cell cs 0).0 in
     let P : List Page → Type 0 = λ l. AreOthers nib.key l in (
@@ -104,7 +104,7 @@ looks_moves v nib ask may cs log kept pre away =
         [],
         None,
         tt,
-        subst (IsKept (slice_set cs 0 (n, true))) (sym (append-nil log)) (kept_set cs log 0 n kept),
+        subst (AreWordsHome (slice_set cs 0 (n, true))) (sym (append-nil log)) (kept_set cs log 0 n kept),
         inl (refl, refl),
         (subst P (sym (append-nil log)) (unused cs log nib.key kept (away may).1), refl),
       ),
@@ -112,7 +112,7 @@ looks_moves v nib ask may cs log kept pre away =
 
 -- a pen writes a page where it had written none, and its word comes home
 pub adds_moves : (v : List Page) (nib : Nib) (ask : Page) → nib.right ≡ may_write → ask.pen ≡ nib.key
-    → Moves IsKept shown moved 0 (v, (nib, None)) (λ n. either (n == 0) 0 n) (Adds (step 0 0 0 ask) (v, (nib, None)))
+    → Moves AreWordsHome shown moved 0 (v, (nib, None)) (λ n. either (n == 0) 0 n) (AddsPage (step 0 0 0 ask) (v, (nib, None)))
 adds_moves v nib ask may mine cs log kept pre away =
     let gone = away may in
     let n = either ((cell cs 0).0 == 0) 0 (cell cs 0).0 in

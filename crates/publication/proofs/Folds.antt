@@ -15,7 +15,7 @@ use Rattle.route_table.specs.declared.delta.Change.TheVariants.{Clear}
 use Rattle.route_table.specs.Tables.{TableValue}
 use Rattle.route_table.specs.Deltas.{changed, changes_to, Lead}
 use Rattle.route_table.proofs.Folding.{give}
-use Rattle.publication.specs.Lines.{Line}
+use Rattle.publication.specs.Lines.{HistoryLine}
 use Rattle.publication.specs.Published.{IsTableFor}
 use Rattle.publication.specs.Updates.{updated, gifts, all_of, those_of, ends, whole, deltas, IsRightState}
 use Rattle.publication.specs.declared.published_table.PublishedState.{PublishedState}
@@ -40,7 +40,7 @@ changes_fold f [] = refl
 changes_fold f (c ∷ cs) = changes_fold (updated f (update.Change c)) cs
 
 -- changes that lead to the items of a table, and then its list
-ends_right : (f : PublishedState) (t : TableValue) (cs : List (Network × Option Item)) (line : Line) → Lead f.table.items t.items cs → IsTableFor f.base line.list t
+ends_right : (f : PublishedState) (t : TableValue) (cs : List (Network × Option Item)) (line : HistoryLine) → Lead f.table.items t.items cs → IsTableFor f.base line.list t
     → IsRightState line f.base (fold updated f (gifts cs ++ ends t.serial line))
 ends_right f t cs line lead right =
     let table : fold changed f.table (changes_to cs) ≡ record f.table { items = t.items } = give f.table t.items cs lead in
@@ -70,7 +70,7 @@ pub appended_one : (before after all : List Update) (c : Network × Option Item)
 appended_one before after all c left whole is = ap (λ (us : List Update). us ++ gifts left) is ∙ append_assoc before (gifts (c ∷ [])) (gifts left) ∙ whole
 
 -- a whole table, after whatever is pending
-pub gives_whole : (f : PublishedState) (pending : List Update) (t : TableValue) (line : Line) → IsTableFor f.base line.list t → IsRightState line f.base (fold updated f (pending ++ whole t line))
+pub gives_whole : (f : PublishedState) (pending : List Update) (t : TableValue) (line : HistoryLine) → IsTableFor f.base line.list t → IsRightState line f.base (fold updated f (pending ++ whole t line))
 gives_whole f pending t line right =
     let g = fold updated f pending in
     let h = updated g (update.Change Clear) in
@@ -80,6 +80,6 @@ gives_whole f pending t line right =
     subst (λ (z : Base × PublishedState). IsRightState line z.0 z.1) (λ i. (base i, sym e i)) end
 
 -- the changes, if nothing is pending
-pub gives_changes : (f : PublishedState) (networks : List Network) (t : TableValue) (line : Line) → Lead f.table.items t.items (those_of t.items networks) → IsTableFor f.base line.list t
+pub gives_changes : (f : PublishedState) (networks : List Network) (t : TableValue) (line : HistoryLine) → Lead f.table.items t.items (those_of t.items networks) → IsTableFor f.base line.list t
     → IsRightState line f.base (fold updated f (deltas networks t line))
 gives_changes f networks t line lead right = ends_right f t (those_of t.items networks) line lead right

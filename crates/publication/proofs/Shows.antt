@@ -5,14 +5,14 @@ use mathlib.Core.List.{IsPrefix}
 use Rattle.event_state.specs.declared.base.Base.{Base}
 use Rattle.publication.specs.declared.published_table.PublishedTable.{PublishedTable}
 use Rattle.publication.specs.declared.published_table.Update.{Update}
-use Rattle.publication.specs.Lines.{Line}
+use Rattle.publication.specs.Lines.{HistoryLine}
 use Rattle.publication.specs.Names.{Name}
 use Rattle.publication.specs.Updates.{updated, shown_state_of, IsRightState}
 use Rattle.publication.proofs.Prefixes.{prefix_self}
 use Rattle.publication.specs.Published.{IsShownRight, IsTableFor, name_of, Saw}
 
 -- the result of the pending updates is right, and has the name of the published table
-pub gives_right : (x next : PublishedTable) (us : List Update) (line : Line)
+pub gives_right : (x next : PublishedTable) (us : List Update) (line : HistoryLine)
     → shown_state_of next ≡ fold updated (shown_state_of x) us
     → IsRightState line x.base (fold updated (shown_state_of x) us)
     → line.book ≡ x.front.book
@@ -21,14 +21,14 @@ gives_right x next us line is face book =
     let right : IsRightState line x.base (shown_state_of next) = subst (IsRightState line x.base) (sym is) face in
     let front : next.front ≡ line = right.front in
     let base : next.base ≡ x.base = right.base_is in
-    let same_book : next.front.book ≡ x.front.book = ap (λ (l : Line). l.book) front ∙ book in (
+    let same_book : next.front.book ≡ x.front.book = ap (λ (l : HistoryLine). l.book) front ∙ book in (
       (λ i. record { book = same_book i; base = base i }),
-      subst (λ (z : Base × Line). IsTableFor z.0 z.1.list next.table) (λ i. (sym base i, sym front i)) right.right,
+      subst (λ (z : Base × HistoryLine). IsTableFor z.0 z.1.list next.table) (λ i. (sym base i, sym front i)) right.right,
       front,
     )
 
 -- if it was published or not, the name stays, and the writer knows it if it was
-pub known_after : {U E : Type 0} (r : Result U E) (Q Q' : Type 0) (x y : PublishedTable) (v w : Option Name) (us : List Update) (line : Line)
+pub known_after : {U E : Type 0} (r : Result U E) (Q Q' : Type 0) (x y : PublishedTable) (v w : Option Name) (us : List Update) (line : HistoryLine)
     → MatchResult r (λ _. (shown_state_of y ≡ fold updated (shown_state_of x) us) × Q) (λ _. (y ≡ x) × Q')
     → MatchResult r (λ _. Saw v x y w) (λ _. w ≡ v)
     → IsRightState line x.base (fold updated (shown_state_of x) us)

@@ -6,7 +6,7 @@ use mathlib.Core.List.{IsPrefix}
 use Rattle.event_state.specs.declared.event.Event.{Event}
 use Rattle.publication.specs.declared.history.Page.{Page}
 use Rattle.publication.proofs.Prefixes.{prefix_shorter, prefix_trans}
-use Rattle.publication.specs.HistoryRules.{written, key_after, AreOthers, IsWritten}
+use Rattle.publication.specs.HistoryRules.{written, key_after, AreOthers, IsPageWritten}
 
 written_joined : (b : Bool) (e : Event) (here later here_first later_first : List Event) (first second : ℕ) (ys : List Page)
     → here ≡ here_first ++ written first ys → later ≡ later_first ++ written second ys
@@ -74,7 +74,7 @@ goes_on key v log p pre all mine =
     )
 
 -- the events that the author of a page wrote then, and the key of its next pen
-pub wrote : (key : ℕ) (v now : List Page) (mine next : ℕ) (e : Event) (ask : Page) → ask ≡ record { event = e; pen = mine; next = next } → key_after key v ≡ mine → IsWritten v ask now
+pub wrote : (key : ℕ) (v now : List Page) (mine next : ℕ) (e : Event) (ask : Page) → ask ≡ record { event = e; pen = mine; next = next } → key_after key v ≡ mine → IsPageWritten v ask now
     → (written key now ≡ written key v ++ e ∷ []) × (key_after key now ≡ next)
 wrote key v now mine next e ask is at step =
     let pen : ask.pen ≡ key_after key v = ap (λ (p : Page). p.pen) is ∙ sym at in

@@ -5,13 +5,13 @@ use mathlib.Core.List.{IsPrefix}
 use Rattle.logbook.specs.Pages.{Cell, cell, Step, View, Book, Named, Nib, may_make, may_write}
 use Rattle.event_state.specs.declared.event.Event.{Event}
 use Rattle.publication.specs.declared.history.Page.{Page}
-use Rattle.publication.specs.Lines.{Line}
+use Rattle.publication.specs.Lines.{HistoryLine}
 
 abbrev pub IsHome : List Cell → ℕ → Type 0
 IsHome cells key = (cell cells key).1 ≡ true
 
 -- The first word is at home, and so is the word of each pen that wrote
-pub record IsKept (cells : List Cell) (log : List Page) : Type 0 where
+pub record AreWordsHome (cells : List Cell) (log : List Page) : Type 0 where
   pub some : 0 < length cells
   pub head : IsHome cells 0
   pub wrote : AllByRecursion (λ p. IsHome cells p.pen) log
@@ -33,7 +33,7 @@ abbrev pub key_in : List ℕ → ℕ
 key_in [] = 0
 key_in (k ∷ ks) = k
 
-abbrev pub line_of : Book → List ℕ → List Page → Line
+abbrev pub line_of : Book → List ℕ → List Page → HistoryLine
 line_of book first log = record { book = record { book = book; first = key_in first }; list = written (key_in first) log }
 
 -- the pen may write the next page
@@ -51,13 +51,13 @@ abbrev pub AreOthers : ℕ → List Page → Type 0
 AreOthers key = AllByRecursion (λ p. p.pen ≢ key)
 
 -- this is the first page of its pen, after all that had been seen
-abbrev pub IsWritten : List Page → Page → List Page → Type 0
-IsWritten seen page now = (log : List Page) × (now ≡ log ++ page ∷ []) × IsPrefix seen log × AreOthers page.pen log
+abbrev pub IsPageWritten : List Page → Page → List Page → Type 0
+IsPageWritten seen page now = (log : List Page) × (now ≡ log ++ page ∷ []) × IsPrefix seen log × AreOthers page.pen log
 
 -- the pen wrote nothing of the pages that are seen then, and it is unchanged
 abbrev pub Looks : Step Page → View Page ℕ → ℕ → View Page ℕ → Type 0
 Looks s v found w = AreOthers v.1.0.key w.0 × (w.1.0 ≡ v.1.0)
 
 -- the page that is asked for is the pen's
-abbrev pub Adds : Step Page → View Page ℕ → ℕ → View Page ℕ → Type 0
-Adds s v found w = IsWritten v.0 s.ask w.0
+abbrev pub AddsPage : Step Page → View Page ℕ → ℕ → View Page ℕ → Type 0
+AddsPage s v found w = IsPageWritten v.0 s.ask w.0

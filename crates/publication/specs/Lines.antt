@@ -8,6 +8,6 @@ pub record HistoryBook : Type 0 where
   pub book : Book
   pub first : ℕ
 
-pub record Line : Type 0 where
+pub record HistoryLine : Type 0 where
   pub book : HistoryBook
   pub list : List Event

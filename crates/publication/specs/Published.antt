@@ -10,17 +10,17 @@ use Rattle.event_state.specs.States.{inputs_of}
 use Rattle.route_table.specs.Tables.{TableValue}
 use Rattle.route_table.specs.Right.{IsRoutingTable}
 use Rattle.publication.specs.declared.published_table.PublishedTable.{PublishedTable}
-use Rattle.publication.specs.Lines.{Line}
+use Rattle.publication.specs.Lines.{HistoryLine}
 use Rattle.publication.specs.Names.{Name}
 
 -- each of these events could be taken at its place
-abbrev pub IsLegal : Base → List Event → Type 0
-IsLegal base list = IsLegalList base standard_limits list
+abbrev pub IsLegalHistory : Base → List Event → Type 0
+IsLegalHistory base list = IsLegalList base standard_limits list
 
 -- the table is right after these events, and has the serial of the last; and each of them could be
 -- taken at its place
 abbrev pub IsTableFor : Base → List Event → TableValue → Type 0
-IsTableFor base list table = IsLegal base list × IsRoutingTable (inputs_of (run_of base standard_limits list)) (base.serial + length list) table
+IsTableFor base list table = IsLegalHistory base list × IsRoutingTable (inputs_of (run_of base standard_limits list)) (base.serial + length list) table
 
 -- the table is right for the list that is shown with it
 abbrev pub IsShownRight : PublishedTable → Type 0
@@ -40,7 +40,7 @@ Saw v x y w = (w ≡ Some (name_of y)) × IsShownRight y × ((n : Name) → v �
 
 -- if it is done, this list is published with a table that is right for it; otherwise nothing has
 -- changed
-abbrev pub IsPublished : Bool → Line → PublishedTable → PublishedTable → Type 0
+abbrev pub IsPublished : Bool → HistoryLine → PublishedTable → PublishedTable → Type 0
 IsPublished done list before after = MatchBool done ((after.front ≡ list) × IsShownRight after) (after ≡ before)
 
 -- if it is done, the name is known; otherwise the name that was known before

@@ -7,7 +7,7 @@ use Rattle.route_table.specs.declared.table.Item.{Item}
 use Rattle.route_table.specs.declared.delta.Change.TheVariants.{Clear, Serial}
 use Rattle.route_table.specs.Tables.{TableValue}
 use Rattle.route_table.specs.Deltas.{changed, changes_to}
-use Rattle.publication.specs.Lines.{Line}
+use Rattle.publication.specs.Lines.{HistoryLine}
 use Rattle.publication.specs.Published.{IsTableFor}
 use Rattle.publication.specs.declared.published_table.PublishedState.{PublishedState}
 use Rattle.publication.specs.declared.published_table.PublishedTable.{PublishedTable}
@@ -22,13 +22,13 @@ abbrev pub shown_state_of : PublishedTable → PublishedState
 shown_state_of s = record { table = s.table; front = s.front; base = s.base }
 
 -- its table is right for a list, and it shows that list
-pub record IsRightState (line : Line) (base : Base) (f : PublishedState) : Type 0 where
+pub record IsRightState (line : HistoryLine) (base : Base) (f : PublishedState) : Type 0 where
   pub right : IsTableFor base line.list f.table
   pub front : f.front ≡ line
   pub base_is : f.base ≡ base
 
 -- the last two updates of a publication: the serial of the list, and the list
-abbrev pub ends : ℕ → Line → List Update
+abbrev pub ends : ℕ → HistoryLine → List Update
 ends serial line = update.Change (Serial serial) ∷ update.List line ∷ []
 
 -- those that give each of these networks the item that is paired with it
@@ -45,13 +45,13 @@ those_of items networks = map (λ p. (p, get items p)) networks
 
 -- the updates that carry a whole table: the first clears, so their result depends on nothing before
 -- them
-abbrev pub whole : TableValue → Line → List Update
+abbrev pub whole : TableValue → HistoryLine → List Update
 whole table line = update.Change Clear ∷ (gifts (all_of table.items) ++ ends table.serial line)
 
 -- the updates that carry what changed: one for each of these networks, then the serial
-abbrev pub deltas : List Network → TableValue → Line → List Update
+abbrev pub deltas : List Network → TableValue → HistoryLine → List Update
 deltas networks table line = gifts (those_of table.items networks) ++ ends table.serial line
 
 -- these updates were appended to those that were pending
-abbrev pub AreAppended : List Update → List Update → List Update → Type 0
-AreAppended more before after = after ≡ before ++ more
+abbrev pub AreUpdatesAppended : List Update → List Update → List Update → Type 0
+AreUpdatesAppended more before after = after ≡ before ++ more

@@ -3,7 +3,7 @@ ghost use Rattle.std.specs.Prelude.{◌≡◌, ◌⊎◌, ◌+◌, length, Some,
 ghost use mathlib.Core.List.{IsPrefix};
 ghost use Rattle.left_right.specs.Sides.{view};
 ghost use Rattle.route_table.specs.Tables.{IsMatch};
-ghost use Rattle.publication.specs.Published.{IsLegal, IsTableFor};
+ghost use Rattle.publication.specs.Published.{IsLegalHistory, IsTableFor};
 ghost use Rattle.publication.specs.Forwarders.{IsLookup};
 ghost use Rattle.publication.specs.LookupError.{IsLookupError};
 
@@ -40,14 +40,14 @@ impl Drop for Forwarder {
 impl Model for Forwarder {
     ghost use Rattle.std.specs.Prelude.{◌≡◌, Some};
     ghost use Rattle.left_right.specs.Sides.{view as known_to};
-    ghost use Rattle.publication.specs.Published.{IsLegal};
+    ghost use Rattle.publication.specs.Published.{IsLegalHistory};
     ghost use Rattle.publication.specs.Forwarders.{ForwarderValue};
 
     ghost Value = { ForwarderValue };
 
     ghost view = { λ f. record { name = record { book = f.known.book; base = f.base }; known = f.known.list } };
 
-    ghost invariant = { λ f. (known_to f.reader.place ≡ Some (record { book = f.known.book; base = f.base })) × IsLegal f.base f.known.list };
+    ghost invariant = { λ f. (known_to f.reader.place ≡ Some (record { book = f.known.book; base = f.base })) × IsLegalHistory f.base f.known.list };
 }
 
 /// A forwarder's access to the published table, from `lookup` until `leave`. The table does not
@@ -83,7 +83,7 @@ impl Forwarder {
     /// Creates a forwarder that knows the given history.
     pub fn of(reader: TableReader, known: HistoryPrefix, base: OpeningBase) -> Forwarder
         requires named { view reader.place ≡ Some (record { book = known.book; base = base }) }
-        requires legal { IsLegal base known.list }
+        requires legal { IsLegalHistory base known.list }
         ensures { result ≡ record {
           name = record { book = known.book; base = base };
           known = known.list;
@@ -104,7 +104,7 @@ impl Forwarder {
         ensures before { IsPrefix self.known result.known }
         ensures told { IsPrefix told.list result.known }
         ensures one { (result.known ≡ self.known) ⊎ (result.known ≡ told.list) }
-        ensures legal { IsLegal result.name.base result.known }
+        ensures legal { IsLegalHistory result.name.base result.known }
     {
         let Forwarder {
             reader,

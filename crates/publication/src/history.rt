@@ -29,9 +29,9 @@ pub struct HistoryRule;
 impl Rule<Page, u64> for HistoryRule {
     ghost use Rattle.std.specs.Prelude.{[]};
     ghost use base.Fml.{ftrue};
-    ghost use Rattle.publication.specs.HistoryRules.{IsKept};
+    ghost use Rattle.publication.specs.HistoryRules.{AreWordsHome};
 
-    ghost holds = { λ cells log. IsKept cells log };
+    ghost holds = { λ cells log. AreWordsHome cells log };
 
     ghost first = { [] };
 
@@ -121,9 +121,9 @@ pub struct NewPage<'a> {
 pub struct AddsEvent;
 
 impl Play<Page, u64> for AddsEvent {
-    ghost use Rattle.publication.specs.HistoryRules.{Adds};
+    ghost use Rattle.publication.specs.HistoryRules.{AddsPage};
 
-    ghost then = { Adds };
+    ghost then = { AddsPage };
 }
 
 impl<'a> Plain<NewPage<'a>, Page, u64> for AddsEvent {
@@ -160,10 +160,10 @@ impl Drop for HistoryPrefix {
 
 impl Model for HistoryPrefix {
     ghost use Rattle.std.specs.Prelude.{◌≡◌, length};
-    ghost use Rattle.publication.specs.Lines.{Line};
+    ghost use Rattle.publication.specs.Lines.{HistoryLine};
     ghost use Rattle.publication.specs.HistoryRules.{line_of};
 
-    ghost Value = { Line };
+    ghost Value = { HistoryLine };
 
     ghost view = { λ f. line_of f.log.book f.first.log f.log.log };
 
@@ -232,10 +232,10 @@ impl Drop for History {
 impl Model for History {
     ghost use Rattle.std.specs.Prelude.{◌≡◌, length};
     ghost use Rattle.logbook.specs.Pages.{may_write};
-    ghost use Rattle.publication.specs.Lines.{Line};
+    ghost use Rattle.publication.specs.Lines.{HistoryLine};
     ghost use Rattle.publication.specs.HistoryRules.{line_of, head_of, IsHistory};
 
-    ghost Value = { Line };
+    ghost Value = { HistoryLine };
 
     ghost view = { λ a. line_of a.log.book a.first.log a.log.log };
 

@@ -6,7 +6,7 @@ ghost use mathlib.Core.List.{IsPrefix};
 ghost use Rattle.left_right.specs.Sides.{view};
 ghost use Rattle.route_table.specs.Deltas.{Lead};
 ghost use Rattle.publication.specs.Updates.{gifts, all_of, those_of, ends, whole, deltas, updated};
-ghost use Rattle.publication.specs.Updates.{shown_state_of, AreAppended, IsRightState};
+ghost use Rattle.publication.specs.Updates.{shown_state_of, AreUpdatesAppended, IsRightState};
 ghost use Rattle.publication.specs.Published.{HasGrown, IsKnownAfter, IsPublished, IsTableFor};
 ghost use Rattle.publication.specs.Published.{name_of};
 ghost use Rattle.publication.specs.declared.published_table.Update.TheVariants as update;
@@ -22,7 +22,7 @@ use std::sync::Wait;
 // Appends the serial of a history, and the history.
 fn append_end(writer: &mut TableWriter, serial: u64, front: &HistoryPrefix) -> bool
     ensures desk { writer.new.desk ≡ writer.old.desk }
-    ensures pending { IsTrue result → AreAppended (ends serial front.now)
+    ensures pending { IsTrue result → AreUpdatesAppended (ends serial front.now)
         (drop writer.old.behind writer.old.log.items)
         (drop writer.new.behind writer.new.log.items) }
 {
@@ -38,7 +38,7 @@ fn append_end(writer: &mut TableWriter, serial: u64, front: &HistoryPrefix) -> b
 // Appends the change that gives the network this item.
 fn append_item(writer: &mut TableWriter, alloc: Global, prefix: Prefix, item: &Item) -> bool
     ensures desk { writer.new.desk ≡ writer.old.desk }
-    ensures pending { IsTrue result → AreAppended (gifts ((prefix, Some item.now) ∷ []))
+    ensures pending { IsTrue result → AreUpdatesAppended (gifts ((prefix, Some item.now) ∷ []))
         (drop writer.old.behind writer.old.log.items)
         (drop writer.new.behind writer.new.log.items) }
 {
@@ -51,7 +51,7 @@ fn append_item(writer: &mut TableWriter, alloc: Global, prefix: Prefix, item: &I
 // Appends the item of each network.
 fn append_items(writer: &mut TableWriter, alloc: Global, table: &Table) -> bool
     ensures desk { writer.new.desk ≡ writer.old.desk }
-    ensures pending { IsTrue result → AreAppended (gifts (all_of table.now.items))
+    ensures pending { IsTrue result → AreUpdatesAppended (gifts (all_of table.now.items))
         (drop writer.old.behind writer.old.log.items)
         (drop writer.new.behind writer.new.log.items) }
 {
@@ -72,7 +72,7 @@ fn append_whole(
     front: &HistoryPrefix,
 ) -> bool
     ensures desk { writer.new.desk ≡ writer.old.desk }
-    ensures pending { IsTrue result → AreAppended (whole table.now front.now)
+    ensures pending { IsTrue result → AreUpdatesAppended (whole table.now front.now)
         (drop writer.old.behind writer.old.log.items)
         (drop writer.new.behind writer.new.log.items) }
 {
@@ -85,7 +85,7 @@ fn append_whole(
 // Appends the item that the network has in the table, or its removal.
 fn append_network(writer: &mut TableWriter, prefix: Prefix, table: &Table) -> bool
     ensures desk { writer.new.desk ≡ writer.old.desk }
-    ensures pending { IsTrue result → AreAppended
+    ensures pending { IsTrue result → AreUpdatesAppended
         (gifts ((prefix, get table.now.items prefix) ∷ []))
         (drop writer.old.behind writer.old.log.items)
         (drop writer.new.behind writer.new.log.items) }
@@ -99,7 +99,7 @@ fn append_network(writer: &mut TableWriter, prefix: Prefix, table: &Table) -> bo
 // Appends the items that these networks have in the table.
 fn append_networks(writer: &mut TableWriter, networks: &[Prefix], table: &Table) -> bool
     ensures desk { writer.new.desk ≡ writer.old.desk }
-    ensures pending { IsTrue result → AreAppended (gifts (those_of table.now.items networks.now))
+    ensures pending { IsTrue result → AreUpdatesAppended (gifts (those_of table.now.items networks.now))
         (drop writer.old.behind writer.old.log.items)
         (drop writer.new.behind writer.new.log.items) }
 {
@@ -119,7 +119,7 @@ fn append_changes(
     front: &HistoryPrefix,
 ) -> bool
     ensures desk { writer.new.desk ≡ writer.old.desk }
-    ensures pending { IsTrue result → AreAppended (deltas networks.now table.now front.now)
+    ensures pending { IsTrue result → AreUpdatesAppended (deltas networks.now table.now front.now)
         (drop writer.old.behind writer.old.log.items)
         (drop writer.new.behind writer.new.log.items) }
 {

@@ -3,7 +3,7 @@
 //! A token holds a prefix of the history, a book that only grows (`logbook`). Two tokens of one
 //! book are prefixes of one history: that is the rule of the book, and takes no step.
 ghost use Rattle.std.specs.Prelude.{◌≡◌, ◌+◌, length};
-ghost use Rattle.publication.specs.Published.{IsLegal};
+ghost use Rattle.publication.specs.Published.{IsLegalHistory};
 ghost use Rattle.publication.specs.Told.{TokenValue};
 
 use crate::history::HistoryPrefix;
@@ -33,14 +33,14 @@ impl Drop for Told {
 
 impl Model for Told {
     ghost use Rattle.std.specs.Prelude.{◌≡◌, ◌+◌, length};
-    ghost use Rattle.publication.specs.Published.{IsLegal};
+    ghost use Rattle.publication.specs.Published.{IsLegalHistory};
     ghost use Rattle.publication.specs.Told.{TokenValue};
 
     ghost Value = { TokenValue };
 
     ghost view = { λ t. record { name = record { book = t.front.book; base = t.base }; list = t.front.list } };
 
-    ghost invariant = { λ t. IsLegal t.base t.front.list × (t.serial ≡ t.base.serial + length t.front.list) };
+    ghost invariant = { λ t. IsLegalHistory t.base t.front.list × (t.serial ≡ t.base.serial + length t.front.list) };
 }
 
 /// The token with its serial, such as `Told(3)`.
@@ -54,7 +54,7 @@ impl fmt::Debug for Told {
 impl Told {
     /// Creates a token for the history.
     pub fn of(front: HistoryPrefix, base: OpeningBase, serial: u64) -> Told
-        requires legal { IsLegal base front.list }
+        requires legal { IsLegalHistory base front.list }
         requires serial { serial ≡ base.serial + length front.list }
         ensures { result ≡ record {
           name = record { book = front.book; base = base };
@@ -72,7 +72,7 @@ impl Told {
     /// events.
     pub fn serial(&self) -> u64
         ensures serial { result ≡ self.now.name.base.serial + length self.now.list }
-        ensures legal { IsLegal self.now.name.base self.now.list }
+        ensures legal { IsLegalHistory self.now.name.base self.now.list }
     {
         self.serial
     }

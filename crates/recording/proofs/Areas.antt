@@ -17,7 +17,7 @@ use Rattle.ospf_types.specs.Network.{network_cmp}
 use Rattle.ospf_types.proofs.Orders.{network_total}
 use Rattle.recording.specs.Forms.{Form, VersionLine, RouterLine, CompatLine, SerialLine, AreaLine, RangeLine, HasInterfaceLine, HasLsaLine, BodyLine}
 use Rattle.recording.specs.Places.{is_of_header, with_range, with_form, areas_from, areas_of, is_less, last_of, is_past_area, is_past_range, is_next_range, has_ended, is_next_area}
-use Rattle.recording.specs.Recordings.{IsOrdered, area_forms}
+use Rattle.recording.specs.Recordings.{IsConfigOrdered, area_forms}
 use Rattle.recording.proofs.Sorting.{last_cases, last_of-push, sorted_push_by, sorted_next_by}
 
 -- ---- what is said
@@ -176,7 +176,7 @@ none_rising : AreRising []
 unfolding IsStrictlySortedBy
 none_rising = tt
 
-ordered_area : (areas : List AreaConfig) (id : ℕ) (stub : Option Stub) → IsOrdered areas → is_past_area (last_of areas) id ≡ true → IsOrdered (areas ++ ranged id stub [] ∷ [])
+ordered_area : (areas : List AreaConfig) (id : ℕ) (stub : Option Stub) → IsConfigOrdered areas → is_past_area (last_of areas) id ≡ true → IsConfigOrdered (areas ++ ranged id stub [] ∷ [])
 ordered_area areas id stub ordered past = record {
   ascending = sorted_push_by nat_cmp (λ (a : AreaConfig). a.id) nat_cmp_total areas (ranged id stub []) ordered.ascending (area_less (last_of areas) id past);
   ranges = All-push (λ a. AreRising a.ranges) areas (ranged id stub []) ordered.ranges none_rising;
@@ -191,21 +191,21 @@ All-but_last P [] a b all step = All-cons P b [] (step (All-head P a [] all)) (A
 All-but_last P (x ∷ front) a b all step =
     All-cons P x (front ++ b ∷ []) (All-head P x (front ++ a ∷ []) all) (All-but_last P front a b (All-tail P x (front ++ a ∷ []) all) step)
 
-ordered_range : (front : List AreaConfig) (a : AreaConfig) (range : Range) → IsOrdered (front ++ a ∷ []) → is_past_range (last_of a.ranges) range ≡ true → IsOrdered (with_range (front ++ a ∷ []) range)
+ordered_range : (front : List AreaConfig) (a : AreaConfig) (range : Range) → IsConfigOrdered (front ++ a ∷ []) → is_past_range (last_of a.ranges) range ≡ true → IsConfigOrdered (with_range (front ++ a ∷ []) range)
 ordered_range front a range ordered past =
     let more : AreaConfig = record a { ranges = a.ranges ++ range ∷ [] } in
-    let at : IsOrdered (front ++ more ∷ []) = record {
+    let at : IsConfigOrdered (front ++ more ∷ []) = record {
       ascending = subst (IsStrictlySortedBy nat_cmp) (same_ids front a more refl) ordered.ascending;
       ranges = All-but_last (λ b. AreRising b.ranges) front a more ordered.ranges (λ rising. sorted_push_by network_cmp (λ (r : Range). r.prefix) network_total a.ranges range rising (range_less (last_of a.ranges) range past));
     } in
-    subst IsOrdered (sym (with_range-push front a range)) at
+    subst IsConfigOrdered (sym (with_range-push front a range)) at
 
-pub ordered_more : (areas : List AreaConfig) (form : Form) → IsOrdered areas → is_next_area areas form ≡ true → IsOrdered (with_form areas form)
+pub ordered_more : (areas : List AreaConfig) (form : Form) → IsConfigOrdered areas → is_next_area areas form ≡ true → IsConfigOrdered (with_form areas form)
 ordered_more areas (AreaLine id stub) ordered next = ordered_area areas id stub ordered next
 ordered_more areas (RangeLine area range) ordered next =
     let at = range_place areas area range next in
-    let P : List AreaConfig → Type 0 = λ t. IsOrdered (with_range t range) in
-    subst P (sym at.2) (ordered_range at.0 at.1 range (subst IsOrdered at.2 ordered) at.4)
+    let P : List AreaConfig → Type 0 = λ t. IsConfigOrdered (with_range t range) in
+    subst P (sym at.2) (ordered_range at.0 at.1 range (subst IsConfigOrdered at.2 ordered) at.4)
 ordered_more areas (VersionLine version) ordered next = cc
 ordered_more areas (RouterLine router) ordered next = cc
 ordered_more areas (CompatLine compat) ordered next = cc
@@ -214,7 +214,7 @@ ordered_more areas (HasInterfaceLine id i) ordered next = cc
 ordered_more areas (HasLsaLine at bytes) ordered next = cc
 ordered_more areas (BodyLine body) ordered next = cc
 
-pub ordered_none : IsOrdered []
+pub ordered_none : IsConfigOrdered []
 unfolding IsStrictlySortedBy
 ordered_none = record { ascending = tt; ranges = All-nil (λ a. AreRising a.ranges) }
 
@@ -242,13 +242,13 @@ pub all_right : {X : Type 0} → (P : X → Type 0) (xs ys : List X) → All P (
 all_right P [] ys all = all
 all_right P (x ∷ xs) ys all = all_right P xs ys (All-tail P x (xs ++ ys) all)
 
-pub areas_in_order : (front areas : List AreaConfig) → IsOrdered (front ++ areas) → InOrder front (flat_map area_forms areas)
+pub areas_in_order : (front areas : List AreaConfig) → IsConfigOrdered (front ++ areas) → InOrder front (flat_map area_forms areas)
 areas_in_order front [] ordered = tt
 areas_in_order front (a ∷ areas) ordered =
     let past : is_past_area (last_of front) a.id ≡ true = area_past (last_of front) a.id (sorted_next_by nat_cmp (λ (x : AreaConfig). x.id) front a areas ordered.ascending) in
     let rising : AreRising a.ranges = All-head (λ b. AreRising b.ranges) a areas (all_right (λ b. AreRising b.ranges) front (a ∷ areas) ordered.ranges) in
     let first : InOrder front (area_forms a) = (past, ranges_in_order front a.id a.stub [] a.ranges rising) in
-    let rest = areas_in_order (front ++ a ∷ []) areas (subst IsOrdered (sym (append_assoc front (a ∷ []) areas)) ordered) in
+    let rest = areas_in_order (front ++ a ∷ []) areas (subst IsConfigOrdered (sym (append_assoc front (a ∷ []) areas)) ordered) in
     in_order-append front (area_forms a) (flat_map area_forms areas) first (subst (λ (as' : List AreaConfig). InOrder as' (flat_map area_forms areas)) (sym (area_said front a)) rest)
 
 -- ---- areas, and the last of them apart

@@ -29,7 +29,7 @@ use Rattle.event_state.specs.States.{place_of}
 use Rattle.event_state.specs.Steps.{is_out_of_scope, standard_limits}
 use Rattle.recording.specs.Places.{lsa_place, most_in, place_cmp, unfit_interface, unfit_lsa}
 use Rattle.recording.specs.Progress.{IsBare}
-use Rattle.recording.specs.Recordings.{AreByIds, AreByPlaces, IsBaseOrdered, IsOrdered}
+use Rattle.recording.specs.Recordings.{AreByIds, AreByPlaces, IsBaseOrdered, IsConfigOrdered}
 
 -- ---- tables of tests
 
@@ -291,12 +291,12 @@ unfolding IsStrictlySortedBy
 no_places = tt
 
 -- a base of which the header is read is in order
-pub bare_ordered : (b : Base) → IsBare b → IsOrdered b.config.areas → IsBaseOrdered b
+pub bare_ordered : (b : Base) → IsBare b → IsConfigOrdered b.config.areas → IsBaseOrdered b
 bare_ordered b bare ordered = record {
   areas = ordered;
   interfaces = subst AreByIds (sym bare.interfaces) no_ids;
   lsas = subst AreByPlaces (sym bare.lsas) no_places;
 }
 
-pub bare_sound : (b : Base) → IsBare b → IsOrdered b.config.areas → config_fault_of b.config ≡ None → base_fault_of standard_limits b ≡ None
+pub bare_sound : (b : Base) → IsBare b → IsConfigOrdered b.config.areas → config_fault_of b.config ≡ None → base_fault_of standard_limits b ≡ None
 bare_sound b bare ordered config = usable_to b (bare_ordered b bare ordered) (bare_usable b bare.interfaces bare.lsas config)

@@ -28,10 +28,10 @@ use Rattle.recording.specs.declared.fault.Fault.TheVariants as fault
 use Rattle.recording.specs.declared.version.Version.{Version}
 use Rattle.recording.specs.declared.version.Version.TheVariants.{Three}
 use Rattle.recording.specs.Forms.{Form, VersionLine, RouterLine, CompatLine, SerialLine, AreaLine, RangeLine, HasInterfaceLine, HasLsaLine, BodyLine, IsOfVersion, Says}
-use Rattle.recording.specs.Places.{Front, AreSaid, IsPlaced, based, front_of, has_ended, is_of_base, is_of_header, is_next, is_past_id, is_past_lsa, is_past_place, is_past_scope, last_of, lsa_place, place_cmp, unfit_at, unfit_lsa, unfit_under}
+use Rattle.recording.specs.Places.{LinesSoFar, AreSaid, IsLinePlaced, based, front_of, has_ended, is_of_base, is_of_header, is_next, is_past_id, is_past_lsa, is_past_place, is_past_scope, last_of, lsa_place, place_cmp, unfit_at, unfit_lsa, unfit_under}
 use Rattle.recording.specs.Faults.{parts_of, IsFaultOf}
-use Rattle.recording.specs.Progress.{HasLines, EndsBase, IsBaseRefusal, IsTaken, later_forms, with_has}
-use Rattle.recording.specs.Recordings.{RecordingValue, IsRecording, AreWhole, CanSpell, HasWholeLsa, IsBaseOrdered, IsWhole, area_forms, has_forms, interface_form, lsa_form}
+use Rattle.recording.specs.Progress.{HasLines, EndsBase, IsFormRefusal, IsFormTaken, later_forms, with_has}
+use Rattle.recording.specs.Recordings.{RecordingValue, IsRecording, AreLsasOfBytes, CanSpell, HasWholeLsa, IsBaseOrdered, IsLsaOfBytes, area_forms, has_forms, interface_form, lsa_form}
 use Rattle.recording.proofs.Areas.{nat_less, of_is_less}
 use Rattle.recording.proofs.BaseSound.{interface_fits, lsa_fits, usable_from, usable_to}
 use Rattle.recording.proofs.Forms.{says_one}
@@ -69,7 +69,7 @@ unfit_same b ended (BodyLine body) here = cc
 abbrev IsNextIn : Version → List (List ℕ) → Form → Type 0
 IsNextIn v before form = (forms : List Form) × AreSaid v before forms × (is_next (front_of forms) form ≡ true)
 
-place_to : (v : Version) (before : List (List ℕ)) (form : Form) → is_of_base form ≡ true → IsNextIn v before form → IsPlaced v before form
+place_to : (v : Version) (before : List (List ℕ)) (form : Form) → is_of_base form ≡ true → IsNextIn v before form → IsLinePlaced v before form
 place_to v before (HasInterfaceLine id i) here h = h
 place_to v before (HasLsaLine at bytes) here h = h
 place_to v before (AreaLine id stub) here h = cc
@@ -80,7 +80,7 @@ place_to v before (CompatLine compat) here h = cc
 place_to v before (SerialLine serial) here h = cc
 place_to v before (BodyLine body) here h = cc
 
-place_from : (v : Version) (before : List (List ℕ)) (form : Form) → is_of_base form ≡ true → IsPlaced v before form → IsNextIn v before form
+place_from : (v : Version) (before : List (List ℕ)) (form : Form) → is_of_base form ≡ true → IsLinePlaced v before form → IsNextIn v before form
 place_from v before (HasInterfaceLine id i) here h = h
 place_from v before (HasLsaLine at bytes) here h = h
 place_from v before (AreaLine id stub) here h = cc
@@ -136,7 +136,7 @@ place_past last at bytes past readable =
     let two = and_parts (is_past_scope last at) (is_some (fault_of bytes) || is_past_place last (lsa_place (at, lsa_of bytes))) past in
     second_true (is_some (fault_of bytes)) (is_past_place last (lsa_place (at, lsa_of bytes))) (ap is_some readable) two.1
 
-ordered_has : (b : Base) (form : Form) → IsBaseOrdered b → IsTaken b form → IsBaseOrdered (with_has b form)
+ordered_has : (b : Base) (form : Form) → IsBaseOrdered b → IsFormTaken b form → IsBaseOrdered (with_has b form)
 ordered_has b (HasInterfaceLine id i) ordered taken =
     let two = and_parts (is_none (last_of b.lsas)) (is_past_id (last_of b.interfaces) id) taken.next in
     record {
@@ -164,7 +164,7 @@ ordered_has b (BodyLine body) ordered taken = ordered
 -- the bytes belong to the LSA, and it has this key
 pub record IsReadAs (bytes : List ℕ) (l : Lsa) (key : Key) : Type 0 where
   pub spelled : spelling l ≡ bytes
-  pub whole : IsWhole l
+  pub whole : IsLsaOfBytes l
   pub keyed : key ≡ key_of l
 
 module _ {bytes : List ℕ} {l : Lsa} {key : Key} (read : IsReadAs bytes l key) where
@@ -196,11 +196,11 @@ module _ {bytes : List ℕ} {l : Lsa} {key : Key} (read : IsReadAs bytes l key) 
       ∙ ap (unfit_under areas at key.kind) (sym counted)
       ∙ sym told
 
-  pub lsa_taken : (b : Base) (at : Scope) → is_past_lsa (last_of b.lsas) at bytes ≡ true → unfit_lsa b.config.areas b.lsas (at, lsa_of bytes) ≡ None → IsTaken b (HasLsaLine at bytes)
+  pub lsa_taken : (b : Base) (at : Scope) → is_past_lsa (last_of b.lsas) at bytes ≡ true → unfit_lsa b.config.areas b.lsas (at, lsa_of bytes) ≡ None → IsFormTaken b (HasLsaLine at bytes)
   lsa_taken b at past fit = record {
     next = past;
     readable = read_sound;
-    whole = (subst IsWhole (sym read_again) read.whole, ap spelling read_again ∙ read.spelled);
+    whole = (subst IsLsaOfBytes (sym read_again) read.whole, ap spelling read_again ∙ read.spelled);
     fit = fit;
   }
 
@@ -247,7 +247,7 @@ spelled_more v b c own same spelled = record {
   lsas = λ other. absurd (other own);
 }
 
-longer_base : (v : Version) (b : Base) (form : Form) → IsOfVersion v form → is_of_base form ≡ true → IsRecording (of_base v b) → AreWhole b.lsas → All HasWholeLsa [] → IsTaken b form → IsLonger (of_base v b) form (with_has b form) []
+longer_base : (v : Version) (b : Base) (form : Form) → IsOfVersion v form → is_of_base form ≡ true → IsRecording (of_base v b) → AreLsasOfBytes b.lsas → All HasWholeLsa [] → IsFormTaken b form → IsLonger (of_base v b) form (with_has b form) []
 longer_base v b (HasInterfaceLine id i) own here kept held none taken =
     let two = and_parts (is_none (last_of b.lsas)) (is_past_id (last_of b.interfaces) id) taken.next in
     let ordered = ordered_has b (HasInterfaceLine id i) kept.ordered taken in
@@ -276,7 +276,7 @@ longer_base v b (HasLsaLine at bytes) own here kept held none taken =
         kinds = kept.kinds;
         lines = kept.lines;
       };
-      held = All-push (λ x. IsWhole x.1) b.lsas (at, lsa_of bytes) held taken.whole.0;
+      held = All-push (λ x. IsLsaOfBytes x.1) b.lsas (at, lsa_of bytes) held taken.whole.0;
       lsas = none;
     }
 longer_base v b (AreaLine id stub) own here kept held none taken = cc
@@ -294,16 +294,16 @@ module _ {v : Version} {text : List ℕ} {taken : ℕ} {left : List (List ℕ)} 
   same_front forms said = ap front_of (later_are h forms said ∙ later_of_base v b) ∙ front_of_base b h.held
 
   next_is : (form : Form) → is_of_base form ≡ true → (forms : List Form) → AreSaid v h.before forms → is_next (front_of forms) form ≡ is_next (based b) form
-  next_is form here forms said = ap (λ (f : Front). is_next f form) (same_front forms said) ∙ next_same b (has_ended (base_forms b)) form here
+  next_is form here forms said = ap (λ (f : LinesSoFar). is_next f form) (same_front forms said) ∙ next_same b (has_ended (base_forms b)) form here
 
   unfit_is : (form : Form) → is_of_base form ≡ true → (forms : List Form) → AreSaid v h.before forms → unfit_at (front_of forms) form ≡ unfit_at (based b) form
-  unfit_is form here forms said = ap (λ (f : Front). unfit_at f form) (same_front forms said) ∙ unfit_same b (has_ended (base_forms b)) form here
+  unfit_is form here forms said = ap (λ (f : LinesSoFar). unfit_at f form) (same_front forms said) ∙ unfit_same b (has_ended (base_forms b)) form here
 
-  placed : (form : Form) → is_of_base form ≡ true → is_next (based b) form ≡ true → IsPlaced v h.before form
+  placed : (form : Form) → is_of_base form ≡ true → is_next (based b) form ≡ true → IsLinePlaced v h.before form
   placed form here next =
       place_to v h.before form here (later_forms (of_base v b), later_said h, next_is form here (later_forms (of_base v b)) (later_said h) ∙ next)
 
-  pub refused_base : (line behind : List ℕ) → left ≡ line ∷ parts_of behind → (form : Form) → Says v line form → is_of_base form ≡ true → (f : Fault) → IsBaseRefusal b form f → IsFaultOf text (record { line = taken + 1; fault = f })
+  pub refused_base : (line behind : List ℕ) → left ≡ line ∷ parts_of behind → (form : Form) → Says v line form → is_of_base form ≡ true → (f : Fault) → IsFormRefusal b form f → IsFaultOf text (record { line = taken + 1; fault = f })
   refused_base line behind is form said here fault.Order other =
       inr (order_fault (line_at h line (parts_of behind) is (parts_full behind)) h.right (not_first h) form said
       (λ at. let found = place_from v h.before form here at in not_both (is_next (based b) form) (sym (next_is form here found.0 found.1) ∙ found.2) other))
@@ -319,13 +319,13 @@ module _ {v : Version} {text : List ℕ} {taken : ℕ} {left : List (List ℕ)} 
   refused_base line behind is form said here fault.Line has = absurd has
   refused_base line behind is form said here (fault.Config f) has = absurd has
 
-  pub base_step : (line : List ℕ) (rest : List (List ℕ)) → left ≡ line ∷ rest → 0 < length rest → (form : Form) → Says v line form → is_of_base form ≡ true → IsTaken b form → HasLines text (taken + 1) rest (of_base v (with_has b form))
+  pub base_step : (line : List ℕ) (rest : List (List ℕ)) → left ≡ line ∷ rest → 0 < length rest → (form : Form) → Says v line form → is_of_base form ≡ true → IsFormTaken b form → HasLines text (taken + 1) rest (of_base v (with_has b form))
   base_step line rest is full form said here takes =
       longer_step h line rest is full form said (not_of_header form here) (placed form here takes.next) takes.readable
       (λ forms all. unfit_is form here forms all ∙ takes.fit) (with_has b form) []
       (longer_base v b form said.of_version here h.kept h.held h.lsas takes)
 
-  pub added_base : (line behind : List ℕ) → left ≡ line ∷ parts_of behind → (form : Form) → Says v line form → is_of_base form ≡ true → IsTaken b form → (new : Base) → new ≡ with_has b form → HasLines text (taken + 1) (parts_of behind) (of_base v new)
+  pub added_base : (line behind : List ℕ) → left ≡ line ∷ parts_of behind → (form : Form) → Says v line form → is_of_base form ≡ true → IsFormTaken b form → (new : Base) → new ≡ with_has b form → HasLines text (taken + 1) (parts_of behind) (of_base v new)
   added_base line behind is form said here takes new same =
       subst (λ (c : Base). HasLines text (taken + 1) (parts_of behind) (of_base v c)) (sym same) (base_step line (parts_of behind) is (parts_full behind) form said here takes)
 

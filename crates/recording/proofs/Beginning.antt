@@ -6,7 +6,7 @@ use Rattle.recording.specs.declared.version.Version.{Version}
 use Rattle.recording.specs.declared.version.Version.TheVariants.{One, Two, Three}
 use Rattle.recording.specs.Forms.{Form, VersionLine, RouterLine, CompatLine, SerialLine, Says, line_text}
 use Rattle.recording.specs.Faults.{parts_of, IsFaultOf, IsNoVersion}
-use Rattle.recording.specs.Places.{IsPlaced, first_lines, version_of}
+use Rattle.recording.specs.Places.{IsLinePlaced, first_lines, version_of}
 use Rattle.recording.specs.declared.form.LineForm.{LineForm}
 use Rattle.recording.specs.declared.form.LineForm.TheVariants as read
 use Rattle.recording.specs.Reading.{said_by}
@@ -73,13 +73,13 @@ module _ {v : Version} {text : List ℕ} {taken : ℕ} {left : List (List ℕ)} 
   pub next_no_form : (line behind : List ℕ) → left ≡ line ∷ parts_of behind → ((form : Form) → ¬ Says v line form) → IsFaultOf text (record { line = taken + 1; fault = fault.Line })
   next_no_form line behind is none = inr (read_no_form h line (parts_of behind) is (parts_full behind) none (few_clean h few))
 
-  pub next_step_at : (line : List ℕ) (rest : List (List ℕ)) → left ≡ line ∷ rest → 0 < length rest → (form : Form) → Says v line form → IsPlaced v (lines_read h) form → IsHarmless form → HasRead v text (taken + 1) rest (forms ++ form ∷ [])
+  pub next_step_at : (line : List ℕ) (rest : List (List ℕ)) → left ≡ line ∷ rest → 0 < length rest → (form : Form) → Says v line form → IsLinePlaced v (lines_read h) form → IsHarmless form → HasRead v text (taken + 1) rest (forms ++ form ∷ [])
   next_step_at line rest is full form said placed whole = read_step h line rest is full form said placed whole (few_clean h few)
 
-  pub next_step : (line behind : List ℕ) → left ≡ line ∷ parts_of behind → (form : Form) → Says v line form → IsPlaced v (lines_read h) form → IsHarmless form → HasRead v text (taken + 1) (parts_of behind) (forms ++ form ∷ [])
+  pub next_step : (line behind : List ℕ) → left ≡ line ∷ parts_of behind → (form : Form) → Says v line form → IsLinePlaced v (lines_read h) form → IsHarmless form → HasRead v text (taken + 1) (parts_of behind) (forms ++ form ∷ [])
   next_step line behind is = next_step_at line (parts_of behind) is (parts_full behind)
 
-  pub next_other : (line behind : List ℕ) → left ≡ line ∷ parts_of behind → (form : Form) → Says v line form → ¬ IsPlaced v (lines_read h) form → IsFaultOf text (record { line = taken + 1; fault = fault.Order })
+  pub next_other : (line behind : List ℕ) → left ≡ line ∷ parts_of behind → (form : Form) → Says v line form → ¬ IsLinePlaced v (lines_read h) form → IsFaultOf text (record { line = taken + 1; fault = fault.Order })
   next_other line behind is form said other = inr (read_order h line (parts_of behind) is (parts_full behind) form said other (few_clean h few))
 
 -- ---- what was read

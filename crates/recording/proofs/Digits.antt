@@ -14,7 +14,7 @@ use Rattle.std.specs.List.{join_with_byte}
 use Rattle.std.specs.Str.Parse.{AllDigits, digits_value}
 use Rattle.hex.specs.Hex.{encode_lower, encode_with, lower_digits}
 use Rattle.recording.specs.Forms.{AreBytes, IsSerial}
-use Rattle.recording.specs.Reading.{cut, AreDigits, IsLowerDigit, IsRead, IsUnpadded}
+use Rattle.recording.specs.Reading.{cut, AreHexDigits, IsLowerDigit, IsRead, IsUnpadded}
 
 -- what the first digits write, and one more of them, is no more than what all do
 pub digits_large : (word : List ℕ) (i value : ℕ) → i < length word → value ≡ digits_value 10 (take i word) → value * 10 + digit_value (get_or word i 0) ≤ digits_value 10 word
@@ -133,13 +133,13 @@ pub encode_even : (bytes : List ℕ) → length (encode_lower bytes) % 2 ≡ 0
 encode_even bytes = let twice = length-encode_with lower_digits bytes in omega (arith, twice)
 
 -- bytes are written with an even number of digits, all in lower case
-pub digits_there : (word : List ℕ) → length word % 2 ≡ 0 → All IsLowerDigit word → AreDigits word
+pub digits_there : (word : List ℕ) → length word % 2 ≡ 0 → All IsLowerDigit word → AreHexDigits word
 digits_there word even h = (bytes_of_pairs word, pairs_small word h, pairs_spelled word even h)
 
-pub digits_lower : (word : List ℕ) → AreDigits word → All IsLowerDigit word
+pub digits_lower : (word : List ℕ) → AreHexDigits word → All IsLowerDigit word
 digits_lower word h = rw h.2 (encode_digits h.0 h.1)
 
-pub digits_even : (word : List ℕ) → AreDigits word → length word % 2 ≡ 0
+pub digits_even : (word : List ℕ) → AreHexDigits word → length word % 2 ≡ 0
 digits_even word h = rw h.2 (encode_even h.0)
 
 -- ---- a test of each
@@ -161,8 +161,8 @@ one_tested P xs i d true now lt so_far this = (λ e. All-more P xs i d lt (so_fa
 not_space : (b : ℕ) → IsLowerDigit b → (b == 32) ≡ false
 not_space b h = grind (arith, nat_tests)
 
-pub digits_alone : (text : List ℕ) → AreDigits text → cut text ≡ text ∷ []
+pub digits_alone : (text : List ℕ) → AreHexDigits text → cut text ≡ text ∷ []
 digits_alone text h = slice_split_none (λ b. b == 32) text (λ i d below. not_space (get_or text i d) (digits_lower text h i d below))
 
-pub not_digits : (text : List ℕ) → (AreDigits text → ⊥) → (bytes : List ℕ) → AreBytes bytes → cut text ≢ encode_lower bytes ∷ []
+pub not_digits : (text : List ℕ) → (AreHexDigits text → ⊥) → (bytes : List ℕ) → AreBytes bytes → cut text ≢ encode_lower bytes ∷ []
 not_digits text none bytes small same = none (bytes, small, sym (join_with_byte-slice_split 32 text) ∙ ap (join_with_byte 32) same)

@@ -16,7 +16,7 @@ use Rattle.recording.specs.Forms.{Form, AreaLine, RangeLine, HasInterfaceLine, H
 use Rattle.recording.specs.Places.{areas_from, areas_of, based, front_of, has_ended, headed, interfaces_in, is_of_body, is_of_header, lsas_in}
 use Rattle.recording.specs.declared.version.Version.{Version}
 use Rattle.recording.specs.Progress.{IsBare}
-use Rattle.recording.specs.Recordings.{AreWhole, IsWhole, area_forms, forms_of, front_forms, has_forms, header_forms, interface_form, lsa_form}
+use Rattle.recording.specs.Recordings.{AreLsasOfBytes, IsLsaOfBytes, area_forms, forms_of, front_forms, has_forms, header_forms, interface_form, lsa_form}
 use Rattle.recording.proofs.Areas.{areas_of_said, areas_not_ended, areas_of_header, areas_from-append}
 
 -- ---- the lines of a header say no interface, no LSA and nothing that happened
@@ -68,13 +68,13 @@ interfaces_said [] = refl
 interfaces_said (x ∷ xs) = ap (λ (t : List (ℕ × Interface)). x ∷ t) (interfaces_said xs)
 
 -- the bytes of an LSA are read as it
-pub lsa_again : (l : Lsa) → IsWhole l → lsa_of (spelling l) ≡ l
+pub lsa_again : (l : Lsa) → IsLsaOfBytes l → lsa_of (spelling l) ≡ l
 lsa_again l whole = spelled_same (spelling l) l whole.spelled
 
-lsas_said : (xs : List (Scope × Lsa)) → AreWhole xs → flat_map lsas_in (map lsa_form xs) ≡ xs
+lsas_said : (xs : List (Scope × Lsa)) → AreLsasOfBytes xs → flat_map lsas_in (map lsa_form xs) ≡ xs
 lsas_said [] whole = refl
 lsas_said (x ∷ xs) whole =
-    let P : Scope × Lsa → Type 0 = λ y. IsWhole y.1 in
+    let P : Scope × Lsa → Type 0 = λ y. IsLsaOfBytes y.1 in
     ap (λ (l : Lsa). (x.0, l) ∷ flat_map lsas_in (map lsa_form xs)) (lsa_again x.1 (All-head P x xs whole))
     ∙ ap (λ (t : List (Scope × Lsa)). x ∷ t) (lsas_said xs (All-tail P x xs whole))
 
@@ -113,7 +113,7 @@ base_interfaces b =
     base_parts interfaces_in b b.interfaces [] (none_passes interfaces_in header_interfaces _ (areas_of_header b.config.areas)) (interfaces_said b.interfaces) (none_mapped interfaces_in lsa_form (λ y. refl) b.lsas)
     ∙ append-nil b.interfaces
 
-pub base_lsas : (b : Base) → AreWhole b.lsas → flat_map lsas_in (base_forms b) ≡ b.lsas
+pub base_lsas : (b : Base) → AreLsasOfBytes b.lsas → flat_map lsas_in (base_forms b) ≡ b.lsas
 base_lsas b whole =
     base_parts lsas_in b [] b.lsas (none_passes lsas_in header_lsas _ (areas_of_header b.config.areas)) (none_mapped lsas_in interface_form (λ y. refl) b.interfaces) (lsas_said b.lsas whole)
 
@@ -129,7 +129,7 @@ base_not_begun b =
     ∙ none_of_body_mapped lsa_form (λ y. refl) b.lsas
 
 -- what the lines of a base say is the base, and whether the header has ended
-pub front_of_base : (b : Base) → AreWhole b.lsas → front_of (base_forms b) ≡ record (based b) { ended = has_ended (base_forms b) }
+pub front_of_base : (b : Base) → AreLsasOfBytes b.lsas → front_of (base_forms b) ≡ record (based b) { ended = has_ended (base_forms b) }
 front_of_base b whole = λ i. record {
   areas = base_areas b i;
   interfaces = base_interfaces b i;

@@ -13,9 +13,9 @@ use Rattle.recording.specs.declared.version.Version.{Version}
 use Rattle.recording.specs.declared.version.Version.TheVariants.{One, Three}
 use Rattle.recording.specs.declared.header.Setting.{Setting}
 use Rattle.recording.specs.Forms.{Form, VersionLine, RouterLine, CompatLine, SerialLine, AreaLine, RangeLine, HasInterfaceLine, HasLsaLine, BodyLine, Says, AllSay}
-use Rattle.recording.specs.Places.{Front, AreSaid, IsPlaced, first_lines, front_of, headed, is_of_header, is_next, is_next_area, with_form}
+use Rattle.recording.specs.Places.{LinesSoFar, AreSaid, IsLinePlaced, first_lines, front_of, headed, is_of_header, is_next, is_next_area, with_form}
 use Rattle.recording.specs.Faults.{EndsHeader, HasConfigFault, HasFault, IsFirstFault, IsMemoryAt, AreRightBefore, number_of}
-use Rattle.recording.specs.Recordings.{CanSpell, HasKind, HasWholeLsa, AreWhole, IsLineIn, IsWhole, area_forms, first_forms, header_forms}
+use Rattle.recording.specs.Recordings.{CanSpell, HasKind, HasWholeLsa, AreLsasOfBytes, IsLineIn, IsLsaOfBytes, area_forms, first_forms, header_forms}
 use Rattle.recording.specs.Progress.{HasRead, HasHeader, HasLines, headed_base, with_areas}
 use Rattle.recording.proofs.Areas.{areas_of_said, areas_not_ended, said_more, ordered_more, ordered_none}
 use Rattle.recording.proofs.BaseSound.{bare_ordered, bare_sound}
@@ -87,7 +87,7 @@ module _ {v : Version} {text : List ℕ} {taken : ℕ} {left : List (List ℕ)} 
   pub read_right : 0 < length left → IsClean → AreRightBefore text (taken + 1)
   read_right full clean = right_past (last_at full) h.right h.others clean
 
-  pub read_step : (line : List ℕ) (rest : List (List ℕ)) → left ≡ line ∷ rest → 0 < length rest → (form : Form) → Says v line form → IsPlaced v lines_read form → IsHarmless form → IsClean → HasRead v text (taken + 1) rest (forms ++ form ∷ [])
+  pub read_step : (line : List ℕ) (rest : List (List ℕ)) → left ≡ line ∷ rest → 0 < length rest → (form : Form) → Says v line form → IsLinePlaced v lines_read form → IsHarmless form → IsClean → HasRead v text (taken + 1) rest (forms ++ form ∷ [])
   read_step line rest is full form said placed whole clean =
       let at = read_line line rest is full in
       record {
@@ -105,7 +105,7 @@ module _ {v : Version} {text : List ℕ} {taken : ℕ} {left : List (List ℕ)} 
   read_no_form line rest is full none clean =
       form_fault (read_line line rest is full) (read_right (omega (arith, ap length is)) clean) (not_nil h.earlier h.last) none
 
-  pub read_order : (line : List ℕ) (rest : List (List ℕ)) → left ≡ line ∷ rest → 0 < length rest → (form : Form) → Says v line form → ¬ IsPlaced v lines_read form → IsClean → IsFirstFault text (taken + 1) fault.Order
+  pub read_order : (line : List ℕ) (rest : List (List ℕ)) → left ≡ line ∷ rest → 0 < length rest → (form : Form) → Says v line form → ¬ IsLinePlaced v lines_read form → IsClean → IsFirstFault text (taken + 1) fault.Order
   read_order line rest is full form said other clean =
       order_fault (read_line line rest is full) (read_right (omega (arith, ap length is)) clean) (not_nil h.earlier h.last) form said other
 
@@ -121,7 +121,7 @@ pub few_clean : {v : Version} {text : List ℕ} {taken : ℕ} {left : List (List
 few_clean {v} {forms = forms} h few c g = omega (arith, g.header.many, few, said_length v (lines_read h) forms h.said)
 
 -- in the second line any other line is out of order
-pub router_order : (v : Version) (before : List (List ℕ)) → length before ≡ 1 → (form : Form) → ((router : ℕ) → form ≢ RouterLine router) → ¬ IsPlaced v before form
+pub router_order : (v : Version) (before : List (List ℕ)) → length before ≡ 1 → (form : Form) → ((router : ℕ) → form ≢ RouterLine router) → ¬ IsLinePlaced v before form
 router_order v before one (VersionLine version) other h = let n : length before ≡ 0 = ap length h in omega arith
 router_order v before one (RouterLine router) other h = other router refl
 router_order v before one (CompatLine compat) other h = omega arith
@@ -133,7 +133,7 @@ router_order v before one (HasLsaLine at bytes) other h = omega (arith, h.1.many
 router_order v before one (BodyLine body) other h = omega (arith, two_first v)
 
 -- and so in the third from version 2 on
-pub compat_order : (v : Version) (before : List (List ℕ)) → v ≢ One → length before ≡ 2 → (form : Form) → ((compat : Bool) → form ≢ CompatLine compat) → ¬ IsPlaced v before form
+pub compat_order : (v : Version) (before : List (List ℕ)) → v ≢ One → length before ≡ 2 → (form : Form) → ((compat : Bool) → form ≢ CompatLine compat) → ¬ IsLinePlaced v before form
 compat_order v before later two (VersionLine version) other h = let n : length before ≡ 0 = ap length h in omega arith
 compat_order v before later two (RouterLine router) other h = omega arith
 compat_order v before later two (CompatLine compat) other h = other compat refl
@@ -145,7 +145,7 @@ compat_order v before later two (HasLsaLine at bytes) other h = omega (arith, h.
 compat_order v before later two (BodyLine body) other h = omega (arith, three_first v later)
 
 -- and in the fourth of version 3
-pub serial_order : (before : List (List ℕ)) → length before ≡ 3 → (form : Form) → ((serial : ℕ) → form ≢ SerialLine serial) → ¬ IsPlaced Three before form
+pub serial_order : (before : List (List ℕ)) → length before ≡ 3 → (form : Form) → ((serial : ℕ) → form ≢ SerialLine serial) → ¬ IsLinePlaced Three before form
 serial_order before three (VersionLine version) other h = let n : length before ≡ 0 = ap length h in omega arith
 serial_order before three (RouterLine router) other h = omega arith
 serial_order before three (CompatLine compat) other h = omega arith
@@ -178,18 +178,18 @@ end_full v (line ∷ rest) e = omega arith
 
 -- what there is to say of a form that may are there
 pub record IsNextForm (v : Version) (before : List (List ℕ)) (form : Form) : Type 0 where
-  pub placed : IsPlaced v before form
+  pub placed : IsLinePlaced v before form
   pub whole : IsHarmless form
   pub header : is_of_header form ≡ true
 
 next_form : (v : Version) (before : List (List ℕ)) (b : Base) → AllSay v before (header_forms v b) → (form : Form) → is_next_area b.config.areas form ≡ true → IsNextForm v before form
 next_form v before b all (AreaLine id stub) next = record {
-  placed = (flat_map area_forms b.config.areas, said_header v before b all, subst (λ (f : Front). is_next f (AreaLine id stub) ≡ true) (sym (front_of_said b.config.areas)) next);
+  placed = (flat_map area_forms b.config.areas, said_header v before b all, subst (λ (f : LinesSoFar). is_next f (AreaLine id stub) ≡ true) (sym (front_of_said b.config.areas)) next);
   whole = record { readable = refl; fit = λ f. refl };
   header = refl;
 }
 next_form v before b all (RangeLine area range) next = record {
-  placed = (flat_map area_forms b.config.areas, said_header v before b all, subst (λ (f : Front). is_next f (RangeLine area range) ≡ true) (sym (front_of_said b.config.areas)) next);
+  placed = (flat_map area_forms b.config.areas, said_header v before b all, subst (λ (f : LinesSoFar). is_next f (RangeLine area range) ≡ true) (sym (front_of_said b.config.areas)) next);
   whole = record { readable = refl; fit = λ f. refl };
   header = refl;
 }
@@ -202,9 +202,9 @@ next_form v before b all (HasLsaLine at bytes) next = cc
 next_form v before b all (BodyLine body) next = cc
 
 -- a line of the header that may come after these is next
-placed_next : (v : Version) (before : List (List ℕ)) (areas : List AreaConfig) → ((forms : List Form) → AreSaid v before forms → front_of forms ≡ headed areas) → (form : Form) → is_of_header form ≡ true → IsPlaced v before form → is_next_area areas form ≡ true
-placed_next v before areas same (AreaLine id stub) here h = subst (λ (f : Front). is_next f (AreaLine id stub) ≡ true) (same h.0 h.1) h.2
-placed_next v before areas same (RangeLine area range) here h = subst (λ (f : Front). is_next f (RangeLine area range) ≡ true) (same h.0 h.1) h.2
+placed_next : (v : Version) (before : List (List ℕ)) (areas : List AreaConfig) → ((forms : List Form) → AreSaid v before forms → front_of forms ≡ headed areas) → (form : Form) → is_of_header form ≡ true → IsLinePlaced v before form → is_next_area areas form ≡ true
+placed_next v before areas same (AreaLine id stub) here h = subst (λ (f : LinesSoFar). is_next f (AreaLine id stub) ≡ true) (same h.0 h.1) h.2
+placed_next v before areas same (RangeLine area range) here h = subst (λ (f : LinesSoFar). is_next f (RangeLine area range) ≡ true) (same h.0 h.1) h.2
 placed_next v before areas same (VersionLine version) here h = cc
 placed_next v before areas same (RouterLine router) here h = cc
 placed_next v before areas same (CompatLine compat) here h = cc
@@ -298,7 +298,7 @@ module _ {v : Version} {text : List ℕ} {taken : ℕ} {left : List (List ℕ)} 
   pub lines_begin : EndsHeader v left → config_fault_of b.config ≡ None → HasLines text taken left (record { version = v; base = b; lines = [] })
   lines_begin ends none =
       let clean : IsClean h.read = λ c g.
-      none_or_some (areas_fault_of b.config.areas) c none (sym (ap (λ (f : Front). areas_fault_of f.areas) (same_front g.forms g.header)) ∙ g.has) in
+      none_or_some (areas_fault_of b.config.areas) c none (sym (ap (λ (f : LinesSoFar). areas_fault_of f.areas) (same_front g.forms g.header)) ∙ g.has) in
       record {
         before = lines;
         parts = h.read.parts;
@@ -312,7 +312,7 @@ module _ {v : Version} {text : List ℕ} {taken : ℕ} {left : List (List ℕ)} 
           kinds = All-nil HasKind;
           lines = All-nil (IsLineIn v);
         };
-        held = subst AreWhole (sym h.bare.lsas) (All-nil (λ x. IsWhole x.1));
+        held = subst AreLsasOfBytes (sym h.bare.lsas) (All-nil (λ x. IsLsaOfBytes x.1));
         lsas = All-nil HasWholeLsa;
         ends = λ _. ends;
         right = read_right h.read (end_full v left ends) clean;

@@ -17,9 +17,9 @@ use Rattle.recording.specs.declared.line.Line.{Line}
 use Rattle.recording.specs.declared.line.Line.TheVariants as line_is
 use Rattle.recording.specs.declared.version.Version.{Version}
 use Rattle.recording.specs.Forms.{Form, Body, VersionLine, RouterLine, CompatLine, SerialLine, AreaLine, RangeLine, HasInterfaceLine, HasLsaLine, BodyLine, IsOfVersion, Says, AllSay, line_text}
-use Rattle.recording.specs.Places.{Front, AreSaid, IsPlaced, first_lines, front_of, has_ended, is_of_base, is_of_body, is_of_header, is_next, is_next_area, unfit_at}
+use Rattle.recording.specs.Places.{LinesSoFar, AreSaid, IsLinePlaced, first_lines, front_of, has_ended, is_of_base, is_of_body, is_of_header, is_next, is_next_area, unfit_at}
 use Rattle.recording.specs.Faults.{EndsHeader, HasConfigFault, IsFaultOf}
-use Rattle.recording.specs.Recordings.{RecordingValue, IsText, IsRecording, HasKind, HasWholeLsa, AreWhole, IsLineIn, area_forms, first_forms, form_of, forms_of, has_forms, text_of_forms}
+use Rattle.recording.specs.Recordings.{RecordingValue, IsText, IsRecording, HasKind, HasWholeLsa, AreLsasOfBytes, IsLineIn, area_forms, first_forms, form_of, forms_of, has_forms, text_of_forms}
 use Rattle.recording.specs.Progress.{HasLines, EndsBase, IsLineOf, IsFaultBehind, later_forms}
 use Rattle.recording.proofs.Areas.{ended_behind}
 use Rattle.recording.proofs.HeaderSteps.{not_both, right_past, of_end}
@@ -29,7 +29,7 @@ use Rattle.recording.proofs.AllSaid.{begun_with, said_push, said_legal, said_beh
 -- ---- what comes after the header
 
 -- where the header has ended no line of it may stand
-not_ended : (f : Front) (form : Form) → is_of_header form ≡ true → is_next f form ≡ true → f.ended ≡ false
+not_ended : (f : LinesSoFar) (form : Form) → is_of_header form ≡ true → is_next f form ≡ true → f.ended ≡ false
 not_ended f (AreaLine id stub) here next = not-true f.ended (and_parts (not f.ended) (is_next_area f.areas (AreaLine id stub)) next).0
 not_ended f (RangeLine area range) here next = not-true f.ended (and_parts (not f.ended) (is_next_area f.areas (RangeLine area range)) next).0
 not_ended f (VersionLine version) here next = cc
@@ -41,7 +41,7 @@ not_ended f (HasLsaLine at bytes) here next = cc
 not_ended f (BodyLine body) here next = cc
 
 -- and where something happened no line of the base
-not_begun : (f : Front) (form : Form) → is_of_base form ≡ true → is_next f form ≡ true → f.begun ≡ false
+not_begun : (f : LinesSoFar) (form : Form) → is_of_base form ≡ true → is_next f form ≡ true → f.begun ≡ false
 not_begun f (HasInterfaceLine id i) here next = not-true f.begun (and_parts (not f.begun) _ next).0
 not_begun f (HasLsaLine at bytes) here next = not-true f.begun (and_parts (not f.begun) _ next).0
 not_begun f (AreaLine id stub) here next = cc
@@ -129,7 +129,7 @@ pub record IsLonger (r : RecordingValue) (form : Form) (b : Base) (lines : List 
   pub first : first_forms r.version b ≡ first_forms r.version r.base
   pub later : later_forms (record { version = r.version; base = b; lines = lines }) ≡ later_forms r ++ form ∷ []
   pub kept : IsRecording (record { version = r.version; base = b; lines = lines })
-  pub held : AreWhole b.lsas
+  pub held : AreLsasOfBytes b.lsas
   pub lsas : All HasWholeLsa lines
 
 longer_forms : (r : RecordingValue) (form : Form) (b : Base) (lines : List Line) → IsLonger r form b lines → forms_of (record { version = r.version; base = b; lines = lines }) ≡ forms_of r ++ form ∷ []
@@ -189,7 +189,7 @@ module _ {text : List ℕ} {taken : ℕ} {left : List (List ℕ)} {r : Recording
       not_both (has_ended g.forms) (ap has_ended are ∙ ended_behind (later_forms r) form other) g.alone
 
   -- one line more that is none of the header
-  pub longer_step : (line : List ℕ) (rest : List (List ℕ)) → left ≡ line ∷ rest → 0 < length rest → (form : Form) → Says r.version line form → is_of_header form ≡ false → IsPlaced r.version h.before form → HasNoWireFault form → ((forms : List Form) → AreSaid r.version h.before forms → unfit_at (front_of forms) form ≡ None)
+  pub longer_step : (line : List ℕ) (rest : List (List ℕ)) → left ≡ line ∷ rest → 0 < length rest → (form : Form) → Says r.version line form → is_of_header form ≡ false → IsLinePlaced r.version h.before form → HasNoWireFault form → ((forms : List Form) → AreSaid r.version h.before forms → unfit_at (front_of forms) form ≡ None)
       → (b : Base) (lines : List Line) → IsLonger r form b lines → HasLines text (taken + 1) rest (record { version = r.version; base = b; lines = lines })
   longer_step line rest is full form said other placed whole fit b lines longer =
       let at = line_at line rest is full in
@@ -217,7 +217,7 @@ module _ {text : List ℕ} {taken : ℕ} {left : List (List ℕ)} {r : Recording
             (ap (list_any is_of_body) (sym (later_are forms all)) ∙ not_begun (front_of forms) form here next)
       ]
 
-  misplaced : (line : List ℕ) (rest : List (List ℕ)) → left ≡ line ∷ rest → 0 < length rest → (r.lines ≡ [] → EndsBase r.version left) → (form : Form) → Says r.version line form → ((body : Body) → form ≢ BodyLine body) → ¬ IsPlaced r.version h.before form
+  misplaced : (line : List ℕ) (rest : List (List ℕ)) → left ≡ line ∷ rest → 0 < length rest → (r.lines ≡ [] → EndsBase r.version left) → (form : Form) → Says r.version line form → ((body : Body) → form ≢ BodyLine body) → ¬ IsLinePlaced r.version h.before form
   misplaced line rest is full base (VersionLine version) said other placed = not_first placed
   misplaced line rest is full base (RouterLine router) said other placed = omega (arith, many_lines, two_first r.version)
   misplaced line rest is full base (CompatLine compat) said other placed = omega (arith, many_lines, three_first r.version said.of_version)

@@ -27,8 +27,8 @@ use Rattle.recording.specs.declared.version.Version.TheVariants.{One, Two, Three
 use Rattle.recording.specs.Forms.{Form, VersionLine, RouterLine, CompatLine, SerialLine, AreaLine, RangeLine, HasInterfaceLine, HasLsaLine, BodyLine, InterfaceLine, InstallLine, FlushLine, PurgeLine, RangeSetLine, RangeDropLine, LookupLine, RollLine, IsForm, IsOfVersion, Says, line_text}
 use Rattle.recording.specs.Places.{areas_from, areas_of, first_lines, interfaces_in, is_next_area, is_of_header, lsas_in, unfit_lsa, version_of, with_form}
 use Rattle.recording.specs.Faults.{parts_of, EndsHeader, IsFaultOfEnd, IsFaultAt, HasFault, IsFaultOf}
-use Rattle.recording.specs.Recordings.{RecordingValue, IsRecording, IsText, CanSpell, HasKind, HasWholeLsa, AreWhole, IsBaseOrdered, IsLineIn, IsWhole, area_forms, ended, first_forms, form_of, forms_of, front_forms, has_forms, interface_form, lsa_form, setting_forms, text_of_forms}
-use Rattle.recording.specs.Progress.{HasRead, HasHeader, HasLines, IsLineOf, IsTaken, headed_base, later_forms, with_areas}
+use Rattle.recording.specs.Recordings.{RecordingValue, IsRecording, IsText, CanSpell, HasKind, HasWholeLsa, AreLsasOfBytes, IsBaseOrdered, IsLineIn, IsLsaOfBytes, area_forms, ended, first_forms, form_of, forms_of, front_forms, has_forms, interface_form, lsa_form, setting_forms, text_of_forms}
+use Rattle.recording.specs.Progress.{HasRead, HasHeader, HasLines, IsLineOf, IsFormTaken, headed_base, later_forms, with_areas}
 use Rattle.recording.proofs.Areas.{InOrder, areas_from-append, areas_in_order, areas_said, areas_of_header, all_right}
 use Rattle.recording.proofs.BaseRuns.{interface_fitted, interface_next, lsa_fitted, lsa_next}
 use Rattle.recording.proofs.BaseSound.{IsFit, usable_from}
@@ -154,7 +154,7 @@ later_interfaces : (r : RecordingValue) → flat_map interfaces_in (later_forms 
 later_interfaces r =
     later_parts interfaces_in r r.base.interfaces [] (base_interfaces r.base) (none_mapped interfaces_in form_of (λ l. refl) r.lines) ∙ append-nil r.base.interfaces
 
-later_lsas : (r : RecordingValue) → AreWhole r.base.lsas → flat_map lsas_in (later_forms r) ≡ r.base.lsas
+later_lsas : (r : RecordingValue) → AreLsasOfBytes r.base.lsas → flat_map lsas_in (later_forms r) ≡ r.base.lsas
 later_lsas r whole = later_parts lsas_in r r.base.lsas [] (base_lsas r.base whole) (none_mapped lsas_in form_of (λ l. refl) r.lines) ∙ append-nil r.base.lsas
 
 later_lines : (r : RecordingValue) → All HasWholeLsa r.lines → flat_map lines_in (later_forms r) ≡ r.lines
@@ -302,7 +302,7 @@ interfaces_run v text b spelled ordered fit xs (x ∷ ys) rest is full legal h =
     let form : Form = interface_form x in
     let own : v ≡ Three = must_be_third v xs ys x (λ other. sym is ∙ spelled.interfaces other) in
     let said : Says v (line_text form) form = says_itself v form (All-head IsForm form (map interface_form ys) legal) own in
-    let takes : IsTaken (read_base b xs []) form = record {
+    let takes : IsFormTaken (read_base b xs []) form = record {
       next = interface_next b ordered xs x ys is;
       readable = refl;
       whole = tt;
@@ -313,22 +313,22 @@ interfaces_run v text b spelled ordered fit xs (x ∷ ys) rest is full legal h =
     let last = interfaces_run v text b spelled ordered fit (xs ++ x ∷ []) ys rest (is ∙ sym (append_assoc xs (x ∷ []) ys)) full (All-tail IsForm form (map interface_form ys) legal) (record { taken = h.taken + 1; has = next }) in
     subst (λ (t : List (ℕ × Interface)). Lined text rest (of_base v (read_base b t []))) (append_assoc xs (x ∷ []) ys) last
 
-lsas_run : (v : Version) (text : List ℕ) (b : Base) → CanSpell v b → IsBaseOrdered b → IsFit b → (xs ys : List (Scope × Lsa)) (rest : List (List ℕ)) → b.lsas ≡ xs ++ ys → 0 < length rest → All IsForm (map lsa_form ys) → AreWhole ys
+lsas_run : (v : Version) (text : List ℕ) (b : Base) → CanSpell v b → IsBaseOrdered b → IsFit b → (xs ys : List (Scope × Lsa)) (rest : List (List ℕ)) → b.lsas ≡ xs ++ ys → 0 < length rest → All IsForm (map lsa_form ys) → AreLsasOfBytes ys
     → Lined text (map line_text (map lsa_form ys) ++ rest) (of_base v (read_base b b.interfaces xs)) → Lined text rest (of_base v (read_base b b.interfaces (xs ++ ys)))
 lsas_run v text b spelled ordered fit xs [] rest is full legal whole h =
     subst (λ (t : List (Scope × Lsa)). Lined text rest (of_base v (read_base b b.interfaces t))) (sym (append-nil xs)) h
 lsas_run v text b spelled ordered fit xs (x ∷ ys) rest is full legal whole h =
     let form : Form = lsa_form x in
-    let W : Scope × Lsa → Type 0 = λ y. IsWhole y.1 in
+    let W : Scope × Lsa → Type 0 = λ y. IsLsaOfBytes y.1 in
     let own : v ≡ Three = must_be_third v xs ys x (λ other. sym is ∙ spelled.lsas other) in
     let said : Says v (line_text form) form = says_itself v form (All-head IsForm form (map lsa_form ys) legal) own in
-    let mine : IsWhole x.1 = All-head W x ys whole in
+    let mine : IsLsaOfBytes x.1 = All-head W x ys whole in
     let again : lsa_of (spelling x.1) ≡ x.1 = lsa_again x.1 mine in
     let readable : fault_of (spelling x.1) ≡ None = spelled_none (spelling x.1) x.1 mine.sound mine.spelled in
-    let takes : IsTaken (read_base b b.interfaces xs) form = record {
+    let takes : IsFormTaken (read_base b b.interfaces xs) form = record {
       next = lsa_next b ordered xs x ys is again;
       readable = readable;
-      whole = (subst IsWhole (sym again) mine, ap spelling again);
+      whole = (subst IsLsaOfBytes (sym again) mine, ap spelling again);
       fit = ap (λ (l : Lsa). unfit_lsa b.config.areas xs (x.0, l)) again ∙ lsa_fitted b fit xs x ys is;
     } in
     let behind : List (List ℕ) = map line_text (map lsa_form ys) ++ rest in

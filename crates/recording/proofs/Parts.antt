@@ -11,7 +11,7 @@ use Rattle.recording.specs.declared.fault.Fault.TheVariants as fault
 use Rattle.recording.specs.declared.version.Version.{Version}
 use Rattle.recording.specs.declared.version.Version.TheVariants.{One, Two, Three}
 use Rattle.recording.specs.Forms.{Form, VersionLine, RouterLine, CompatLine, SerialLine, AreaLine, RangeLine, HasInterfaceLine, HasLsaLine, BodyLine, Says, line_text}
-use Rattle.recording.specs.Places.{AreSaid, Front, IsPlaced, first_lines, front_of, unfit_at, version_of, wire_fault_in}
+use Rattle.recording.specs.Places.{AreSaid, LinesSoFar, IsLinePlaced, first_lines, front_of, unfit_at, version_of, wire_fault_in}
 use Rattle.recording.specs.Faults.{parts_of, IsFaultAt, IsFaultIn, IsFaultOfLine, IsNoVersion, HasConfigFault, HasUnfit, HasFault, HasLine, IsFirstFault, AreRightBefore, number_of}
 use Rattle.recording.proofs.Forms.{says_one}
 
@@ -136,7 +136,7 @@ below_order v before line rest later form said (fault.Base u) lt h = omega arith
 below_order v before line rest later form said fault.Memory lt h = h
 
 -- the first line says a version, where it stands right
-placed_first : (v : Version) (form : Form) → IsPlaced v [] form → (version : Version) × (form ≡ VersionLine version)
+placed_first : (v : Version) (form : Form) → IsLinePlaced v [] form → (version : Version) × (form ≡ VersionLine version)
 placed_first v (VersionLine version) h = (version, refl)
 placed_first v (RouterLine router) h = absurd (omega arith)
 placed_first v (CompatLine compat) h = absurd (omega arith)
@@ -147,17 +147,17 @@ placed_first v (AreaLine id stub) h = absurd (omega (arith, h.1.many, two_first 
 placed_first v (RangeLine area range) h = absurd (omega (arith, h.1.many, two_first v))
 placed_first v (BodyLine body) h = absurd (omega (arith, two_first v))
 
-first_version : (v : Version) (before : List (List ℕ)) (line : List ℕ) (form : Form) → Says v line form → IsPlaced v before form → before ≡ [] → IsNoVersion line → ⊥
+first_version : (v : Version) (before : List (List ℕ)) (line : List ℕ) (form : Form) → Says v line form → IsLinePlaced v before form → before ≡ [] → IsNoVersion line → ⊥
 first_version v before line form said placed first none =
-    let is = placed_first v form (subst (λ b. IsPlaced v b form) first placed) in none is.0 (said.spelled ∙ ap line_text is.1)
+    let is = placed_first v form (subst (λ b. IsLinePlaced v b form) first placed) in none is.0 (said.spelled ∙ ap line_text is.1)
 
 -- a form that may are there
-pub below_wire : (v : Version) (before : List (List ℕ)) (line : List ℕ) (rest : List (List ℕ)) (form : Form) → Says v line form → IsPlaced v before form → (g : Fault) → number_of g < 54 → ¬ IsFaultIn v before line rest g
+pub below_wire : (v : Version) (before : List (List ℕ)) (line : List ℕ) (rest : List (List ℕ)) (form : Form) → Says v line form → IsLinePlaced v before form → (g : Fault) → number_of g < 54 → ¬ IsFaultIn v before line rest g
 below_wire v before line rest form said placed fault.Truncated lt h = h
 below_wire v before line rest form said placed fault.Version lt h = first_version v before line form said placed h.0 h.1
 below_wire v before line rest form said placed fault.Line lt h = h form said
 below_wire v before line rest form said placed fault.Order lt h =
-    h.2 (subst (λ f. IsPlaced v before f) (says_one line form h.0 said h.1) placed)
+    h.2 (subst (λ f. IsLinePlaced v before f) (says_one line form h.0 said h.1) placed)
 below_wire v before line rest form said placed (fault.Wire f) lt h = omega arith
 below_wire v before line rest form said placed (fault.Config f) lt h = omega arith
 below_wire v before line rest form said placed (fault.Base u) lt h = omega arith
@@ -170,7 +170,7 @@ HasNoWireFault form = wire_fault_in form ≡ None
 -- a form that has none of the later faults, whatever comes before it
 pub record IsHarmless (form : Form) : Type 0 where
   pub readable : HasNoWireFault form
-  pub fit : (f : Front) → unfit_at f form ≡ None
+  pub fit : (f : LinesSoFar) → unfit_at f form ≡ None
 
 none_not_some : {X : Type 0} (o : Option X) (x : X) → o ≡ None → o ≡ Some x → ⊥
 none_not_some o x none some = cc
@@ -181,7 +181,7 @@ fits v before line form said fit u h =
     none_not_some (unfit_at (front_of h.forms) form) u (fit h.forms h.said) (subst (λ (f : Form). unfit_at (front_of h.forms) f ≡ Some u) (says_one line h.form form h.says said) h.has)
 
 -- and no fault of an LSA
-below_config : (v : Version) (before : List (List ℕ)) (line : List ℕ) (rest : List (List ℕ)) (form : Form) → Says v line form → IsPlaced v before form → HasNoWireFault form → (g : Fault) → number_of g < 55 → ¬ IsFaultIn v before line rest g
+below_config : (v : Version) (before : List (List ℕ)) (line : List ℕ) (rest : List (List ℕ)) (form : Form) → Says v line form → IsLinePlaced v before form → HasNoWireFault form → (g : Fault) → number_of g < 55 → ¬ IsFaultIn v before line rest g
 below_config v before line rest form said placed whole fault.Truncated lt h = h
 below_config v before line rest form said placed whole fault.Version lt h = first_version v before line form said placed h.0 h.1
 below_config v before line rest form said placed whole fault.Line lt h = h form said
@@ -194,7 +194,7 @@ below_config v before line rest form said placed whole (fault.Base u) lt h = ome
 below_config v before line rest form said placed whole fault.Memory lt h = h
 
 -- the only fault that the line may have belongs to a configuration, where the header ends there
-pub but_config : (v : Version) (before : List (List ℕ)) (line : List ℕ) (rest : List (List ℕ)) (form : Form) → Says v line form → IsPlaced v before form → HasNoWireFault form → ((u : EntryFault) → ¬ HasUnfit v before line u) → (g : Fault) → number_of g ≢ 55 → ¬ IsFaultIn v before line rest g
+pub but_config : (v : Version) (before : List (List ℕ)) (line : List ℕ) (rest : List (List ℕ)) (form : Form) → Says v line form → IsLinePlaced v before form → HasNoWireFault form → ((u : EntryFault) → ¬ HasUnfit v before line u) → (g : Fault) → number_of g ≢ 55 → ¬ IsFaultIn v before line rest g
 but_config v before line rest form said placed whole fit (fault.Base u) other h = fit u h
 but_config v before line rest form said placed whole fit (fault.Config f) other h = other refl
 but_config v before line rest form said placed whole fit fault.Truncated other h = h
@@ -209,7 +209,7 @@ but_config v before line rest form said placed whole fit (fault.Wire f) other h 
 but_config v before line rest form said placed whole fit fault.Memory other h = h
 
 -- no fault comes before that of a base
-below_base : (v : Version) (before : List (List ℕ)) (line : List ℕ) (rest : List (List ℕ)) (form : Form) → Says v line form → IsPlaced v before form → HasNoWireFault form → ((c : ConfigFault) → ¬ HasConfigFault v (before ++ line ∷ []) rest c) → (g : Fault) → number_of g < 56 → ¬ IsFaultIn v before line rest g
+below_base : (v : Version) (before : List (List ℕ)) (line : List ℕ) (rest : List (List ℕ)) (form : Form) → Says v line form → IsLinePlaced v before form → HasNoWireFault form → ((c : ConfigFault) → ¬ HasConfigFault v (before ++ line ∷ []) rest c) → (g : Fault) → number_of g < 56 → ¬ IsFaultIn v before line rest g
 below_base v before line rest form said placed whole clean (fault.Config f) lt h = clean f h
 below_base v before line rest form said placed whole clean (fault.Base u) lt h = omega arith
 below_base v before line rest form said placed whole clean fault.Truncated lt h = h
@@ -241,21 +241,21 @@ module _ {v : Version} {text : List ℕ} {number : ℕ} {before : List (List ℕ
     faults = λ g lt h. below_line v before line rest later g lt (line_fault at g h);
   }
 
-  pub order_fault : before ≢ [] → (form : Form) → Says v line form → ¬ IsPlaced v before form → IsFirstFault text number fault.Order
+  pub order_fault : before ≢ [] → (form : Form) → Says v line form → ¬ IsLinePlaced v before form → IsFirstFault text number fault.Order
   order_fault later form said other = record {
     has = has_line_fault at fault.Order (form, said, other);
     lines = right;
     faults = λ g lt h. below_order v before line rest later form said g lt (line_fault at g h);
   }
 
-  pub wire_fault : (form : Form) (f : WireFault) → Says v line form → IsPlaced v before form → wire_fault_in form ≡ Some f → IsFirstFault text number (fault.Wire f)
+  pub wire_fault : (form : Form) (f : WireFault) → Says v line form → IsLinePlaced v before form → wire_fault_in form ≡ Some f → IsFirstFault text number (fault.Wire f)
   wire_fault form f said placed has = record {
     has = has_line_fault at (fault.Wire f) (form, said, has);
     lines = right;
     faults = λ g lt h. below_wire v before line rest form said placed g lt (line_fault at g h);
   }
 
-  pub base_fault : (form : Form) (u : EntryFault) → Says v line form → IsPlaced v before form → HasNoWireFault form → ((c : ConfigFault) → ¬ HasConfigFault v (before ++ line ∷ []) rest c) → HasUnfit v before line u → IsFirstFault text number (fault.Base u)
+  pub base_fault : (form : Form) (u : EntryFault) → Says v line form → IsLinePlaced v before form → HasNoWireFault form → ((c : ConfigFault) → ¬ HasConfigFault v (before ++ line ∷ []) rest c) → HasUnfit v before line u → IsFirstFault text number (fault.Base u)
   base_fault form u said placed whole clean has = record {
     has = has_line_fault at (fault.Base u) has;
     lines = right;

@@ -15,7 +15,7 @@ use Rattle.ospf_types.specs.Text.{address_text, prefix_text}
 use Rattle.event_state.specs.declared.base.Base.{Base}
 use Rattle.recording.specs.declared.line.Line.{Line}
 use Rattle.recording.specs.Forms.{Form, VersionLine, RouterLine, CompatLine, SerialLine, AreaLine, RangeLine, HasInterfaceLine, BodyLine, InterfaceLine, RangeSetLine, RangeDropLine, IsForm}
-use Rattle.recording.specs.Recordings.{RecordingValue, form_of, forms_of, front_forms, has_forms, HasKind, HasWholeLsa, AreWhole, IsWhole, ended, text_of_forms, area_forms, first_forms, header_forms, interface_form, lsa_form}
+use Rattle.recording.specs.Recordings.{RecordingValue, form_of, forms_of, front_forms, has_forms, HasKind, HasWholeLsa, AreLsasOfBytes, IsLsaOfBytes, ended, text_of_forms, area_forms, first_forms, header_forms, interface_form, lsa_form}
 use Rattle.recording.specs.declared.version.Version.{Version}
 use Rattle.recording.specs.declared.version.Version.TheVariants.{One, Two, Three}
 
@@ -159,20 +159,20 @@ front_appended old first second new v b interfaces lsas same again header is ls 
 -- the LSAs of a base that are written so far, and they are whole
 pub record LsasAppended (old new : List ℕ) (lsas : List (Scope × Lsa)) (k : ℕ) : Type 0 where
   pub appended : Appended old new (map lsa_form (take k lsas))
-  pub whole : AreWhole (take k lsas)
+  pub whole : AreLsasOfBytes (take k lsas)
 
 pub lsas_none : (old : List ℕ) (lsas : List (Scope × Lsa)) → LsasAppended old old lsas 0
-lsas_none old lsas = record { appended = appended_none old; whole = All-nil (λ x. IsWhole x.1) }
+lsas_none old lsas = record { appended = appended_none old; whole = All-nil (λ x. IsLsaOfBytes x.1) }
 
 pub lsas_item : (old mid new : List ℕ) (lsas : List (Scope × Lsa)) (k : ℕ) (x : Scope × Lsa) → k < length lsas → x ≡ get_or lsas k x → LsasAppended old mid lsas k
-    → new ≡ mid ++ ended (lsa_form x) → IsForm (lsa_form x) → IsWhole x.1 → LsasAppended old new lsas (k + 1)
+    → new ≡ mid ++ ended (lsa_form x) → IsForm (lsa_form x) → IsLsaOfBytes x.1 → LsasAppended old new lsas (k + 1)
 lsas_item old mid new lsas k x below is h written legal whole = record {
   appended = appended_line lsa_form old mid new lsas k x below is h.appended written legal;
-  whole = All-more (λ y. IsWhole y.1) lsas k x below h.whole (subst (λ (y : Scope × Lsa). IsWhole y.1) is whole);
+  whole = All-more (λ y. IsLsaOfBytes y.1) lsas k x below h.whole (subst (λ (y : Scope × Lsa). IsLsaOfBytes y.1) is whole);
 }
 
-pub lsas_all : (old new : List ℕ) (lsas items : List (Scope × Lsa)) (k : ℕ) → items ≡ lsas → length items ≤ k → LsasAppended old new items k → Appended old new (map lsa_form lsas) × AreWhole lsas
-lsas_all old new lsas items k is all h = (mapped_appended lsa_form old new lsas items k is all h.appended, subst AreWhole (take_all k items all ∙ is) h.whole)
+pub lsas_all : (old new : List ℕ) (lsas items : List (Scope × Lsa)) (k : ℕ) → items ≡ lsas → length items ≤ k → LsasAppended old new items k → Appended old new (map lsa_form lsas) × AreLsasOfBytes lsas
+lsas_all old new lsas items k is all h = (mapped_appended lsa_form old new lsas items k is all h.appended, subst AreLsasOfBytes (take_all k items all ∙ is) h.whole)
 
 -- ---- the lines after the header
 

@@ -13,7 +13,7 @@ use Rattle.ospf_types.specs.declared.key.Scope.{Scope}
 use Rattle.ospf_types.specs.declared.prefix.Prefix.{Prefix}
 use Rattle.ospf_types.specs.Text.{address_text, prefix_text}
 use Rattle.recording.specs.Forms.{Form, VersionLine, RouterLine, CompatLine, SerialLine, AreaLine, RangeLine, HasInterfaceLine, HasLsaLine, BodyLine, InterfaceLine, InstallLine, RangeSetLine, RangeDropLine, LookupLine, SecondLine, AreBytes, IsScope, IsSerial, IsPrefix, IsStub, IsAddress, IsOfVersion, Says, scope_text, stub_words, lsa_words, range_words, version_word}
-use Rattle.recording.specs.Reading.{AreDigits, SaysWords, IsPair, bytes_of, cut, pair_words}
+use Rattle.recording.specs.Reading.{AreHexDigits, SaysWords, IsPair, bytes_of, cut, pair_words}
 use Rattle.recording.specs.declared.version.Version.{Version}
 use Rattle.ospf_types.specs.declared.config.Interface.{Interface}
 use Rattle.recording.proofs.Forms.{are_bytes, bytes_again, line_split, words_one}
@@ -192,7 +192,7 @@ other_version_said v line found words other form said =
 -- ---- digits
 
 -- the bytes that digits write, and the digits of bytes
-pub digits_again : (digits : List ℕ) → AreDigits digits
+pub digits_again : (digits : List ℕ) → AreHexDigits digits
     → AreBytes (bytes_of digits) × (digits ≡ encode_lower (bytes_of digits)) × (decode_of digits ≡ Ok (bytes_of digits))
 digits_again digits h =
     let same : bytes_of digits ≡ h.0 = ap bytes_of h.2 ∙ bytes_again h.0 h.1 in
@@ -200,5 +200,5 @@ digits_again digits h =
     let spelled : digits ≡ encode_lower (bytes_of digits) = h.2 ∙ ap encode_lower (sym same) in
     (small, spelled, ap decode_of spelled ∙ decode_of-encode_lower (bytes_of digits) (are_bytes (bytes_of digits) small))
 
-pub lsa_said : (words : List (List ℕ)) (at : Scope) (digits : List ℕ) → words ≡ scope_text at ∷ digits ∷ [] → AreDigits digits → words ≡ lsa_words at (bytes_of digits)
+pub lsa_said : (words : List (List ℕ)) (at : Scope) (digits : List ℕ) → words ≡ scope_text at ∷ digits ∷ [] → AreHexDigits digits → words ≡ lsa_words at (bytes_of digits)
 lsa_said words at digits is h = is ∙ ap (λ (d : List ℕ). scope_text at ∷ d ∷ []) (digits_again digits h).1

@@ -11,7 +11,7 @@ use Rattle.recording.specs.declared.fault.Fault.TheVariants as fault
 use Rattle.recording.specs.declared.fault.LineFault.{LineFault}
 use Rattle.recording.specs.declared.version.Version.{Version}
 use Rattle.recording.specs.Forms.{Form, VersionLine, Says, line_text}
-use Rattle.recording.specs.Places.{AreSaid, IsPlaced, areas_of, first_lines, front_of, has_ended, is_of_header, unfit_at, version_of, wire_fault_in}
+use Rattle.recording.specs.Places.{AreSaid, IsLinePlaced, areas_of, first_lines, front_of, has_ended, is_of_header, unfit_at, version_of, wire_fault_in}
 
 -- The parts that line feeds end, and last what comes after the last line feed: a line without one,
 -- or nothing.
@@ -35,7 +35,7 @@ pub record HasConfigFault (v : Version) (lines after : List (List ℕ)) (f : Con
 
 -- the form of the line is not one that may come after these lines
 abbrev pub IsMisplaced : Version → List (List ℕ) → List ℕ → Type 0
-IsMisplaced v before line = (form : Form) × Says v line form × (¬ IsPlaced v before form)
+IsMisplaced v before line = (form : Form) × Says v line form × (¬ IsLinePlaced v before form)
 
 -- the bytes of the line are not a valid LSA
 abbrev pub HasWireFault : Version → List ℕ → WireFault → Type 0

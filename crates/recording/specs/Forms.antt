@@ -161,11 +161,11 @@ IsForm (HasLsaLine at bytes) = IsScope at × AreBytes bytes
 IsForm (BodyLine body) = IsBody body
 
 -- ranges change and the journal is rolled only in version 3
-abbrev pub IsBodyOf : Version → Body → Type 0
-IsBodyOf v (RangeSetLine area range) = v ≡ Three
-IsBodyOf v (RangeDropLine area prefix) = v ≡ Three
-IsBodyOf v RollLine = v ≡ Three
-IsBodyOf v _ = Unit {0}
+abbrev pub IsBodyOfVersion : Version → Body → Type 0
+IsBodyOfVersion v (RangeSetLine area range) = v ≡ Three
+IsBodyOfVersion v (RangeDropLine area prefix) = v ≡ Three
+IsBodyOfVersion v RollLine = v ≡ Three
+IsBodyOfVersion v _ = Unit {0}
 
 -- the form is one of this version: its own first line, from version 2 on a `compat` line, and in
 -- version 3 the serial, the lines of the base, ranges that change, and rolls
@@ -175,7 +175,7 @@ IsOfVersion v (CompatLine compat) = v ≢ One
 IsOfVersion v (SerialLine serial) = v ≡ Three
 IsOfVersion v (HasInterfaceLine id interface) = v ≡ Three
 IsOfVersion v (HasLsaLine at bytes) = v ≡ Three
-IsOfVersion v (BodyLine body) = IsBodyOf v body
+IsOfVersion v (BodyLine body) = IsBodyOfVersion v body
 IsOfVersion v _ = Unit {0}
 
 -- the line of a recording of this version says this

@@ -176,14 +176,14 @@ first_lines Two = 3
 first_lines Three = 4
 
 -- what the lines after the first ones say so far
-pub record Front : Type 0 where
+pub record LinesSoFar : Type 0 where
   pub areas : List AreaConfig
   pub interfaces : List (ℕ × Interface)
   pub lsas : List (Scope × Lsa)
   pub ended : Bool  -- one of them does not belong to the header
   pub begun : Bool  -- one of them is a line of what happened
 
-abbrev pub front_of : List Form → Front
+abbrev pub front_of : List Form → LinesSoFar
 front_of forms = record {
   areas = areas_of forms;
   interfaces = flat_map interfaces_in forms;
@@ -193,15 +193,15 @@ front_of forms = record {
 }
 
 -- lines of the header that say these areas
-abbrev pub headed : List AreaConfig → Front
+abbrev pub headed : List AreaConfig → LinesSoFar
 headed areas = record { areas = areas; interfaces = []; lsas = []; ended = false; begun = false }
 
 -- lines that say the base, and nothing that happened
-abbrev pub based : Base → Front
+abbrev pub based : Base → LinesSoFar
 based b = record { areas = b.config.areas; interfaces = b.interfaces; lsas = b.lsas; ended = true; begun = false }
 
 -- the line of the header or of the base may come after what was said so far
-abbrev pub is_next : Front → Form → Bool
+abbrev pub is_next : LinesSoFar → Form → Bool
 is_next f (AreaLine id stub) = not f.ended && is_next_area f.areas (AreaLine id stub)
 is_next f (RangeLine area range) = not f.ended && is_next_area f.areas (RangeLine area range)
 is_next f (HasInterfaceLine id interface) = not f.begun && is_next_interface f.lsas f.interfaces id
@@ -215,13 +215,13 @@ pub record AreSaid (v : Version) (before : List (List ℕ)) (forms : List Form) 
 
 -- The line may come after these lines: one of the first ones and one of what happened by its
 -- number, and one of the header or of the base by what the lines before it say.
-abbrev pub IsPlaced : Version → List (List ℕ) → Form → Type 0
-IsPlaced v before (VersionLine version) = before ≡ []
-IsPlaced v before (RouterLine router) = length before ≡ 1
-IsPlaced v before (CompatLine compat) = length before ≡ 2
-IsPlaced v before (SerialLine serial) = length before ≡ 3
-IsPlaced v before (BodyLine body) = first_lines v ≤ length before
-IsPlaced v before form = (forms : List Form) × AreSaid v before forms × (is_next (front_of forms) form ≡ true)
+abbrev pub IsLinePlaced : Version → List (List ℕ) → Form → Type 0
+IsLinePlaced v before (VersionLine version) = before ≡ []
+IsLinePlaced v before (RouterLine router) = length before ≡ 1
+IsLinePlaced v before (CompatLine compat) = length before ≡ 2
+IsLinePlaced v before (SerialLine serial) = length before ≡ 3
+IsLinePlaced v before (BodyLine body) = first_lines v ≤ length before
+IsLinePlaced v before form = (forms : List Form) × AreSaid v before forms × (is_next (front_of forms) form ≡ true)
 
 -- ---- what else may be wrong with a line
 
@@ -266,7 +266,7 @@ unfit_lsa areas lsas x = unfit_under areas x.0 (key_of x.1).kind (length (lsas_u
 -- The fault of a base that no event could have made, by the lines before and this one: an area that
 -- is not configured, an LSA of another scope, one more LSA than its scope may have, or an address
 -- that an interface has which is up too.
-abbrev pub unfit_at : Front → Form → Option EntryFault
+abbrev pub unfit_at : LinesSoFar → Form → Option EntryFault
 unfit_at f (HasInterfaceLine id interface) = unfit_interface f.areas f.interfaces interface
 unfit_at f (HasLsaLine at bytes) = unfit_lsa f.areas f.lsas (at, lsa_of bytes)
 unfit_at f _ = None

@@ -15,7 +15,7 @@ use Rattle.recording.specs.Faults.{parts_of, EndsHeader, HasFault, AreRightBefor
 use Rattle.recording.specs.Forms.{Form, Body, HasInterfaceLine, HasLsaLine, BodyLine, Says, AllSay}
 use Rattle.recording.specs.declared.version.Version.{Version}
 use Rattle.recording.specs.Places.{based, body_wire_fault, has_ended, is_of_base, is_next, is_next_area, is_next_range, unfit_at, version_of, wire_fault_in, with_form}
-use Rattle.recording.specs.Recordings.{RecordingValue, CanSpell, HasKind, HasWholeLsa, AreWhole, IsLineIn, IsOrdered, IsRecording, IsWhole, area_forms, form_of, forms_of, has_forms, header_forms}
+use Rattle.recording.specs.Recordings.{RecordingValue, CanSpell, HasKind, HasWholeLsa, AreLsasOfBytes, IsLineIn, IsConfigOrdered, IsRecording, IsLsaOfBytes, area_forms, form_of, forms_of, has_forms, header_forms}
 
 -- Each of these says of a text that this many of its lines were taken, and that the parts in `rest`
 -- are left.
@@ -55,7 +55,7 @@ pub record HasHeader (v : Version) (text : List ℕ) (taken : ℕ) (rest : List 
   pub read : HasRead v text taken rest (header_forms v b)
   pub spelled : CanSpell v b
   pub bare : IsBare b
-  pub ordered : IsOrdered b.config.areas
+  pub ordered : IsConfigOrdered b.config.areas
 
 -- what the lines after the first ones say
 abbrev pub later_forms : RecordingValue → List Form
@@ -70,7 +70,7 @@ pub record HasLines (text : List ℕ) (taken : ℕ) (rest : List (List ℕ)) (r 
   pub version : version_of before ≡ r.version
   pub said : AllSay r.version before (forms_of r)
   pub kept : IsRecording r
-  pub held : AreWhole r.base.lsas
+  pub held : AreLsasOfBytes r.base.lsas
   pub lsas : All HasWholeLsa r.lines
   pub ends : has_ended (later_forms r) ≡ false → EndsHeader r.version rest
   pub right : AreRightBefore text (taken + 1)
@@ -114,11 +114,11 @@ with_has b _ = b
 
 -- the bytes of the form belong to the LSA that is read from them
 abbrev pub IsWholeForm : Form → Type 0
-IsWholeForm (HasLsaLine at bytes) = IsWhole (lsa_of bytes) × (spelling (lsa_of bytes) ≡ bytes)
+IsWholeForm (HasLsaLine at bytes) = IsLsaOfBytes (lsa_of bytes) × (spelling (lsa_of bytes) ≡ bytes)
 IsWholeForm _ = Unit {0}
 
 -- the base takes the form
-pub record IsTaken (b : Base) (form : Form) : Type 0 where
+pub record IsFormTaken (b : Base) (form : Form) : Type 0 where
   pub next : is_next (based b) form ≡ true
   pub readable : wire_fault_in form ≡ None
   pub whole : IsWholeForm form
@@ -126,7 +126,7 @@ pub record IsTaken (b : Base) (form : Form) : Type 0 where
 
 -- if the line was added, the base takes it
 abbrev pub IsTakenIf : (added : Bool) → Base → Form → Type 0
-IsTakenIf added b form = added ≡ true → IsTaken b form
+IsTakenIf added b form = added ≡ true → IsFormTaken b form
 
 -- The base ends here: the next line has its line feed and is none of a base, or there is no next
 -- line.
@@ -135,15 +135,15 @@ EndsBase v (line ∷ next ∷ more) = (form : Form) → Says v line form → is_
 EndsBase v _ = Unit {0}
 
 -- a base does not take the form: for its place, else for its bytes, else for what it says
-abbrev pub IsBaseRefusal : Base → Form → Fault → Type 0
-IsBaseRefusal b form fault.Truncated = ⊥
-IsBaseRefusal b form fault.Version = ⊥
-IsBaseRefusal b form fault.Line = ⊥
-IsBaseRefusal b form fault.Order = is_next (based b) form ≡ false
-IsBaseRefusal b form (fault.Wire f) = (is_next (based b) form ≡ true) × (wire_fault_in form ≡ Some f)
-IsBaseRefusal b form (fault.Config f) = ⊥
-IsBaseRefusal b form (fault.Base u) = (is_next (based b) form ≡ true) × (wire_fault_in form ≡ None) × (unfit_at (based b) form ≡ Some u)
-IsBaseRefusal b form fault.Memory = Unit {0}
+abbrev pub IsFormRefusal : Base → Form → Fault → Type 0
+IsFormRefusal b form fault.Truncated = ⊥
+IsFormRefusal b form fault.Version = ⊥
+IsFormRefusal b form fault.Line = ⊥
+IsFormRefusal b form fault.Order = is_next (based b) form ≡ false
+IsFormRefusal b form (fault.Wire f) = (is_next (based b) form ≡ true) × (wire_fault_in form ≡ Some f)
+IsFormRefusal b form (fault.Config f) = ⊥
+IsFormRefusal b form (fault.Base u) = (is_next (based b) form ≡ true) × (wire_fault_in form ≡ None) × (unfit_at (based b) form ≡ Some u)
+IsFormRefusal b form fault.Memory = Unit {0}
 
 -- ---- a line of what happened
 

@@ -67,13 +67,13 @@ abbrev pub IsRead : {X : Type 0} → (X → List ℕ) → (X → Type 0) → Lis
 IsRead {X} spell Legal text read = MatchOption read ((x : X) → Legal x → text ≢ spell x) (λ x. Legal x × (text ≡ spell x))
 
 -- the first of the words were read, and those are left after them
-abbrev pub Takes : {X : Type 0} → (X → List (List ℕ)) → (X → Type 0) → (before after : List (List ℕ)) → Option X → Type 0
-Takes {X} spell Legal before after read =
+abbrev pub TakesWords : {X : Type 0} → (X → List (List ℕ)) → (X → Type 0) → (before after : List (List ℕ)) → Option X → Type 0
+TakesWords {X} spell Legal before after read =
     MatchOption read ((x : X) (rest : List (List ℕ)) → Legal x → before ≢ spell x ++ rest) (λ x. Legal x × (before ≡ spell x ++ after))
 
 -- the first of the words was read
 abbrev pub TakesWord : {X : Type 0} → (X → List ℕ) → (X → Type 0) → (before after : List (List ℕ)) → Option X → Type 0
-TakesWord {X} spell Legal before after read = Takes (λ (x : X). spell x ∷ []) Legal before after read
+TakesWord {X} spell Legal before after read = TakesWords (λ (x : X). spell x ∷ []) Legal before after read
 
 -- the first of the words was read, and the others are left, or `None` if there is none
 abbrev pub IsFirstWord : (before after : List (List ℕ)) → Option (Bor (List ℕ)) → Type 0
@@ -106,13 +106,13 @@ abbrev pub IsLowerDigit : ℕ → Type 0
 IsLowerDigit b = ((48 ≤ b) × (b ≤ 57)) ⊎ ((97 ≤ b) × (b ≤ 102))
 
 -- the text spells bytes
-abbrev pub AreDigits : List ℕ → Type 0
-AreDigits text = (bytes : List ℕ) × All (λ b. b < 2 ^ 8) bytes × (text ≡ encode_lower bytes)
+abbrev pub AreHexDigits : List ℕ → Type 0
+AreHexDigits text = (bytes : List ℕ) × All (λ b. b < 2 ^ 8) bytes × (text ≡ encode_lower bytes)
 
 -- the digits of bytes are the only word, or `None` if the words are not that
 abbrev pub AreLastDigits : List (List ℕ) → Option (Bor (List ℕ)) → Type 0
 AreLastDigits words read =
-    MatchOption read ((bytes : List ℕ) → AreBytes bytes → words ≢ encode_lower bytes ∷ []) (λ word. AreDigits word.now × (words ≡ word.now ∷ []))
+    MatchOption read ((bytes : List ℕ) → AreBytes bytes → words ≢ encode_lower bytes ∷ []) (λ word. AreHexDigits word.now × (words ≡ word.now ∷ []))
 
 -- ---- fields: each is what the words say, or `None` if they say no such thing
 

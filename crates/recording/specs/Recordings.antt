@@ -141,7 +141,7 @@ abbrev pub AreByNetworks : List Range → Type 0
 AreByNetworks ranges = IsStrictlySortedBy network_cmp (map (λ (range : Range). range.prefix) ranges)
 
 -- areas ascend by Area ID, and the ranges of each by address and then length
-pub record IsOrdered (areas : List AreaConfig) : Type 0 where
+pub record IsConfigOrdered (areas : List AreaConfig) : Type 0 where
   pub ascending : IsStrictlySortedBy nat_cmp (map (λ a. a.id) areas)
   pub ranges : All (λ a. AreByNetworks a.ranges) areas
 
@@ -168,7 +168,7 @@ AreByPlaces lsas = IsStrictlySortedBy place_cmp (map lsa_place lsas)
 
 -- all parts of a base are in the order of their lines
 pub record IsBaseOrdered (b : Base) : Type 0 where
-  pub areas : IsOrdered b.config.areas
+  pub areas : IsConfigOrdered b.config.areas
   pub interfaces : AreByIds b.interfaces
   pub lsas : AreByPlaces b.lsas
 
@@ -201,12 +201,12 @@ pub record IsRecording (r : RecordingValue) : Type 0 where
   pub lines : All (IsLineIn r.version) r.lines
 
 -- an LSA that is read from its bytes
-pub record IsWhole (lsa : Lsa) : Type 0 where
+pub record IsLsaOfBytes (lsa : Lsa) : Type 0 where
   pub sound : IsSound (spelling lsa)
   pub spelled : Spells (spelling lsa) lsa
 
 abbrev pub HasWholeLsa : Line → Type 0
-HasWholeLsa (line.Event (event.Install at lsa)) = IsWhole lsa
+HasWholeLsa (line.Event (event.Install at lsa)) = IsLsaOfBytes lsa
 HasWholeLsa (line.Event (event.Flush at key)) = Unit {0}
 HasWholeLsa (line.Event (event.Purge at key)) = Unit {0}
 HasWholeLsa (line.Event (event.Interface id area address peer up)) = Unit {0}
@@ -217,14 +217,14 @@ HasWholeLsa (line.Lookup address) = Unit {0}
 HasWholeLsa line.Roll = Unit {0}
 
 -- each LSA of a base is read from its bytes
-abbrev pub AreWhole : List (Scope × Lsa) → Type 0
-AreWhole lsas = All (λ x. IsWhole x.1) lsas
+abbrev pub AreLsasOfBytes : List (Scope × Lsa) → Type 0
+AreLsasOfBytes lsas = All (λ x. IsLsaOfBytes x.1) lsas
 
 -- The bytes are the text of the recording. It has one, and no other recording has it.
 pub record IsText (bytes : List ℕ) (r : RecordingValue) : Type 0 where
   pub spelled : bytes ≡ text_of r
   pub forms : All IsForm (forms_of r)
-  pub held : AreWhole r.base.lsas
+  pub held : AreLsasOfBytes r.base.lsas
   pub lsas : All HasWholeLsa r.lines
   pub kept : IsRecording r
 

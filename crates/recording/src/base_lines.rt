@@ -8,7 +8,7 @@ ghost use Rattle.recording.specs.Places.{IsRowUnder, is_of_base, is_next_interfa
 ghost use Rattle.recording.specs.Places.{is_past_id, is_past_place, has_address, place_cmp};
 ghost use Rattle.recording.specs.Places.{unfit_interface, unfit_under};
 ghost use Rattle.recording.specs.Left.{AddsForm, IsCounted};
-ghost use Rattle.recording.specs.Progress.{IsTaken, IsTakenIf, IsBaseRefusal};
+ghost use Rattle.recording.specs.Progress.{IsFormTaken, IsTakenIf, IsFormRefusal};
 ghost use Rattle.recording.specs.Reading.{said_by, bytes_of, has_lsa_line, HasDigits};
 ghost use Rattle.recording.specs.Recordings.{AreByPlaces};
 
@@ -45,7 +45,7 @@ impl BaseLines {
         ensures taken { IfOk result (λ added. IsTakenIf added self.old.base (said_by form.now)) }
         ensures new { OnOk result (AddsForm self.old self.new (said_by form.now)) }
         ensures counted { OnOk result (IsCounted self.new) }
-        ensures fault { IfErr result (IsBaseRefusal self.old.base (said_by form.now)) }
+        ensures fault { IfErr result (IsFormRefusal self.old.base (said_by form.now)) }
         ensures refused { IfErr result (λ _. is_of_base (said_by form.now) ≡ true) }
     {
         match form {
@@ -57,10 +57,10 @@ impl BaseLines {
 
     fn add_interface(&mut self, id: u8, interface: Interface) -> Result<bool, Fault>
         ensures base { IfOk result (λ added. added ≡ true) }
-        ensures taken { OnOk result (IsTaken self.old.base (HasInterfaceLine id interface)) }
+        ensures taken { OnOk result (IsFormTaken self.old.base (HasInterfaceLine id interface)) }
         ensures new { OnOk result (AddsForm self.old self.new (HasInterfaceLine id interface)) }
         ensures row { OnOk result (self.new.row ≡ self.old.row) }
-        ensures fault { IfErr result (IsBaseRefusal self.old.base (HasInterfaceLine id interface)) }
+        ensures fault { IfErr result (IsFormRefusal self.old.base (HasInterfaceLine id interface)) }
     {
         if !is_next_interface(&self.base, id) {
             return Err(Fault::Order);
@@ -81,10 +81,10 @@ impl BaseLines {
         requires counted { IsCounted self.old }
         requires ordered { AreByPlaces self.old.base.lsas }
         ensures base { IfOk result (λ added. added ≡ true) }
-        ensures taken { OnOk result (IsTaken self.old.base (has_lsa_line scope digits.now)) }
+        ensures taken { OnOk result (IsFormTaken self.old.base (has_lsa_line scope digits.now)) }
         ensures new { OnOk result (AddsForm self.old self.new (has_lsa_line scope digits.now)) }
         ensures counted { OnOk result (IsCounted self.new) }
-        ensures fault { IfErr result (IsBaseRefusal self.old.base (has_lsa_line scope digits.now)) }
+        ensures fault { IfErr result (IsFormRefusal self.old.base (has_lsa_line scope digits.now)) }
     {
         let Some(row) = self.row_under(scope) else {
             return Err(Fault::Order);

@@ -6,7 +6,7 @@ ghost use Rattle.event_state.specs.declared.event.Event.TheVariants as event;
 ghost use Rattle.recording.specs.declared.line.Line.TheVariants as line;
 ghost use Rattle.recording.specs.Progress.{AddsLine, IsLineOf, IsFaultBehind, IsFaultOfBytes};
 ghost use Rattle.recording.specs.Reading.{bytes_of};
-ghost use Rattle.recording.specs.Recordings.{IsWhole};
+ghost use Rattle.recording.specs.Recordings.{IsLsaOfBytes};
 
 use crate::decoding::decode;
 use crate::fault::Fault;
@@ -105,7 +105,7 @@ fn range_set(area: u32, range: Range) -> Line
 pub(crate) fn read_lsa(alloc: Global, digits: &[u8], room: &mut Vec<u8>) -> Result<Checked, Fault>
     requires { decode_of digits.now ≡ Ok (bytes_of digits.now) }
     ensures spelled { IfOk result (λ lsa. spelling lsa ≡ bytes_of digits.now) }
-    ensures whole { IfOk result IsWhole }
+    ensures whole { IfOk result IsLsaOfBytes }
     ensures fault { IfErr result (IsFaultOfBytes (bytes_of digits.now)) }
 {
     let count = digits.len() / 2;

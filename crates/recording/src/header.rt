@@ -26,7 +26,7 @@ pub(crate) struct Setting {
 }
 
 /// A base that is being read: its serial, and its configuration so far.
-pub(crate) struct Header {
+pub(crate) struct RecordingHeader {
     setting: Setting,
     // The areas before the last one. Lines can add ranges only to the last area.
     areas: Areas,
@@ -34,9 +34,9 @@ pub(crate) struct Header {
 }
 
 // proof: a value is dropped by one call, not part by part at each exit of a function.
-impl Drop for Header {
+impl Drop for RecordingHeader {
     fn drop(self) {
-        let Header {
+        let RecordingHeader {
             setting: _setting,
             areas: _areas,
             last: _last,
@@ -44,7 +44,7 @@ impl Drop for Header {
     }
 }
 
-impl Model for Header {
+impl Model for RecordingHeader {
     ghost use Rattle.std.specs.Prelude.{◌≡◌, ◌++◌, None, []};
     ghost use Rattle.std.specs.Option.{option_to_list};
     ghost use Rattle.event_state.specs.declared.base.Base.{Base};
@@ -57,11 +57,11 @@ impl Model for Header {
     ghost invariant = { λ h. h.last ≡ None → h.areas ≡ [] };
 }
 
-impl Header {
-    pub(crate) fn new(alloc: Global, setting: Setting) -> Header
+impl RecordingHeader {
+    pub(crate) fn new(alloc: Global, setting: Setting) -> RecordingHeader
         ensures { result ≡ headed_base setting [] }
     {
-        Header {
+        RecordingHeader {
             setting,
             areas: Areas::new(alloc),
             last: None,
@@ -119,7 +119,7 @@ impl Header {
     pub(crate) fn into_base(self, alloc: Global) -> Result<Base, Memory>
         ensures { IfOk result (λ base. base ≡ self) }
     {
-        let Header {
+        let RecordingHeader {
             setting,
             areas,
             last,

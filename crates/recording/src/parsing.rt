@@ -11,7 +11,7 @@ use crate::base_lines::BaseLines;
 use crate::body::add_line;
 use crate::fault::{Fault, LineFault};
 use crate::form::{LineForm, read_form};
-use crate::header::{Header, Setting};
+use crate::header::{RecordingHeader, Setting};
 use crate::reader::Lines;
 use crate::recording::Recording;
 use crate::version::Version;
@@ -189,7 +189,7 @@ fn read_areas(
     ensures text { IfOk result (λ found. found.1.text.now ≡ lines.entry.text.now) }
     ensures fault { IfErr result (IsFaultOf lines.entry.text.now) }
 {
-    let mut header = Header::new(alloc, setting);
+    let mut header = RecordingHeader::new(alloc, setting);
     let mut left = lines;
     while let Some(after) = read_header_line(alloc, version, left, &mut header)? {
         left = after;
@@ -208,7 +208,7 @@ fn read_header_line<'a>(
     alloc: Global,
     version: Version,
     lines: Lines<'a>,
-    header: &mut Header,
+    header: &mut RecordingHeader,
 ) -> Result<Option<Lines<'a>>, LineFault>
     requires { HasHeaderAt version lines header.old }
     ensures read { IfMore result (λ after. HasHeaderAt version after header.new) }

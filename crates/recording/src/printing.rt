@@ -7,8 +7,8 @@ ghost use Rattle.recording.specs.Forms.{RouterLine, SerialLine, AreaLine, RangeL
 ghost use Rattle.recording.specs.Forms.{BodyLine, InstallLine, FlushLine, PurgeLine, RangeDropLine};
 ghost use Rattle.recording.specs.Forms.{LookupLine, IsForm, IsKind, scope_text, stub_words};
 ghost use Rattle.recording.specs.Forms.{key_words};
-ghost use Rattle.recording.specs.Recordings.{GainsBody, GainsLine, GainsLines, IsText, IsWhole};
-ghost use Rattle.recording.specs.Recordings.{AreWhole, HasKind, HasWholeLsa, text_of, first_forms};
+ghost use Rattle.recording.specs.Recordings.{GainsBody, GainsLine, GainsLines, IsText, IsLsaOfBytes};
+ghost use Rattle.recording.specs.Recordings.{AreLsasOfBytes, HasKind, HasWholeLsa, text_of, first_forms};
 ghost use Rattle.recording.specs.Recordings.{first_of_one, first_of_two, first_of_three};
 ghost use Rattle.recording.specs.Recordings.{header_forms, front_forms, area_forms, interface_form};
 ghost use Rattle.recording.specs.Recordings.{lsa_form, event_form, form_of, interface_line};
@@ -78,7 +78,7 @@ pub fn append_preamble(
 ) -> Result<(), Memory>
     ensures text { OnOk result (GainsLines out.old out.new (front_forms version base.now)) }
     ensures forms { OnOk result (All IsForm (front_forms version base.now)) }
-    ensures lsas { OnOk result (AreWhole base.now.lsas) }
+    ensures lsas { OnOk result (AreLsasOfBytes base.now.lsas) }
 {
     append_header(version, base, out)?;
     append_has_interfaces(base.interfaces.as_slice(), out)?;
@@ -126,7 +126,7 @@ fn append_has_interface(listed: (u8, Interface), out: &mut String) -> Result<(),
 fn append_has_lsas(alloc: Global, lsas: &[(Scope, Checked)], out: &mut String) -> Result<(), Memory>
     ensures text { OnOk result (GainsLines out.old out.new (map lsa_form lsas.now)) }
     ensures forms { OnOk result (All IsForm (map lsa_form lsas.now)) }
-    ensures lsas { OnOk result (AreWhole lsas.now) }
+    ensures lsas { OnOk result (AreLsasOfBytes lsas.now) }
 {
     for (scope, lsa) in lsas {
         append_has_lsa(alloc, *scope, lsa, out)?;
@@ -142,7 +142,7 @@ fn append_has_lsa(
 ) -> Result<(), Memory>
     ensures text { OnOk result (GainsLine out.old out.new (HasLsaLine scope (spelling lsa.now))) }
     ensures form { OnOk result (IsForm (HasLsaLine scope (spelling lsa.now))) }
-    ensures lsa { OnOk result (IsWhole lsa.now) }
+    ensures lsa { OnOk result (IsLsaOfBytes lsa.now) }
 {
     let mut bytes = Vec::new(alloc);
     lsa_codec::write(lsa, &mut bytes)?;
@@ -300,7 +300,7 @@ fn append_install(
 ) -> Result<(), Memory>
     ensures text { OnOk result (GainsBody out.old out.new (InstallLine scope (spelling lsa.now))) }
     ensures form { OnOk result (IsForm (BodyLine (InstallLine scope (spelling lsa.now)))) }
-    ensures lsa { OnOk result (IsWhole lsa.now) }
+    ensures lsa { OnOk result (IsLsaOfBytes lsa.now) }
 {
     let mut bytes = Vec::new(alloc);
     lsa_codec::write(lsa, &mut bytes)?;

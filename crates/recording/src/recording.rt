@@ -5,7 +5,7 @@ ghost use Rattle.std.specs.Ordering.{nat_cmp};
 ghost use Rattle.event_state.specs.BaseFaults.{base_fault_of, unfit_of};
 ghost use Rattle.event_state.specs.Steps.{standard_limits};
 ghost use Rattle.recording.specs.Forms.{IsKind};
-ghost use Rattle.recording.specs.Recordings.{IsRecording, IsBaseOrdered, IsOrdered, AreByIds};
+ghost use Rattle.recording.specs.Recordings.{IsRecording, IsBaseOrdered, IsConfigOrdered, AreByIds};
 ghost use Rattle.recording.specs.Recordings.{AreByNetworks, AreByPlaces, CanSpell};
 ghost use Rattle.recording.specs.Recordings.{HasKind, IsEventIn, IsLineIn, recording_of};
 
@@ -192,7 +192,7 @@ fn lsas_ascend(lsas: &[(Scope, Checked)]) -> bool
 }
 
 fn areas_have_order(areas: &[AreaConfig]) -> bool
-    ensures { IsTrue result ↔ IsOrdered areas.now }
+    ensures { IsTrue result ↔ IsConfigOrdered areas.now }
 {
     areas_ascend(areas) && all_ranges_ascend(areas)
 }

@@ -3,7 +3,7 @@ ghost use Rattle.std.specs.Prelude.{◌≡◌, ◌≢◌, ◌≤◌, ◌↔◌, 
 ghost use Rattle.ospf_types.specs.Text.{address_text, prefix_text};
 ghost use Rattle.recording.specs.Forms.{IsAddress, IsKey, IsPrefix, IsScope, IsSerial, IsStub};
 ghost use Rattle.recording.specs.Forms.{key_words, scope_text, stub_words, version_word};
-ghost use Rattle.recording.specs.Reading.{cut, either_word, IsRead, Takes, TakesWord, AreDigits};
+ghost use Rattle.recording.specs.Reading.{cut, either_word, IsRead, TakesWords, TakesWord, AreHexDigits};
 ghost use Rattle.recording.specs.Reading.{AreLastDigits, IsDecimalValue, IsFirstWord, IsLowerDigit};
 ghost use Rattle.recording.specs.Reading.{IsPair, IsUnpadded, pair_words};
 
@@ -86,7 +86,7 @@ impl<'a> Words<'a> {
 
     /// Reads an interface with its id.
     pub fn interface(&mut self) -> Option<(u8, Interface)>
-        ensures { Takes pair_words IsPair self.old self.new result }
+        ensures { TakesWords pair_words IsPair self.old self.new result }
     {
         let id = self.number(255)?;
         let area = self.address()?;
@@ -142,7 +142,7 @@ impl<'a> Words<'a> {
 
     /// Reads LS type, Link State ID and Advertising Router (RFC 2328, 12.1).
     pub fn key(&mut self) -> Option<Key>
-        ensures { Takes key_words IsKey self.old self.new result }
+        ensures { TakesWords key_words IsKey self.old self.new result }
     {
         let kind = self.number(5)?;
         if kind == 0 {
@@ -160,7 +160,7 @@ impl<'a> Words<'a> {
     /// Reads `normal`, or `stub` with its default cost and the summaries that are advertised into
     /// it.
     pub fn stub(&mut self) -> Option<Option<Stub>>
-        ensures { Takes stub_words IsStub self.old self.new result }
+        ensures { TakesWords stub_words IsStub self.old self.new result }
     {
         if self.choice(b"normal", b"stub")? {
             return Some(None);
@@ -276,7 +276,7 @@ fn decimal_value(word: &[u8]) -> Option<u64>
 
 // Returns true if the word has two hexadecimal digits for each byte.
 fn are_digits(word: &[u8]) -> bool
-    ensures { IsTrue result ↔ AreDigits word.now }
+    ensures { IsTrue result ↔ AreHexDigits word.now }
 {
     word.len() % 2 == 0 && all_digits(word)
 }

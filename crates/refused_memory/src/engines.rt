@@ -18,7 +18,7 @@ install 0.0.0.0 000102030a0100000a00000280000001da61001cffff00000000000a\n";
 
 // The known state of the engine: the number of events taken, and the serial of the published table.
 #[derive(Clone, Copy)]
-struct Known {
+struct EventCounts {
     taken: u64,
     published: u64,
 }
@@ -50,7 +50,7 @@ pub fn is_right<R: Wait + AllocGlobal + RandomSource>(rt: &R) -> bool {
 // Returns true if each lookup sees the table published last, and a lookup after a catch-up sees the
 // table of all taken events.
 fn follows<R: Wait>(rt: &R, engine: &Engine, forwarder: Forwarder, lines: Vec<Line>) -> bool {
-    let mut known = Known {
+    let mut known = EventCounts {
         taken: 0,
         published: 0,
     };
@@ -71,7 +71,12 @@ fn follows<R: Wait>(rt: &R, engine: &Engine, forwarder: Forwarder, lines: Vec<Li
 
 // An event is taken and published, or taken with the reply `Behind`, or refused because memory ran
 // out.
-fn submit<R: Wait>(rt: &R, engine: &Engine, known: Known, event: Event) -> (Known, bool) {
+fn submit<R: Wait>(
+    rt: &R,
+    engine: &Engine,
+    known: EventCounts,
+    event: Event,
+) -> (EventCounts, bool) {
     match engine.submit(rt, event) {
         Ok(answer) => took(known, answer.reply, serial_of(answer.told)),
         Err(refused) => (known, refused.refusal == Refusal::Memory),
@@ -86,13 +91,13 @@ fn serial_of(told: Option<Told>) -> Option<u64> {
 }
 
 // The token of an event has the event's serial, which is the next one.
-fn took(known: Known, reply: Reply, told: Option<u64>) -> (Known, bool) {
+fn took(known: EventCounts, reply: Reply, told: Option<u64>) -> (EventCounts, bool) {
     let taken = known.taken.saturating_add(1);
     let published = told.unwrap_or(known.published);
     let is_told = told == Some(taken) && reply.state == Status::Current;
     let is_behind = told.is_none() && reply.state == Status::Behind;
     let is_right = reply.serial == taken && (is_told || is_behind);
-    (Known { taken, published }, is_right)
+    (EventCounts { taken, published }, is_right)
 }
 
 // Looks an address up, and returns the serial of the table that is seen.
@@ -109,7 +114,7 @@ fn look(forwarder: Forwarder) -> (Forwarder, Option<u64>)
 }
 
 // At most one request is refused, so a second catch-up has all memory.
-fn catches_up<R: Wait>(rt: &R, engine: &Engine, known: Known) -> bool {
+fn catches_up<R: Wait>(rt: &R, engine: &Engine, known: EventCounts) -> bool {
     let told = match engine.catch_up(rt) {
         Some(told) => Some(told),
         None => engine.catch_up(rt),

@@ -4,14 +4,14 @@ use std::io;
 
 /// A page of 1,024 bytes that is written from its start.
 #[derive(Drop)]
-pub struct Page {
+pub struct OutputPage {
     bytes: [u8; 1024],
     count: usize,
 }
 
-impl Page {
-    pub fn empty() -> Page {
-        Page {
+impl OutputPage {
+    pub fn empty() -> OutputPage {
+        OutputPage {
             bytes: [0; 1024],
             count: 0,
         }
@@ -23,7 +23,7 @@ impl Page {
     }
 }
 
-impl io::Write for Page {
+impl io::Write for OutputPage {
     fn write(&mut self, buf: &[u8]) -> io::Result<usize> {
         let Some(left) = self.bytes.get_mut(self.count..) else {
             return Ok(0);

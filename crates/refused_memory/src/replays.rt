@@ -1,6 +1,6 @@
 //! A replay for which one request for memory may be refused.
 
-use crate::page::Page;
+use crate::page::OutputPage;
 use output_lines::Format;
 use recording::Fault;
 use replay::{PrintOptions, ReplayFault, Show, replay_one};
@@ -152,7 +152,11 @@ pub fn is_right<R: AllocGlobal + RandomSource>(rt: &R) -> bool {
     let Ok(hashing) = RandomState::new(rt) else {
         return true;
     };
-    let (mut input, mut out, mut faults) = (RECORDING.as_bytes(), Page::empty(), Page::empty());
+    let (mut input, mut out, mut faults) = (
+        RECORDING.as_bytes(),
+        OutputPage::empty(),
+        OutputPage::empty(),
+    );
     let ended = replay_one(
         rt.alloc(),
         hashing,

@@ -17,10 +17,10 @@ use Rattle.replay.specs.declared.fault.ReplayFault.TheVariants as fault
 use Rattle.replay.specs.declared.buffer.PrintError.{PrintError}
 use Rattle.replay.specs.declared.buffer.PrintError.TheVariants as stop
 use Rattle.replay.specs.declared.printing.PrintOptions.{PrintOptions}
-use Rattle.replay.specs.Stops.{AreWhole, fault_of}
+use Rattle.replay.specs.Stops.{AreWholeLines, fault_of}
 use Rattle.replay.specs.Outputs.{IsRun, IsShown, IsOutput, LosesNoEvent, Replays, ReplaysPart, journal_of}
-use Rattle.replay.specs.Pages.{Adds, AddsPart, Ran, RanPart, IsRunTo}
-use Rattle.replay.specs.Parts.{IsRead, PrintsRun, WritesOutput, WritesPart}
+use Rattle.replay.specs.Pages.{AddsLines, AddsPart, Ran, RanPart, IsRunTo}
+use Rattle.replay.specs.Parts.{IsRecordingRead, PrintsRun, WritesOutput, WritesPart}
 use Rattle.replay.proofs.Written.{appends_none}
 use Rattle.replay.proofs.Wholes.{none_whole, append_whole, serial_whole}
 use Rattle.replay.proofs.Completing.{completed}
@@ -59,7 +59,7 @@ pub record Whole (r : RecordingValue) (p : PrintOptions) (a b : Option (List ℕ
   pub memory : LosesNoEvent p.show answers
   pub whole : List ℕ
   pub is : IsOutput r p answers whole
-  pub printed : Adds a b [] buffer whole
+  pub printed : AddsLines a b [] buffer whole
 
 output_cut : (why : PrintError) (r : RecordingValue) (p : PrintOptions) (answers : Answers) (whole : List ℕ) (a b : Option (List ℕ)) → IsOutput r p answers whole → AddsPart why a b whole → WritesPart why r p a b
 output_cut why r p answers whole a b is h =
@@ -68,7 +68,7 @@ output_cut why r p answers whole a b is h =
 pub whole_cut : (why : PrintError) (r : RecordingValue) (p : PrintOptions) (a b c : Option (List ℕ)) (buffer : List ℕ) → Whole r p a b buffer → AddsPart why b c buffer → WritesPart why r p a c
 whole_cut why r p a b c buffer h stopped = output_cut why r p h.answers h.whole a c h.is (part_moved why a b c [] buffer h.whole none_whole h.printed stopped)
 
-pub whole_written : (r : RecordingValue) (p : PrintOptions) (a b c : Option (List ℕ)) (buffer last : List ℕ) → Whole r p a b buffer → Adds b c buffer last [] → last ≡ [] → WritesOutput r p a c
+pub whole_written : (r : RecordingValue) (p : PrintOptions) (a b c : Option (List ℕ)) (buffer last : List ℕ) → Whole r p a b buffer → AddsLines b c buffer last [] → last ≡ [] → WritesOutput r p a c
 whole_written r p a b c buffer last h moved none =
     let all = adds_moved a b c [] buffer last h.whole h.printed moved in
     let same : all.written ≡ h.whole = sym (append-nil all.written) ∙ ap (λ l. all.written ++ l) (sym none) ∙ sym all.joined in
@@ -85,9 +85,9 @@ told_of_lines show.Journal answers prints = absurd prints
 
 -- the contents of a buffer that was empty
 pub ran_page : (format : Format) (old new : CoreValue) (first : ℕ) (lines : List Line) (a b : Option (List ℕ)) (before buffer put : List ℕ) → before ≡ [] → Ran format old first lines new a b before buffer
-    → put ≡ buffer ++ serial_line format new → AreWhole put
+    → put ≡ buffer ++ serial_line format new → AreWholeLines put
 ran_page format old new first lines a b before buffer put none ran serial =
-    subst AreWhole (sym serial) (append_whole buffer (serial_line format new) (page_whole a b before buffer ran.text ran.printed (inl none)) (serial_whole format new))
+    subst AreWholeLines (sym serial) (append_whole buffer (serial_line format new) (page_whole a b before buffer ran.text ran.printed (inl none)) (serial_whole format new))
 
 module _ (v : Version) (old new : CoreValue) (lines : List Line) (p : PrintOptions) (s : Show) (a b c : Option (List ℕ)) (before buffer put tail : List ℕ) (opening : IsOpened old.base old) (is : p.show ≡ s) (prints : PrintsRun s)
     (none : before ≡ []) (ran : Ran p.format old (first_number v old.base) lines new a b before buffer) (serial : put ≡ buffer ++ serial_line p.format new)
@@ -100,10 +100,10 @@ module _ (v : Version) (old new : CoreValue) (lines : List Line) (p : PrintOptio
     shown = subst (λ (q : Show). IsShown v q p.format ran.text new ((ran.text ++ serial_line p.format new) ++ tail)) (sym is) (shown ran.text);
   }
 
-  printed : Adds a b [] put (ran.text ++ serial_line p.format new)
-  printed = adds_put a b [] buffer ran.text put (serial_line p.format new) (subst (λ w. Adds a b w buffer ran.text) none ran.printed) serial (serial_whole p.format new)
+  printed : AddsLines a b [] put (ran.text ++ serial_line p.format new)
+  printed = adds_put a b [] buffer ran.text put (serial_line p.format new) (subst (λ w. AddsLines a b w buffer ran.text) none ran.printed) serial (serial_whole p.format new)
 
-  pub shown_whole : (moved : List ℕ) → Adds b c put moved tail → Whole (record { version = v; base = old.base; lines = lines }) p a c moved
+  pub shown_whole : (moved : List ℕ) → AddsLines b c put moved tail → Whole (record { version = v; base = old.base; lines = lines }) p a c moved
   shown_whole moved more = record {
     answers = ran.answers;
     memory = subst (λ (q : Show). LosesNoEvent q ran.answers) (sym is) (told_of_lines s ran.answers prints);
@@ -112,7 +112,7 @@ module _ (v : Version) (old new : CoreValue) (lines : List Line) (p : PrintOptio
     printed = adds_more a b c [] put moved (ran.text ++ serial_line p.format new) tail printed more;
   }
 
-  pub shown_cut : (why : PrintError) → (AreWhole put → AddsPart why b c (put ++ tail)) → WritesPart why (record { version = v; base = old.base; lines = lines }) p a c
+  pub shown_cut : (why : PrintError) → (AreWholeLines put → AddsPart why b c (put ++ tail)) → WritesPart why (record { version = v; base = old.base; lines = lines }) p a c
   shown_cut why stopped =
       output_cut why (record { version = v; base = old.base; lines = lines }) p ran.answers ((ran.text ++ serial_line p.format new) ++ tail) a c output
       (part_more why a b c [] put (ran.text ++ serial_line p.format new) tail none_whole printed (stopped (ran_page p.format old new (first_number v old.base) lines a b before buffer put none ran serial)))
@@ -134,16 +134,16 @@ module _ (v : Version) (old new : CoreValue) (lines : List Line) (p : PrintOptio
         shown = subst (λ (q : Show). IsShown v q p.format text new journal) (sym is) refl;
       }
 
-  pub journal_whole : (moved : List ℕ) → Adds a b before moved journal → Whole (record { version = v; base = old.base; lines = lines }) p a b moved
+  pub journal_whole : (moved : List ℕ) → AddsLines a b before moved journal → Whole (record { version = v; base = old.base; lines = lines }) p a b moved
   journal_whole moved more = record {
     answers = (taken p.format (first_number v old.base)).0;
     memory = subst (λ (q : Show). LosesNoEvent q (taken p.format (first_number v old.base)).0) (sym is) (taken p.format (first_number v old.base)).3;
     whole = journal;
     is = journal_output;
-    printed = subst (λ w. Adds a b w moved journal) none more;
+    printed = subst (λ w. AddsLines a b w moved journal) none more;
   }
 
-  pub journal_cut : (why : PrintError) → (AreWhole before → AddsPart why a b (before ++ journal)) → WritesPart why (record { version = v; base = old.base; lines = lines }) p a b
+  pub journal_cut : (why : PrintError) → (AreWholeLines before → AddsPart why a b (before ++ journal)) → WritesPart why (record { version = v; base = old.base; lines = lines }) p a b
   journal_cut why stopped =
       output_cut why (record { version = v; base = old.base; lines = lines }) p (taken p.format (first_number v old.base)).0 journal a b journal_output (subst (λ w. AddsPart why a b (w ++ journal)) none (stopped (inl none)))
 
@@ -162,11 +162,11 @@ pub part_of : (why : PrintError) (p : PrintOptions) (old new : Option (List ℕ)
 part_of why p old new r v base lines same_version same_base same_lines h =
     subst (λ (q : RecordingValue). WritesPart why q p old new) (whole_of r v base lines same_version same_base same_lines) h
 
-pub replays : (p : PrintOptions) (before after old new : Option (List ℕ)) (r : RecordingValue) → IsRead before after r → WritesOutput r p old new → Replays p before after old new
+pub replays : (p : PrintOptions) (before after old new : Option (List ℕ)) (r : RecordingValue) → IsRecordingRead before after r → WritesOutput r p old new → Replays p before after old new
 replays p before after old new r read h =
     record { bytes = read.bytes; read = read.read; recording = r; text = read.text; answers = h.answers; memory = h.memory; output = h.output; is = h.is; written = h.written }
 
-pub replays_part : (why : PrintError) (p : PrintOptions) (before after old new : Option (List ℕ)) (r : RecordingValue) → IsRead before after r → WritesPart why r p old new → ReplaysPart why p before after old new
+pub replays_part : (why : PrintError) (p : PrintOptions) (before after old new : Option (List ℕ)) (r : RecordingValue) → IsRecordingRead before after r → WritesPart why r p old new → ReplaysPart why p before after old new
 replays_part why p before after old new r read h =
     record { bytes = read.bytes; read = read.read; recording = r; text = read.text; part = h.part; is = completed why r p h.part h.is; written = h.written }
 

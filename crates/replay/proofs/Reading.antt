@@ -10,7 +10,7 @@ use Rattle.recording.specs.declared.version.Version.TheVariants.{One, Two, Three
 use Rattle.recording.specs.Places.{first_lines}
 use Rattle.recording.specs.Recordings.{RecordingValue, IsText, text_of_forms, area_forms, first_forms, header_forms, has_forms, front_forms, interface_form, lsa_form, forms_of, form_of, ended}
 use Rattle.replay.specs.Lines.{first_number}
-use Rattle.replay.specs.Parts.{IsParsed, IsRead}
+use Rattle.replay.specs.Parts.{IsParsed, IsRecordingRead}
 
 -- each line has a line feed
 forms_fit : (forms : List Form) → length forms ≤ length (text_of_forms forms)
@@ -41,7 +41,7 @@ pub is_parsed : (bytes : List ℕ) (r : RecordingValue) → IsText bytes r → l
 is_parsed bytes r text small = let bound = lines_fit bytes r text in record { text = text; few = omega (arith, bound) }
 
 -- the bytes that were read are alone in the buffer, are all, and are the text of the recording
-pub is_read : (before after : Option (List ℕ)) (old new bytes : List ℕ) (r : RecordingValue) → old ≡ [] → bytes ≡ new → Consumes before after (drop (length old) new) → IsAtEnd after → IsParsed bytes r → IsRead before after r
+pub is_read : (before after : Option (List ℕ)) (old new bytes : List ℕ) (r : RecordingValue) → old ≡ [] → bytes ≡ new → Consumes before after (drop (length old) new) → IsAtEnd after → IsParsed bytes r → IsRecordingRead before after r
 is_read before after old new bytes r none same read end is = record {
   bytes = bytes;
   read = record { read = subst (λ l. Consumes before after l) (sym same) (subst (λ l. Consumes before after (drop (length l) new)) none read); end = end };

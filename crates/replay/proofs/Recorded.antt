@@ -21,8 +21,8 @@ use Rattle.output_lines.specs.Members.{json_line}
 use Rattle.replay.specs.JsonLines.{recorded_data}
 use Rattle.replay.specs.Lines.{IsTextOf, event_line, forms_text, recorded_line, recorded_text}
 use Rattle.replay.specs.Outputs.{journal_of}
-use Rattle.replay.specs.Pages.{Adds, AddsPart}
-use Rattle.replay.specs.Stops.{AreWhole}
+use Rattle.replay.specs.Pages.{AddsLines, AddsPart}
+use Rattle.replay.specs.Stops.{AreWholeLines}
 use Rattle.replay.specs.declared.buffer.PrintError.{PrintError}
 use Rattle.replay.specs.declared.buffer.PrintError.TheVariants as stop
 use Rattle.replay.proofs.Wholes.{recorded_whole, forms_whole}
@@ -55,23 +55,23 @@ module _ (format : Format) (v : Version) (c : CoreValue) (events : List Event) (
   both : front ++ behind ≡ recorded_text format (journal_of v c)
   both = ap (λ (es : List Event). front ++ flat_map (event_line format) es) same ∙ sym (journal_text format v c)
 
-  pub journal_adds : (x y z : Option (List ℕ)) (before buffer put : List ℕ) → Adds x y before buffer front → Adds y z buffer put behind → Adds x z before put (recorded_text format (journal_of v c))
-  journal_adds x y z before buffer put first second = subst (λ l. Adds x z before put l) both (adds_more x y z before buffer put front behind first second)
+  pub journal_adds : (x y z : Option (List ℕ)) (before buffer put : List ℕ) → AddsLines x y before buffer front → AddsLines y z buffer put behind → AddsLines x z before put (recorded_text format (journal_of v c))
+  journal_adds x y z before buffer put first second = subst (λ l. AddsLines x z before put l) both (adds_more x y z before buffer put front behind first second)
 
   pub journal_begun : (why : PrintError) (x y : Option (List ℕ)) (before : List ℕ) → AddsPart why x y (before ++ front) → AddsPart why x y (before ++ recorded_text format (journal_of v c))
   journal_begun why x y before part = subst (λ l. AddsPart why x y (before ++ l)) both (part_longer why x y before front behind part)
 
-  pub journal_stopped : (why : PrintError) (x y z : Option (List ℕ)) (before buffer : List ℕ) → AreWhole before → Adds x y before buffer front → (AreWhole buffer → AddsPart why y z (buffer ++ behind))
+  pub journal_stopped : (why : PrintError) (x y z : Option (List ℕ)) (before buffer : List ℕ) → AreWholeLines before → AddsLines x y before buffer front → (AreWholeLines buffer → AddsPart why y z (buffer ++ behind))
       → AddsPart why x z (before ++ recorded_text format (journal_of v c))
   journal_stopped why x y z before buffer whole first stopped =
       subst (λ l. AddsPart why x z (before ++ l)) both (part_more why x y z before buffer front behind whole first (stopped (page_whole x y before buffer front first whole)))
 
 -- the lines of a base are appended to the buffer, as text
 pub front_put : (format : Format) (a : Option (List ℕ)) (buffer put : List ℕ) (v : Version) (base other : Base) → format ≡ Text → base ≡ other → put ≡ buffer ++ text_of_forms (front_forms v base)
-    → Adds a a buffer put (forms_text format (front_forms v other))
+    → AddsLines a a buffer put (forms_text format (front_forms v other))
 front_put format a buffer put v base other text same is =
-    let here : Adds a a buffer put (forms_text Text (front_forms v base)) = adds_put a a buffer buffer [] put (text_of_forms (front_forms v base)) (adds_none a buffer) is (forms_whole Text (front_forms v base)) in
-    subst (λ (f : Format). Adds a a buffer put (forms_text f (front_forms v other))) (sym text) (subst (λ (b : Base). Adds a a buffer put (forms_text Text (front_forms v b))) same here)
+    let here : AddsLines a a buffer put (forms_text Text (front_forms v base)) = adds_put a a buffer buffer [] put (text_of_forms (front_forms v base)) (adds_none a buffer) is (forms_whole Text (front_forms v base)) in
+    subst (λ (f : Format). AddsLines a a buffer put (forms_text f (front_forms v other))) (sym text) (subst (λ (b : Base). AddsLines a a buffer put (forms_text Text (front_forms v b))) same here)
 
 -- and as objects: what holds of those that a text is put into
 pub front_shown : (P : List ℕ → Type 0) (format : Format) (v : Version) (base other : Base) (text put old : List ℕ) → format ≡ Json → base ≡ other → text ≡ put → put ≡ old ++ text_of_forms (front_forms v base) → old ≡ []
@@ -137,7 +137,7 @@ object_put : (rest : List Form) (text more buffer put : List ℕ) (h : Next rest
 object_put rest text more buffer put h is = is ∙ ap (λ l. buffer ++ json_line (recorded_data l)) h.is
 
 pub showing_more : (a b c : Option (List ℕ)) (before buffer put moved : List ℕ) (forms : List Form) (left text more : List ℕ) (h : Showing a b before buffer forms left) → Next h.rest text more
-    → put ≡ buffer ++ json_line (recorded_data text) → Adds b c put moved [] → Showing a c before moved forms more
+    → put ≡ buffer ++ json_line (recorded_data text) → AddsLines b c put moved [] → Showing a c before moved forms more
 showing_more a b c before buffer put moved forms left text more h next is spilled = record {
   rest = next.behind;
   text = next.left;
@@ -145,15 +145,15 @@ showing_more a b c before buffer put moved forms left text more h next is spille
       (recorded_whole next.form) spilled;
 }
 
-pub showing_part : (a b : Option (List ℕ)) (before buffer : List ℕ) (forms : List Form) (left : List ℕ) → AreWhole before → Showing a b before buffer forms left
+pub showing_part : (a b : Option (List ℕ)) (before buffer : List ℕ) (forms : List Form) (left : List ℕ) → AreWholeLines before → Showing a b before buffer forms left
     → AddsPart stop.Memory a b (before ++ flat_map recorded_line forms)
 showing_part a b before buffer forms left whole h = adding_part a b before buffer _ _ whole h.adding
 
-pub showing_stopped : (why : PrintError) (a b c : Option (List ℕ)) (before buffer put : List ℕ) (forms : List Form) (left text more : List ℕ) (whole : AreWhole before) (h : Showing a b before buffer forms left) → Next h.rest text more
+pub showing_stopped : (why : PrintError) (a b c : Option (List ℕ)) (before buffer put : List ℕ) (forms : List Form) (left text more : List ℕ) (whole : AreWholeLines before) (h : Showing a b before buffer forms left) → Next h.rest text more
     → put ≡ buffer ++ json_line (recorded_data text) → AddsPart why b c put → AddsPart why a c (before ++ flat_map recorded_line forms)
 showing_stopped why a b c before buffer put forms left text more whole h next is stopped =
     adding_stopped why a b c before buffer put _ _ (recorded_line next.form) (flat_map recorded_line next.behind) whole h.adding (object_next h.rest text more next) (object_put h.rest text more buffer put next is)
     (recorded_whole next.form) stopped
 
-pub showing_all : (a b : Option (List ℕ)) (before buffer : List ℕ) (forms : List Form) (left : List ℕ) (h : Showing a b before buffer forms left) → h.rest ≡ [] → Adds a b before buffer (flat_map recorded_line forms)
+pub showing_all : (a b : Option (List ℕ)) (before buffer : List ℕ) (forms : List Form) (left : List ℕ) (h : Showing a b before buffer forms left) → h.rest ≡ [] → AddsLines a b before buffer (flat_map recorded_line forms)
 showing_all a b before buffer forms left h none = adding_whole a b before buffer _ _ h.adding (ap (flat_map recorded_line) none)

@@ -16,8 +16,8 @@ use Rattle.recording.specs.declared.line.Line.{Line}
 use Rattle.recording.specs.declared.line.Line.TheVariants as line
 use Rattle.replay.specs.Lines.{lookup_line, answer_line, roll_line}
 use Rattle.replay.specs.Runs.{OfEvent, OfRoll, Answers, RollsBy, Prints, text_of_answer}
-use Rattle.replay.specs.Pages.{Adds, AddsPart, RanLine, Ran, RanPart, HadMemory, IsRunTo, TakesEvent, TakesRoll}
-use Rattle.replay.specs.Stops.{AreWhole}
+use Rattle.replay.specs.Pages.{AddsLines, AddsPart, RanLine, Ran, RanPart, HadMemory, IsRunTo, TakesEvent, TakesRoll}
+use Rattle.replay.specs.Stops.{AreWholeLines}
 use Rattle.replay.specs.declared.buffer.PrintError.{PrintError}
 use Rattle.replay.specs.declared.buffer.PrintError.TheVariants as stop
 use Rattle.replay.proofs.Wholes.{answer_whole, roll_whole, lookup_whole}
@@ -152,7 +152,7 @@ ran_more format old mid new first number done l from to before buffer put counte
 }
 
 pub running_more : (format : Format) (old mid new : CoreValue) (first number : ℕ) (lines rest more : List Line) (l : Line) (from to on : Option (List ℕ)) (before buffer put moved : List ℕ) → Running format old first lines rest number mid from to before buffer
-    → rest ≡ l ∷ more → RanLine format mid number l new buffer put → Adds to on put moved [] → Running format old first lines more (number + 1) new from on before moved
+    → rest ≡ l ∷ more → RanLine format mid number l new buffer put → AddsLines to on put moved [] → Running format old first lines more (number + 1) new from on before moved
 running_more format old mid new first number lines rest more l from to on before buffer put moved h next line spilled =
     let ran = ran_more format old mid new first number h.done l from to before buffer put h.counted h.ran line in
     record {
@@ -188,14 +188,14 @@ ran_part why format old now first lines done rest from to before text answers le
 }
 
 -- memory ran out
-pub running_part : (format : Format) (old now : CoreValue) (first number : ℕ) (lines rest : List Line) (from to : Option (List ℕ)) (before buffer : List ℕ) → AreWhole before
+pub running_part : (format : Format) (old now : CoreValue) (first number : ℕ) (lines rest : List Line) (from to : Option (List ℕ)) (before buffer : List ℕ) → AreWholeLines before
     → Running format old first lines rest number now from to before buffer → RanPart stop.Memory format old first lines from to before
 running_part format old now first number lines rest from to before buffer whole h =
     ran_part stop.Memory format old now first lines h.done rest from to before h.ran.text h.ran.answers h.left h.ran.run (part_now from to before buffer h.ran.text whole h.ran.printed)
 
 -- the buffer could not be written after a line
 pub running_stopped : (why : PrintError) (format : Format) (old mid new : CoreValue) (first number : ℕ) (lines rest more : List Line) (l : Line) (from to on : Option (List ℕ)) (before buffer put : List ℕ)
-    → AreWhole before → Running format old first lines rest number mid from to before buffer → rest ≡ l ∷ more → RanLine format mid number l new buffer put → AddsPart why to on put
+    → AreWholeLines before → Running format old first lines rest number mid from to before buffer → rest ≡ l ∷ more → RanLine format mid number l new buffer put → AddsPart why to on put
     → RanPart why format old first lines from on before
 running_stopped why format old mid new first number lines rest more l from to on before buffer put whole h next line stopped =
     let ran = ran_more format old mid new first number h.done l from to before buffer put h.counted h.ran line in
@@ -235,7 +235,7 @@ pub taking_all : (first number : ℕ) (old now : CoreValue) (lines rest : List L
 taking_all first number old now lines rest h none = subst (λ (done : List Line). IsRunTo old done now) (sym (h.left ∙ ap (λ w. h.done ++ w) none ∙ append-nil h.done)) h.run
 
 -- memory ran out after the last line
-pub ran_whole : (format : Format) (old now : CoreValue) (first : ℕ) (lines : List Line) (from to : Option (List ℕ)) (before buffer : List ℕ) → AreWhole before → Ran format old first lines now from to before buffer
+pub ran_whole : (format : Format) (old now : CoreValue) (first : ℕ) (lines : List Line) (from to : Option (List ℕ)) (before buffer : List ℕ) → AreWholeLines before → Ran format old first lines now from to before buffer
     → RanPart stop.Memory format old first lines from to before
 ran_whole format old now first lines from to before buffer whole h =
     ran_part stop.Memory format old now first lines lines [] from to before h.text h.answers (sym (append-nil lines)) h.run (part_now from to before buffer h.text whole h.printed)

@@ -9,18 +9,18 @@ use Rattle.event_core.specs.declared.reply.Reply.{Reply}
 use Rattle.event_core.specs.Cores.{CoreValue, Applies}
 use Rattle.recording.specs.declared.line.Line.{Line}
 use Rattle.replay.specs.Runs.{Answer, Answers, OfEvent, OfRoll, Prints, RollsBy}
-use Rattle.replay.specs.Stops.{AreWhole, IsBeginning}
+use Rattle.replay.specs.Stops.{AreWholeLines, IsBeginning}
 use Rattle.replay.specs.declared.buffer.PrintError.{PrintError}
 
 -- The text, which is whole lines, was printed. The growth of the writer's known bytes, followed by
 -- the buffer now, is the buffer before, followed by the text. If the buffer before was whole lines,
 -- so is the written part.
-pub record Adds (old new : Option (List ℕ)) (before buffer text : List ℕ) : Type 0 where
+pub record AddsLines (old new : Option (List ℕ)) (before buffer text : List ℕ) : Type 0 where
   pub written : List ℕ
   pub appended : Appends old new written
   pub joined : before ++ text ≡ written ++ buffer
-  pub lines : AreWhole text
-  pub pages : AreWhole before → AreWhole written
+  pub lines : AreWholeLines text
+  pub pages : AreWholeLines before → AreWholeLines written
 
 -- a writer's known bytes grew by the beginning of this that such a stop leaves
 pub record AddsPart (why : PrintError) (old new : Option (List ℕ)) (whole : List ℕ) : Type 0 where
@@ -36,14 +36,14 @@ pub record RanLine (format : Format) (old : CoreValue) (number : ℕ) (line : Li
   pub text : List ℕ
   pub run : Prints format old number (line ∷ []) answers text new
   pub printed : after ≡ before ++ text
-  pub lines : AreWhole text
+  pub lines : AreWholeLines text
 
 -- the lines were run, from this number on, and printed
 pub record Ran (format : Format) (old : CoreValue) (number : ℕ) (lines : List Line) (new : CoreValue) (from to : Option (List ℕ)) (before buffer : List ℕ) : Type 0 where
   pub answers : Answers
   pub text : List ℕ
   pub run : Prints format old number lines answers text new
-  pub printed : Adds from to before buffer text
+  pub printed : AddsLines from to before buffer text
 
 -- this number of lines was run, and a beginning of their output was written
 pub record RanPart (why : PrintError) (format : Format) (old : CoreValue) (number : ℕ) (lines : List Line) (from to : Option (List ℕ)) (before : List ℕ) : Type 0 where

@@ -18,7 +18,7 @@ use Rattle.replay.specs.Stops.{IsBeginning}
 use Rattle.replay.specs.Outputs.{IsRun, IsOutput, IsCutOutput, LosesNoEvent}
 
 -- all bytes of the reader were the recording's text, and its lines are few enough to be numbered
-pub record IsRead (before after : Option (List ℕ)) (r : RecordingValue) : Type 0 where
+pub record IsRecordingRead (before after : Option (List ℕ)) (r : RecordingValue) : Type 0 where
   pub bytes : List ℕ
   pub read : ReadsAll before after bytes
   pub text : IsText bytes r
@@ -48,7 +48,7 @@ pub record WritesOutput (r : RecordingValue) (p : PrintOptions) (old new : Optio
 -- ---- where printing stops
 
 -- a core was opened, and memory ran out before anything was written
-pub record IsBegun (why : PrintError) (r : RecordingValue) (text : List ℕ) : Type 0 where
+pub record IsReplayBegun (why : PrintError) (r : RecordingValue) (text : List ℕ) : Type 0 where
   pub opened : CoreValue
   pub opening : IsOpened r.base opened
   pub cause : why ≡ stop.Memory
@@ -74,7 +74,7 @@ pub record IsCutRun (why : PrintError) (r : RecordingValue) (p : PrintOptions) (
 
 -- the text that may have been written when printing stops
 abbrev pub IsCut : PrintError → RecordingValue → PrintOptions → List ℕ → Type 0
-IsCut why r p text = IsBegun why r text ⊎ IsCutRun why r p text ⊎ IsCutOutput why r p text
+IsCut why r p text = IsReplayBegun why r text ⊎ IsCutRun why r p text ⊎ IsCutOutput why r p text
 
 -- a writer's known bytes grew by what such a stop leaves of what is to be written
 pub record WritesPart (why : PrintError) (r : RecordingValue) (p : PrintOptions) (old new : Option (List ℕ)) : Type 0 where

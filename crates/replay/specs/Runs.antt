@@ -29,12 +29,12 @@ RollsBy old (Ok serial) new = IsCurrent old × Rolls old new × (serial ≡ seri
 RollsBy old (Err refusal) new = IsRollRefusal old refusal × (new ≡ old)
 
 -- the line leads from one core to the other with this answer
-abbrev pub IsAnswered : CoreValue → Line → Answer → CoreValue → Type 0
-IsAnswered old (line.Event e) (OfEvent given) new = Applies old e given new
-IsAnswered old line.Roll (OfRoll given) new = RollsBy old given new
-IsAnswered old (line.Event e) (OfRoll given) new = ⊥
-IsAnswered old line.Roll (OfEvent given) new = ⊥
-IsAnswered old (line.Lookup address) answer new = ⊥
+abbrev pub IsLineAnswered : CoreValue → Line → Answer → CoreValue → Type 0
+IsLineAnswered old (line.Event e) (OfEvent given) new = Applies old e given new
+IsLineAnswered old line.Roll (OfRoll given) new = RollsBy old given new
+IsLineAnswered old (line.Event e) (OfRoll given) new = ⊥
+IsLineAnswered old line.Roll (OfEvent given) new = ⊥
+IsLineAnswered old (line.Lookup address) answer new = ⊥
 
 -- its printed line
 abbrev pub text_of_answer : Format → ℕ → Answer → List ℕ
@@ -51,10 +51,10 @@ Prints format old number (line.Lookup address ∷ lines) answers text new =
     × Prints format old (number + 1) lines answers rest new
 Prints format old number (line.Event e ∷ lines) [] text new = ⊥
 Prints format old number (line.Event e ∷ lines) (answer ∷ answers) text new =
-    (mid : CoreValue) × (rest : List ℕ) × IsAnswered old (line.Event e) answer mid × (text ≡ text_of_answer format number answer ++ rest) × Prints format mid (number + 1) lines answers rest new
+    (mid : CoreValue) × (rest : List ℕ) × IsLineAnswered old (line.Event e) answer mid × (text ≡ text_of_answer format number answer ++ rest) × Prints format mid (number + 1) lines answers rest new
 Prints format old number (line.Roll ∷ lines) [] text new = ⊥
 Prints format old number (line.Roll ∷ lines) (answer ∷ answers) text new =
-    (mid : CoreValue) × (rest : List ℕ) × IsAnswered old line.Roll answer mid × (text ≡ text_of_answer format number answer ++ rest) × Prints format mid (number + 1) lines answers rest new
+    (mid : CoreValue) × (rest : List ℕ) × IsLineAnswered old line.Roll answer mid × (text ≡ text_of_answer format number answer ++ rest) × Prints format mid (number + 1) lines answers rest new
 
 -- the start of a run: the base, no event since, and the table of the base
 pub record IsOpened (base : Base) (c : CoreValue) : Type 0 where

@@ -24,15 +24,15 @@ pub record IsEnded (text : List ℕ) : Type 0 where
   pub ends : text ≡ front ++ 10 ∷ []
 
 -- the text is whole lines, or nothing
-abbrev pub AreWhole : List ℕ → Type 0
-AreWhole text = (text ≡ []) ⊎ IsEnded text
+abbrev pub AreWholeLines : List ℕ → Type 0
+AreWholeLines text = (text ≡ []) ⊎ IsEnded text
 
 -- The parts of a text that a stop leaves written and unwritten. After a failed write, to a closed
 -- pipe or elsewhere, something is unwritten. If memory runs out, no line was written in part.
 abbrev pub IsLeft : PrintError → (written unwritten : List ℕ) → Type 0
 IsLeft stop.Write written unwritten = unwritten ≢ []
 IsLeft stop.Closed written unwritten = unwritten ≢ []
-IsLeft stop.Memory written unwritten = AreWhole written
+IsLeft stop.Memory written unwritten = AreWholeLines written
 
 -- the text is the beginning of the whole that such a stop leaves
 pub record IsBeginning (why : PrintError) (text whole : List ℕ) : Type 0 where

@@ -1,6 +1,6 @@
 //! The buffer: printed lines are collected in it, and written when it is full.
 ghost use Rattle.std.specs.Prelude.{IfOk, IfErr, OnOk, [], ◌≡◌, string_bytes};
-ghost use Rattle.replay.specs.Pages.{Adds, AddsPart};
+ghost use Rattle.replay.specs.Pages.{AddsLines, AddsPart};
 ghost use Rattle.replay.specs.Stops.{fault_of, stop_of};
 
 use crate::fault::ReplayFault;
@@ -74,7 +74,7 @@ pub fn new_buffer(alloc: Global) -> Result<String, Memory>
 /// Returns the `WriteError` of the write. A beginning of the buffer may be written then, but not
 /// all of it, and the buffer is unchanged.
 pub fn flush_if_full<W: io::Write>(out: &mut W, buffer: &mut String) -> Result<(), WriteError>
-    ensures ok { OnOk result (Adds (W.contents out.old) (W.contents out.new) (string_bytes buffer.old)
+    ensures ok { OnOk result (AddsLines (W.contents out.old) (W.contents out.new) (string_bytes buffer.old)
         (string_bytes buffer.new) []) }
     ensures err { IfErr result (λ why. AddsPart (stop_of why) (W.contents out.old)
         (W.contents out.new) (string_bytes buffer.old)) }
@@ -92,7 +92,7 @@ pub fn flush_if_full<W: io::Write>(out: &mut W, buffer: &mut String) -> Result<(
 /// Returns the `WriteError` of the write. A beginning of the buffer may be written then, but not
 /// all of it, and the buffer is unchanged.
 pub fn flush_buffer<W: io::Write>(out: &mut W, buffer: &mut String) -> Result<(), WriteError>
-    ensures ok { OnOk result (Adds (W.contents out.old) (W.contents out.new) (string_bytes buffer.old)
+    ensures ok { OnOk result (AddsLines (W.contents out.old) (W.contents out.new) (string_bytes buffer.old)
         (string_bytes buffer.new) []) }
     ensures empty { OnOk result (string_bytes buffer.new ≡ []) }
     ensures err { IfErr result (λ why. AddsPart (stop_of why) (W.contents out.old)

@@ -6,8 +6,8 @@ ghost use Rattle.recording.specs.Recordings.{front_forms};
 ghost use Rattle.replay.specs.Lines.{IsTextOf, event_line, forms_text, recorded_line};
 ghost use Rattle.replay.specs.Lines.{recorded_text};
 ghost use Rattle.replay.specs.Outputs.{journal_of};
-ghost use Rattle.replay.specs.Pages.{Adds, AddsPart};
-ghost use Rattle.replay.specs.Stops.{AreWhole};
+ghost use Rattle.replay.specs.Pages.{AddsLines, AddsPart};
+ghost use Rattle.replay.specs.Stops.{AreWholeLines};
 
 use crate::buffer::{PrintError, flush_if_full};
 use crate::json_lines::put_recorded;
@@ -37,10 +37,10 @@ impl Journal<'_> {
         out: &mut W,
         buffer: &mut String,
     ) -> Result<(), PrintError>
-        ensures ok { OnOk result (Adds (W.contents out.old) (W.contents out.new)
+        ensures ok { OnOk result (AddsLines (W.contents out.old) (W.contents out.new)
             (string_bytes buffer.old) (string_bytes buffer.new)
             (recorded_text format (journal_of self.entry.version self.entry.core.now))) }
-        ensures err { AreWhole (string_bytes buffer.old)
+        ensures err { AreWholeLines (string_bytes buffer.old)
             → IfErr result (λ why. AddsPart why (W.contents out.old) (W.contents out.new)
             (string_bytes buffer.old
             ++ recorded_text format (journal_of self.entry.version self.entry.core.now))) }
@@ -57,10 +57,10 @@ impl Journal<'_> {
         out: &mut W,
         buffer: &mut String,
     ) -> Result<(), PrintError>
-        ensures ok { OnOk result (Adds (W.contents out.old) (W.contents out.new)
+        ensures ok { OnOk result (AddsLines (W.contents out.old) (W.contents out.new)
             (string_bytes buffer.old) (string_bytes buffer.new)
             (forms_text format (front_forms self.entry.version self.entry.core.now.base))) }
-        ensures err { AreWhole (string_bytes buffer.old)
+        ensures err { AreWholeLines (string_bytes buffer.old)
             → IfErr result (λ why. AddsPart why (W.contents out.old) (W.contents out.new)
             (string_bytes buffer.old
             ++ forms_text format (front_forms self.entry.version self.entry.core.now.base))) }
@@ -85,9 +85,9 @@ fn show_recorded<W: io::Write>(
     buffer: &mut String,
 ) -> Result<(), PrintError>
     ensures ok { (forms : List Form) → IsTextOf text.now forms
-        → OnOk result (Adds (W.contents out.old) (W.contents out.new) (string_bytes buffer.old)
+        → OnOk result (AddsLines (W.contents out.old) (W.contents out.new) (string_bytes buffer.old)
         (string_bytes buffer.new) (flat_map recorded_line forms)) }
-    ensures err { (forms : List Form) → IsTextOf text.now forms → AreWhole (string_bytes buffer.old)
+    ensures err { (forms : List Form) → IsTextOf text.now forms → AreWholeLines (string_bytes buffer.old)
         → IfErr result (λ why. AddsPart why (W.contents out.old) (W.contents out.new)
         (string_bytes buffer.old ++ flat_map recorded_line forms)) }
 {
@@ -107,9 +107,9 @@ fn show_events<W: io::Write>(
     out: &mut W,
     buffer: &mut String,
 ) -> Result<(), PrintError>
-    ensures ok { OnOk result (Adds (W.contents out.old) (W.contents out.new) (string_bytes buffer.old)
+    ensures ok { OnOk result (AddsLines (W.contents out.old) (W.contents out.new) (string_bytes buffer.old)
         (string_bytes buffer.new) (flat_map (event_line format) events.now)) }
-    ensures err { AreWhole (string_bytes buffer.old)
+    ensures err { AreWholeLines (string_bytes buffer.old)
         → IfErr result (λ why. AddsPart why (W.contents out.old) (W.contents out.new)
         (string_bytes buffer.old ++ flat_map (event_line format) events.now)) }
 {

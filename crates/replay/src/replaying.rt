@@ -7,7 +7,7 @@ ghost use Rattle.replay.specs.Advance.{ShowsProgress};
 ghost use Rattle.replay.specs.Inputs.{ReadsAll};
 ghost use Rattle.replay.specs.declared.buffer.PrintError.TheVariants as stop;
 ghost use Rattle.replay.specs.Outputs.{Replays, ReplaysPart};
-ghost use Rattle.replay.specs.Parts.{IsParsed, IsRead, IsReadFault};
+ghost use Rattle.replay.specs.Parts.{IsParsed, IsRecordingRead, IsReadFault};
 
 use crate::buffer::fault_of;
 use crate::fault::ReplayFault;
@@ -77,7 +77,7 @@ pub fn replay_one<R: io::Read, W: io::Write, F: io::Write>(
 /// - `Memory` if memory runs out while the input is read.
 /// - `Line` if a line has a fault, or memory runs out at that line.
 pub fn read_recording<R: io::Read>(alloc: Global, input: &mut R) -> Result<Recording, ReplayFault>
-    ensures recording { IfOk result (IsRead (R.remaining input.old) (R.remaining input.new)) }
+    ensures recording { IfOk result (IsRecordingRead (R.remaining input.old) (R.remaining input.new)) }
     ensures fault { IfErr result (IsReadFault (R.remaining input.old) (R.remaining input.new)) }
 {
     let mut bytes = Vec::new(alloc);

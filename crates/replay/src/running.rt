@@ -7,7 +7,7 @@ ghost use Rattle.replay.specs.Advance.{ShowsProgress};
 ghost use Rattle.replay.specs.Lines.{first_number};
 ghost use Rattle.replay.specs.Pages.{Ran, RanPart, RanLine, IsRunTo, TakesEvent, TakesRoll};
 ghost use Rattle.replay.specs.Runs.{RollsBy};
-ghost use Rattle.replay.specs.Stops.{AreWhole};
+ghost use Rattle.replay.specs.Stops.{AreWholeLines};
 
 use crate::buffer::{PrintError, flush_if_full};
 use crate::lines::{put_answer, put_lookup, put_roll};
@@ -34,7 +34,7 @@ impl OpenedRecording {
         ensures ok { IfOk result (λ core. Ran printing.format self.core
             (first_number self.version self.core.base) self.lines.items core (W.contents out.old)
             (W.contents out.new) (string_bytes buffer.old) (string_bytes buffer.new)) }
-        ensures err { AreWhole (string_bytes buffer.old) → IfErr result (λ why.
+        ensures err { AreWholeLines (string_bytes buffer.old) → IfErr result (λ why.
             RanPart why printing.format self.core (first_number self.version self.core.base)
             self.lines.items (W.contents out.old) (W.contents out.new) (string_bytes buffer.old)) }
         ensures progress { ShowsProgress printing.progress (F.contents faults.old)

@@ -4,8 +4,8 @@ ghost use Rattle.std.specs.List.{flat_map};
 ghost use Rattle.std.specs.FinMap.{entries};
 ghost use Rattle.event_core.specs.DueSummaries.{lists_of};
 ghost use Rattle.replay.specs.Lines.{area_lines, due_line, item_line, lsa_line};
-ghost use Rattle.replay.specs.Pages.{Adds, AddsPart};
-ghost use Rattle.replay.specs.Stops.{AreWhole};
+ghost use Rattle.replay.specs.Pages.{AddsLines, AddsPart};
+ghost use Rattle.replay.specs.Stops.{AreWholeLines};
 
 use crate::buffer::{PrintError, flush_if_full};
 use crate::lines::{put_due, put_item, put_lsa};
@@ -28,9 +28,9 @@ pub fn show_items<W: io::Write>(
     out: &mut W,
     buffer: &mut String,
 ) -> Result<(), PrintError>
-    ensures ok { OnOk result (Adds (W.contents out.old) (W.contents out.new) (string_bytes buffer.old)
+    ensures ok { OnOk result (AddsLines (W.contents out.old) (W.contents out.new) (string_bytes buffer.old)
         (string_bytes buffer.new) (flat_map (item_line format) (entries table.now.items))) }
-    ensures err { AreWhole (string_bytes buffer.old)
+    ensures err { AreWholeLines (string_bytes buffer.old)
         → IfErr result (λ why. AddsPart why (W.contents out.old) (W.contents out.new)
         (string_bytes buffer.old ++ flat_map (item_line format) (entries table.now.items))) }
 {
@@ -53,9 +53,9 @@ pub fn show_summaries<W: io::Write>(
     out: &mut W,
     buffer: &mut String,
 ) -> Result<(), PrintError>
-    ensures ok { OnOk result (Adds (W.contents out.old) (W.contents out.new) (string_bytes buffer.old)
+    ensures ok { OnOk result (AddsLines (W.contents out.old) (W.contents out.new) (string_bytes buffer.old)
         (string_bytes buffer.new) (flat_map (area_lines format) (lists_of summaries.now))) }
-    ensures err { AreWhole (string_bytes buffer.old)
+    ensures err { AreWholeLines (string_bytes buffer.old)
         → IfErr result (λ why. AddsPart why (W.contents out.old) (W.contents out.new)
         (string_bytes buffer.old ++ flat_map (area_lines format) (lists_of summaries.now))) }
 {
@@ -73,9 +73,9 @@ fn show_area<W: io::Write>(
     out: &mut W,
     buffer: &mut String,
 ) -> Result<(), PrintError>
-    ensures ok { OnOk result (Adds (W.contents out.old) (W.contents out.new) (string_bytes buffer.old)
+    ensures ok { OnOk result (AddsLines (W.contents out.old) (W.contents out.new) (string_bytes buffer.old)
         (string_bytes buffer.new) (area_lines format (area, list.now))) }
-    ensures err { AreWhole (string_bytes buffer.old)
+    ensures err { AreWholeLines (string_bytes buffer.old)
         → IfErr result (λ why. AddsPart why (W.contents out.old) (W.contents out.new)
         (string_bytes buffer.old ++ area_lines format (area, list.now))) }
 {
@@ -98,9 +98,9 @@ pub fn show_lsas<W: io::Write>(
     out: &mut W,
     buffer: &mut String,
 ) -> Result<(), PrintError>
-    ensures ok { OnOk result (Adds (W.contents out.old) (W.contents out.new) (string_bytes buffer.old)
+    ensures ok { OnOk result (AddsLines (W.contents out.old) (W.contents out.new) (string_bytes buffer.old)
         (string_bytes buffer.new) (flat_map (lsa_line format) lsas.items)) }
-    ensures err { AreWhole (string_bytes buffer.old)
+    ensures err { AreWholeLines (string_bytes buffer.old)
         → IfErr result (λ why. AddsPart why (W.contents out.old) (W.contents out.new)
         (string_bytes buffer.old ++ flat_map (lsa_line format) lsas.items)) }
 {

@@ -33,7 +33,7 @@ fn is_closed_pipe(kind: io::ErrorKind) -> bool
 
 // The outcome of a write: the number of bytes that it took. It is 0 only after an interruption.
 #[derive(Clone, Copy)]
-struct Step {
+struct WriteOutcome {
     count: usize,
     // proof: the kind of the error, so that only an interrupted write can be tried again.
     failed: Option<io::ErrorKind>,
@@ -67,7 +67,7 @@ pub fn write_whole<W: io::Write>(out: &mut W, bytes: &[u8]) -> Result<(), WriteE
 }
 
 // Makes one write.
-fn write_some<W: io::Write>(out: &mut W, bytes: &[u8]) -> Result<Step, WriteError>
+fn write_some<W: io::Write>(out: &mut W, bytes: &[u8]) -> Result<WriteOutcome, WriteError>
     ensures bound { IfOk result (λ step. step.count ≤ length bytes.now) }
     ensures ok { IfOk result (λ step. Appends (W.contents out.old) (W.contents out.new)
         (take step.count bytes.now)) }
@@ -77,13 +77,13 @@ fn write_some<W: io::Write>(out: &mut W, bytes: &[u8]) -> Result<Step, WriteErro
 }
 
 // Returns the outcome of a write by its result, or the reason why no more is written.
-fn step_of(answer: io::Result<usize>) -> Result<Step, WriteError>
+fn step_of(answer: io::Result<usize>) -> Result<WriteOutcome, WriteError>
     ensures step { IfOk result (λ step. IsWriteStep answer step.count) }
     ensures end { IfErr result (IsWriteEnd answer) }
 {
     match answer {
         Ok(0) => Err(WriteError::Failed),
-        Ok(count) => Ok(Step {
+        Ok(count) => Ok(WriteOutcome {
             count,
             failed: None,
         }),
@@ -92,12 +92,12 @@ fn step_of(answer: io::Result<usize>) -> Result<Step, WriteError>
 }
 
 // Returns the outcome of a write that failed with this error.
-fn step_of_error(kind: io::ErrorKind) -> Result<Step, WriteError>
+fn step_of_error(kind: io::ErrorKind) -> Result<WriteOutcome, WriteError>
     ensures step { IfOk result (λ step. (step.count ≡ 0) × (kind ≡ io_kind.Interrupted)) }
     ensures end { IfErr result (IsErrorEnd kind) }
 {
     if is_interrupted(kind) {
-        return Ok(Step {
+        return Ok(WriteOutcome {
             count: 0,
             failed: Some(kind),
         });

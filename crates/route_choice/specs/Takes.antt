@@ -6,7 +6,7 @@ use Rattle.ospf_types.specs.declared.hop.Path.{Path}
 use Rattle.route_choice.specs.Choices.{Chosen, IsOffered, IsChosen}
 
 -- from the one to the other just these offers were taken
-pub record Takes {K X : Type 0} (key_cmp : K → K → Ordering) (item_cmp : X → X → Ordering) (offers : K → X → Type 0) (old new : Option (Chosen K X)) : Type 0 where
+pub record TakesOffers {K X : Type 0} (key_cmp : K → K → Ordering) (item_cmp : X → X → Ordering) (offers : K → X → Type 0) (old new : Option (Chosen K X)) : Type 0 where
   pub list : List (K × X)
   pub just : (key : K) (item : X) → IsOffered list key item ↔ offers key item
   pub taken : (before : List (K × X)) → IsChosen key_cmp item_cmp (IsOffered before) old → IsChosen key_cmp item_cmp (IsOffered (before ++ list)) new

@@ -5,7 +5,7 @@ ghost use Rattle.std.specs.List.Sorted.{IsStrictlySortedBy};
 ghost use Rattle.ospf_types.specs.Hops.{path_cmp};
 ghost use Rattle.route_choice.specs.Choices.{HasAlso};
 ghost use Rattle.route_choice.specs.Costs.{most_cost};
-ghost use Rattle.route_choice.specs.Takes.{Takes, HopsOffer, OnlyOffer, path_over};
+ghost use Rattle.route_choice.specs.Takes.{TakesOffers, HopsOffer, OnlyOffer, path_over};
 
 use ospf_types::hop::{NextHop, Path};
 use ospf_types::memory::Memory;
@@ -228,7 +228,7 @@ impl<K: ExactOrd + Drop, X: ExactOrd + Drop + MadeWith<Global>> Best<K, X> {
 
     /// Adds an offer.
     pub fn offer(&mut self, key: K, item: X) -> Result<(), Memory>
-        ensures ok { OnOk result (Takes K.cmp X.cmp (OnlyOffer key item) self.old self.new) }
+        ensures ok { OnOk result (TakesOffers K.cmp X.cmp (OnlyOffer key item) self.old self.new) }
         ensures err { OnErr result (self.new ≡ self.old) }
     {
         match &mut self.choice {
@@ -263,7 +263,7 @@ pub fn offer_hops<K: ExactOrd + Copy + Drop>(
     advertiser: Option<u32>,
     hops: &[NextHop],
 ) -> Result<(), Memory>
-    ensures { OnOk result (Takes K.cmp path_cmp (HopsOffer hops.now advertiser key)
+    ensures { OnOk result (TakesOffers K.cmp path_cmp (HopsOffer hops.now advertiser key)
         best.old best.new) }
 {
     for hop in hops {
@@ -279,7 +279,7 @@ pub fn offer_hop<K: ExactOrd + Copy + Drop>(
     advertiser: Option<u32>,
     hop: NextHop,
 ) -> Result<(), Memory>
-    ensures { OnOk result (Takes K.cmp path_cmp (OnlyOffer key (path_over advertiser hop))
+    ensures { OnOk result (TakesOffers K.cmp path_cmp (OnlyOffer key (path_over advertiser hop))
         best.old best.new) }
 {
     best.offer(key, Path { hop, advertiser })

@@ -24,7 +24,7 @@ use Rattle.ospf_types.specs.Inputs.{Area}
 use Rattle.ospf_types.specs.Ranges.{IsExamined}
 use Rattle.ospf_types.proofs.RangeChanges.{areas_kept, compat_kept, ids_kept}
 use Rattle.lsdb.specs.Databases.{Database}
-use Rattle.lsdb.specs.Contents.{IsSound, body_at}
+use Rattle.lsdb.specs.Contents.{IsDatabaseSound, body_at}
 use Rattle.area_trees.specs.Areas.{AreaTreeValue}
 use Rattle.intra.specs.Intras.{AreaIntraValue, IntraValue, AreAreaIntras, reached_at}
 use Rattle.intra.specs.Right.{IsRightFor}
@@ -37,7 +37,7 @@ use Rattle.inter.specs.Right.{AreInputsOf as InterInputsOf, IsExaminedFor, IsRig
 use Rattle.external.specs.Changes.{InputsDifferAmong as ExternalInputsDiffer}
 use Rattle.external.specs.Right.{AreInputsOf as ExternalInputsOf}
 use Rattle.event_state.specs.Held.{AreFit}
-use Rattle.event_state.specs.States.{State, AreApart, place_of, database_of, inputs_of}
+use Rattle.event_state.specs.States.{State, AreAreasApart, place_of, database_of, inputs_of}
 use Rattle.event_state.proofs.Places.{no_area}
 use Rattle.route_layers.specs.Trees.{lsas_in, areas_with, AreTreesOf, StatesDifferAmong}
 use Rattle.route_layers.specs.Layers.{IsExaminedOf, inter_inputs, external_inputs}
@@ -57,7 +57,7 @@ ids_of : (s : State) (areas : List AreaConfig) → map (λ (a : AreaConfig). a.i
 ids_of s [] = refl
 ids_of s (a ∷ areas) = ap (λ (ids : List ℕ). a.id ∷ ids) (ids_of s areas)
 
-pub apart_areas : (s : State) (areas : List AreaConfig) → AreApart areas → AllPairs (λ (a b : Area). a.id ≢ b.id) (map (area_of s) areas)
+pub apart_areas : (s : State) (areas : List AreaConfig) → AreAreasApart areas → AllPairs (λ (a b : Area). a.id ≢ b.id) (map (area_of s) areas)
 apart_areas s areas apart i j d lt within same =
     let below = subst (λ (n : ℕ). j < n) (length-map areas (area_of s)) within in
     let first = ap (λ (a : Area). a.id) (get_or-map (area_of s) areas i no_area d (omega (arith, lt, below))) in
@@ -77,7 +77,7 @@ module _ (s : State) (fit : AreFit s.config.areas s.databases) where
           examined = is.0.1;
           id = is.0.2;
           lsas = sym (ap (λ (z : Area). z.lsas) b.2) ∙ lsas_same (database_of s (scope.Area b.0.id)) ∙ ap (λ (d : Database). values d) there;
-          sound = subst IsSound there (fit_lsas s fit (scope.Area b.0.id)).sound;
+          sound = subst IsDatabaseSound there (fit_lsas s fit (scope.Area b.0.id)).sound;
         },
       )
 

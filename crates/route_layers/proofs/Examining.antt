@@ -15,7 +15,7 @@ use Rattle.ospf_types.specs.Inputs.{Area, IsActive, IsBorder}
 use Rattle.ospf_types.specs.Ranges.{IsExamined}
 use Rattle.ospf_types.proofs.Elements.{no_element, first_element, later_element, first_or_later, mapped_element, mapped_from}
 use Rattle.spf.proofs.OfSome.{contains_at, contains_more}
-use Rattle.event_state.specs.States.{State, AreApart, inputs_of}
+use Rattle.event_state.specs.States.{State, AreAreasApart, inputs_of}
 use Rattle.route_layers.specs.Layers.{IsUpAmong, IsUpIn}
 use Rattle.route_layers.specs.Works.{area_of}
 
@@ -88,7 +88,7 @@ module _ (s : State) where
     )
 
     -- those before it have other Area IDs
-    apart_before : AreApart areas → (b : AreaConfig) → Contains (take i areas) b → b.id ≢ a.id
+    apart_before : AreAreasApart areas → (b : AreaConfig) → Contains (take i areas) b → b.id ≢ a.id
     apart_before apart b c same =
         let k : ℕ = c.0 in
         let within : k < min i (length areas) = subst (λ (n : ℕ). k < n) (length-take i areas) c.1 in
@@ -152,7 +152,7 @@ module _ (s : State) where
   not_examined (Some id) found = tt
 
   -- where there is another area with an interface that is up, the router is a border router
-  found_border : (i : ℕ) (a : AreaConfig) → i < length s.config.areas → a ≡ get_or s.config.areas i a → AreApart s.config.areas → (id : ℕ) → IsFoundIn s (take i s.config.areas) (Some id) → IsUpIn s a.id → IsBorder (inputs_of s)
+  found_border : (i : ℕ) (a : AreaConfig) → i < length s.config.areas → a ≡ get_or s.config.areas i a → AreAreasApart s.config.areas → (id : ℕ) → IsFoundIn s (take i s.config.areas) (Some id) → IsUpIn s a.id → IsBorder (inputs_of s)
   found_border i a lt here apart id found up =
       let areas = s.config.areas in
       let b = found.0 in
@@ -164,7 +164,7 @@ module _ (s : State) where
         apart_before s areas i a lt here apart b.0 b.1,
       )
 
-  module _ (i : ℕ) (a : AreaConfig) (lt : i < length s.config.areas) (here : a ≡ get_or s.config.areas i a) (apart : AreApart s.config.areas) (up : IsUpIn s a.id) where
+  module _ (i : ℕ) (a : AreaConfig) (lt : i < length s.config.areas) (here : a ≡ get_or s.config.areas i a) (apart : AreAreasApart s.config.areas) (up : IsUpIn s a.id) where
     border : (o : Option ℕ) → IsSome o → IsFoundIn s (take i s.config.areas) o → IsBorder (inputs_of s)
     border None some found = absurd cc
     border (Some id) some found = found_border i a lt here apart id found up

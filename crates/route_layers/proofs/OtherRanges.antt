@@ -14,7 +14,7 @@ use Rattle.ospf_types.specs.RangeChanges.{with_others, areas_without_ranges}
 use Rattle.ospf_types.proofs.RangeChanges.{ids_kept}
 use Rattle.area_trees.specs.Areas.{AreaTreeValue}
 use Rattle.intra.specs.Inputs.{AreaValue}
-use Rattle.event_state.specs.States.{State, AreApart, database_of}
+use Rattle.event_state.specs.States.{State, AreAreasApart, database_of}
 use Rattle.route_layers.specs.Trees.{lsas_in, areas_with, IsTreeFor, AreTreesOf, StatesDifferAmong}
 
 module _ (s : State) where
@@ -41,7 +41,7 @@ long_kept xs ys same =
     let bare : AreaConfig → AreaConfig = λ a. with_others a [] in
     sym (length-map xs bare) ∙ ap length same ∙ length-map ys bare
 
-pub apart_kept : (xs ys : List AreaConfig) → areas_without_ranges xs ≡ areas_without_ranges ys → AreApart xs → AreApart ys
+pub apart_kept : (xs ys : List AreaConfig) → areas_without_ranges xs ≡ areas_without_ranges ys → AreAreasApart xs → AreAreasApart ys
 apart_kept xs ys same apart i j d lt within equal =
     let id : AreaConfig → ℕ = λ a. a.id in
     let long = long_kept xs ys same in

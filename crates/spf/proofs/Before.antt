@@ -8,9 +8,9 @@ use Rattle.std.proofs.lemmas.Slice.Eq.{bytes_eq-Decides}
 use Rattle.ospf_types.specs.declared.label.Label.{Label}
 use Rattle.ospf_types.specs.declared.label.Label.TheVariants.{Over, At, Plain}
 use Rattle.ospf_types.specs.Distances.{Links}
-use Rattle.vertex_graph.specs.Link.{Link}
+use Rattle.vertex_graph.specs.GraphLink.{GraphLink}
 use Rattle.vertex_queue.proofs.Elements.{cases_vertex, cases_element}
-use Rattle.spf.specs.Repairs.{AreChanges}
+use Rattle.spf.specs.Repairs.{AreLinkUpdates}
 use Rattle.spf.specs.Changes.{link_value, Among, Earlier, SameLinks, AreDecided, AreExactChanges}
 
 -- what a test decides holds or not
@@ -30,15 +30,15 @@ cases_label Plain (At ys) = inr (λ e. cc)
 cases_label Plain Plain = inl refl
 
 -- links are the same or not
-pub cases_link : (l m : Link) → (l ≡ m) ⊎ (l ≢ m)
+pub cases_link : (l m : GraphLink) → (l ≡ m) ⊎ (l ≢ m)
 cases_link l m = elim (cases_vertex l.from m.from) [
-  | inr n ↦ inr (λ e. n (ap (λ (x : Link). x.from) e))
+  | inr n ↦ inr (λ e. n (ap (λ (x : GraphLink). x.from) e))
   | inl from ↦ elim (cases_vertex l.to m.to) [
-    | inr n ↦ inr (λ e. n (ap (λ (x : Link). x.to) e))
+    | inr n ↦ inr (λ e. n (ap (λ (x : GraphLink). x.to) e))
     | inl to ↦ elim (cases_eq l.cost m.cost) [
-      | inr n ↦ inr (λ e. n (ap (λ (x : Link). x.cost) e))
+      | inr n ↦ inr (λ e. n (ap (λ (x : GraphLink). x.cost) e))
       | inl cost ↦ elim (cases_label l.label m.label) [
-        | inr n ↦ inr (λ e. n (ap (λ (x : Link). x.label) e))
+        | inr n ↦ inr (λ e. n (ap (λ (x : GraphLink). x.label) e))
         | inl label ↦ inl (λ i. link_value (from i) (to i) (cost i) (label i))
       ]
     ]
@@ -46,13 +46,13 @@ cases_link l m = elim (cases_vertex l.from m.from) [
 ]
 
 -- a link is in a list or not
-pub cases_among : (links : List Link) → AreDecided (Among links)
+pub cases_among : (links : List GraphLink) → AreDecided (Among links)
 cases_among links from to cost label = cases_element cases_link links (link_value from to cost label)
 
-module _ (after : Links) (gone come : List Link) where
+module _ (after : Links) (gone come : List GraphLink) where
   -- Whatever the lists have, from the links that they give as those before to those after they name
   -- every change.
-  pub earlier_changes : AreChanges (Earlier after gone come) after (Among gone) (Among come)
+  pub earlier_changes : AreLinkUpdates (Earlier after gone come) after (Among gone) (Among come)
   earlier_changes = record {
     went = λ from to cost label was. elim was [ inl stands ↦ inl stands.0 | inr went ↦ inr went ];
     came = λ from to cost label is. elim (cases_among come from to cost label) [ inl arrived ↦ inr arrived | inr stood ↦ inl (inl (is, stood)) ];
@@ -73,7 +73,7 @@ module _ (after : Links) (gone come : List Link) where
     )
 
     -- and they name every change
-    pub exact_changes : AreChanges before after (Among gone) (Among come)
+    pub exact_changes : AreLinkUpdates before after (Among gone) (Among come)
     exact_changes = record {
       went = λ from to cost label was. elim (decided_after from to cost label) [ inl stands ↦ inl stands | inr none ↦ inr ((exact.went from to cost label).1 (was, none)) ];
       came = λ from to cost label is. elim (decided_before from to cost label) [ inl stood ↦ inl stood | inr new ↦ inr ((exact.came from to cost label).1 (is, new)) ];

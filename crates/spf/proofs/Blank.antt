@@ -9,7 +9,7 @@ use Rattle.ospf_types.specs.declared.hop.NextHop.{NextHop}
 use Rattle.ospf_types.specs.declared.label.Label.{Label}
 use Rattle.ospf_types.specs.Vertices.{vertex_cmp}
 use Rattle.ospf_types.proofs.Elements.{no_element}
-use Rattle.vertex_graph.specs.Link.{Link}
+use Rattle.vertex_graph.specs.GraphLink.{GraphLink}
 use Rattle.vertex_graph.specs.Graphs.{GraphValue, LinksOf, AreLinksFrom}
 use Rattle.spf.specs.Changes.{link_value}
 use Rattle.spf.specs.Parts.{LinksBefore, AreLost, hops_of}
@@ -24,7 +24,7 @@ unset v d at = let differ : Some d ≡ None = sym at ∙ get-empty vertex_cmp v 
 pub hopless : (v : Vertex) (h : NextHop) → hops_of blank_value.hops v h → ⊥
 hopless v h x = let differ : Some x.0 ≡ None = sym x.1 ∙ get-empty vertex_cmp v in cc
 
-module _ {g : GraphValue} {came : List Link} where
+module _ {g : GraphValue} {came : List GraphLink} where
   -- The links that did not come are none of the root's.
   pub blank_before : AreLinksFrom g (Router g.root) came → IsTreeBefore g [] came blank_value
   blank_before exact = record {

@@ -12,7 +12,7 @@ use Rattle.vertex_queue.specs.VertexSet.{HasNoDoubles}
 use Rattle.vertex_queue.proofs.Elements.{cases_contains}
 use Rattle.vertex_queue.proofs.Counting.{no_longer}
 use Rattle.spf.specs.Trees.{AreDistances}
-use Rattle.spf.specs.Repairs.{Between, AreChanges, AreDear, IsReset, AreMoved, IsSame, AreOwed, IsDue, Moved, Went, Came, OutOfLost, OutOfMoved, OutOfWritten}
+use Rattle.spf.specs.Repairs.{Between, AreLinkUpdates, AreDear, IsReset, AreMoved, IsSame, AreOwed, IsDue, Moved, Went, Came, OutOfLost, OutOfMoved, OutOfWritten}
 use Rattle.spf.proofs.Values.{within_path}
 use Rattle.spf.proofs.LostVertices.{path_before}
 
@@ -35,7 +35,7 @@ module _ {before after gone come : Links} {root : ℕ} {had_root has_root : Type
       → (((h : NextHop) → now v h ↔ sets v h) → ⊥) → Contains (first ++ second) v
   written_differs sets now v was is differs = other_hops v (λ same. differs (λ h. (λ x. (was h).1 ((same h).1 ((is h).0 x)), λ y. (is h).1 ((same h).0 ((was h).0 y)))))
 
-  module _ {old start distance : Vertex → Option ℕ} {lost moved : List Vertex} (changes : AreChanges before after gone come)
+  module _ {old start distance : Vertex → Option ℕ} {lost moved : List Vertex} (changes : AreLinkUpdates before after gone come)
       (were : AreDistances before root had_root old) (are : AreDistances after root has_root distance)
       (dear : AreDear (Between before after) root (had_root × has_root) old lost) (lost_reached : (v : Vertex) → Contains lost v → (d : ℕ) × (old v ≡ Some d))
       (reset : IsReset root has_root old lost start) (ended : AreMoved start distance moved) (moved_other : (v : Vertex) → Contains moved v → v ≢ Router root) where

@@ -8,7 +8,7 @@ use Rattle.ospf_types.specs.declared.entry.Vertex.{Vertex}
 use Rattle.ospf_types.specs.declared.entry.Vertex.TheVariants.{Router}
 use Rattle.ospf_types.specs.declared.hop.NextHop.{NextHop}
 use Rattle.ospf_types.specs.Distances.{IsHop}
-use Rattle.vertex_graph.specs.Link.{Link}
+use Rattle.vertex_graph.specs.GraphLink.{GraphLink}
 use Rattle.vertex_graph.specs.Graphs.{GraphValue, graph_view, LinksOf, HasRoot, AreExact}
 use Rattle.vertex_queue.proofs.Elements.{cases_vertex}
 use Rattle.spf.specs.Changes.{link_value, SameLinks, AreDecided}
@@ -24,7 +24,7 @@ use Rattle.spf.proofs.CarriedOut.{graph_links}
 use Rattle.spf.proofs.SameLinks.{same_back, tree_same, links_same}
 use Rattle.spf.proofs.Values.{root_zero, root_has, within_path}
 
-module _ {before after : GraphValue} {gone come : List Link} (decided_before : AreDecided (LinksOf before)) (decided_after : AreDecided (LinksOf after)) (exact : AreExact before after gone come) where
+module _ {before after : GraphValue} {gone come : List GraphLink} (decided_before : AreDecided (LinksOf before)) (decided_after : AreDecided (LinksOf after)) (exact : AreExact before after gone come) where
   -- the links before belong to the graph before
   links_before : SameLinks (LinksOf before) (LinksBefore after gone come)
   links_before = same_back (earlier_is (LinksOf after) gone come (LinksOf before) decided_before decided_after (record {

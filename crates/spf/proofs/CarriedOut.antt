@@ -12,15 +12,15 @@ use Rattle.ospf_types.specs.declared.hop.NextHop.{NextHop}
 use Rattle.ospf_types.specs.declared.label.Label.{Label}
 use Rattle.ospf_types.specs.Distances.{IsHop}
 use Rattle.ospf_types.proofs.Elements.{first_element, later_element}
-use Rattle.vertex_graph.specs.Link.{Link}
+use Rattle.vertex_graph.specs.GraphLink.{GraphLink}
 use Rattle.vertex_graph.specs.Graphs.{GraphValue, graph_view, LinksOf, HasRoot}
 use Rattle.vertex_queue.proofs.Counting.{no_longer}
 use Rattle.vertex_queue.proofs.Elements.{cases_contains, cases_vertex}
-use Rattle.spf.specs.Trees.{AreLinks, AreDistances, IsWithin}
-use Rattle.spf.specs.Repairs.{AreChanges, AreOwed, IsDue, Moved, Went, Came, OutOfLost, OutOfMoved, OutOfWritten}
+use Rattle.spf.specs.Trees.{AreLinks, AreDistances, IsInLimit}
+use Rattle.spf.specs.Repairs.{AreLinkUpdates, AreOwed, IsDue, Moved, Went, Came, OutOfLost, OutOfMoved, OutOfWritten}
 use Rattle.spf.specs.Changes.{Among}
-use Rattle.spf.specs.Parts.{HadRoot, LinksBefore, IsBefore, AreLost, StartsAt, AreStarted, IsRelaxedTo, AreUnsettled, AreSettled, hops_of}
-use Rattle.spf.specs.TreeValues.{TreeValue, IsTreeOf, IsTreeBefore, Differs, IsChangedBy, IsBounded, IsReachedIn, IsWritten, IsWorkDone}
+use Rattle.spf.specs.Parts.{HadRoot, LinksBefore, IsRightBefore, AreLost, StartsAt, AreStarted, IsRelaxedTo, AreUnsettled, AreSettled, hops_of}
+use Rattle.spf.specs.TreeValues.{TreeValue, IsTreeOf, IsTreeBefore, Differs, IsVertexChangedBy, IsBounded, IsReachedIn, IsHopSetWritten, IsWorkDone}
 use Rattle.spf.proofs.AreaLinks.{area_links}
 use Rattle.spf.proofs.Before.{earlier_changes}
 use Rattle.spf.proofs.Bounds.{lost_differs, written_differs, taken_bound, written_bound}
@@ -43,12 +43,12 @@ pub graph_links : (g : GraphValue) → AreLinks (LinksOf g) g.root (HasRoot g)
 graph_links g = area_links (graph_view g)
 
 -- whatever the lists have, they name every change from the links before
-pub named : (g : GraphValue) (gone come : List Link) → AreChanges (LinksBefore g gone come) (LinksOf g) (Among gone) (Among come)
+pub named : (g : GraphValue) (gone come : List GraphLink) → AreLinkUpdates (LinksBefore g gone come) (LinksOf g) (Among gone) (Among come)
 named g gone come = earlier_changes (LinksOf g) gone come
 
-module _ {g : GraphValue} {gone come : List Link} where
+module _ {g : GraphValue} {gone come : List GraphLink} where
   -- What losing support leaves is what relaxing starts from.
-  pub started : {old : Vertex → Option ℕ} {lost stale : List Vertex} → IsBefore g gone come old → AreLost g gone come old lost stale → AreStarted (LinksOf g) (Among come) g.root (HasRoot g) old lost
+  pub started : {old : Vertex → Option ℕ} {lost stale : List Vertex} → IsRightBefore g gone come old → AreLost g gone come old lost stale → AreStarted (LinksOf g) (Among come) g.root (HasRoot g) old lost
   started {old} {lost} b l = record {
     held = l.losing_support.held;
     reached = l.losing_support.reached;
@@ -58,17 +58,17 @@ module _ {g : GraphValue} {gone come : List Link} where
     ];
   }
     where
-      over_old : (from to : Vertex) (cost : ℕ) (label : Label) (d : ℕ) → LinksBefore g gone come from to cost label → to ≢ Router g.root → StartsAt g.root (HasRoot g) old lost from d → IsWithin (old to) (d + cost)
+      over_old : (from to : Vertex) (cost : ℕ) (label : Label) (d : ℕ) → LinksBefore g gone come from to cost label → to ≢ Router g.root → StartsAt g.root (HasRoot g) old lost from d → IsInLimit (old to) (d + cost)
       over_old from to cost label d stood other (inl w) =
           let out = b.links.out_of_root to cost label (subst (λ v. LinksBefore g gone come v to cost label) w.0 stood) in
           (distances_relaxed b.distances).relaxed from to cost label d stood other (ap old w.0 ∙ root_zero b.distances out.has ∙ ap Some (sym w.2))
       over_old from to cost label d stood other (inr w) = (distances_relaxed b.distances).relaxed from to cost label d stood other w.2
 
   -- a tree that is right before has the distances before
-  pub distances_before : {t : TreeValue} → IsTreeBefore g gone come t → IsBefore g gone come (get t.distances)
+  pub distances_before : {t : TreeValue} → IsTreeBefore g gone come t → IsRightBefore g gone come (get t.distances)
   distances_before b = record { links = b.links; distances = b.tree.distances; came = b.came }
 
-module _ {g : GraphValue} {gone come : List Link} {t : TreeValue} (u : TreeValue) {lost stale wider moved : List Vertex} (b : IsTreeBefore g gone come t) (l : AreLost g gone come (get t.distances) lost stale)
+module _ {g : GraphValue} {gone come : List GraphLink} {t : TreeValue} (u : TreeValue) {lost stale wider moved : List Vertex} (b : IsTreeBefore g gone come t) (l : AreLost g gone come (get t.distances) lost stale)
     (n : IsRelaxedTo g come (get t.distances) (get u.distances) lost stale wider moved) where
   -- the distances are those after
   pub distances_after : AreDistances (LinksOf g) g.root (HasRoot g) (get u.distances)
@@ -170,7 +170,7 @@ module _ {g : GraphValue} {gone come : List Link} {t : TreeValue} (u : TreeValue
     ]
 
     -- Exactly what has other next hops, or is reached no more, was written.
-    written_is : (v : Vertex) → Contains written v ↔ IsWritten g t u v
+    written_is : (v : Vertex) → Contains written v ↔ IsHopSetWritten g t u v
     written_is v = (
       λ c. elim (s.written_for v c) [
         | inl w ↦ let r = l.losing_support.reached v w.0 in inr (((r.number, r.at), r.other), w.1)
@@ -206,10 +206,10 @@ module _ {g : GraphValue} {gone come : List Link} {t : TreeValue} (u : TreeValue
     tree_after fresh = record { fresh = fresh; tree = s.tree }
 
     -- Exactly the vertices that are changed by one of the parts differ.
-    pub changed_by : (v : Vertex) → IsChangedBy g.root t u lost moved written v ↔ Differs t u v
+    pub changed_by : (v : Vertex) → IsVertexChangedBy g.root t u lost moved written v ↔ Differs t u v
     changed_by v = (differs, found)
       where
-        differs : IsChangedBy g.root t u lost moved written v → Differs t u v
+        differs : IsVertexChangedBy g.root t u lost moved written v → Differs t u v
         differs (inl w) same = w.1 same.0
         differs (inr (inl w)) same =
             let e = n.relaxing.ended.reached v w.0 in
@@ -220,7 +220,7 @@ module _ {g : GraphValue} {gone come : List Link} {t : TreeValue} (u : TreeValue
           | inr other ↦ other.1 same.1
         ]
 
-        moved_only : (get u.distances v ≢ get t.distances v) → IsChangedBy g.root t u lost moved written v
+        moved_only : (get u.distances v ≢ get t.distances v) → IsVertexChangedBy g.root t u lost moved written v
         moved_only other = elim (cases_vertex v (Router g.root)) [
           | inl is_root ↦ inl (subst (λ w. Contains (Router g.root ∷ lost) w) (sym is_root) (first_element (Router g.root) lost), other)
           | inr not_root ↦ elim (cases_contains lost v) [
@@ -232,7 +232,7 @@ module _ {g : GraphValue} {gone come : List Link} {t : TreeValue} (u : TreeValue
           ]
         ]
 
-        found : Differs t u v → IsChangedBy g.root t u lost moved written v
+        found : Differs t u v → IsVertexChangedBy g.root t u lost moved written v
         found d = elim (cases_contains written v) [
           | inl w ↦ inr (inr w)
           | inr none ↦ elim (cases_distance (get u.distances v) (get t.distances v)) [ inl same ↦ absurd (d (same, s.unwritten v none)) | inr other ↦ moved_only other ]

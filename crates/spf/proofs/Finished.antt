@@ -8,12 +8,12 @@ use Rattle.ospf_types.specs.declared.entry.Vertex.{Vertex}
 use Rattle.ospf_types.specs.declared.entry.Vertex.TheVariants.{Router}
 use Rattle.ospf_types.specs.Vertices.{vertex_cmp}
 use Rattle.ospf_types.proofs.Elements.{mapped_element, mapped_from}
-use Rattle.vertex_graph.specs.Link.{Link}
+use Rattle.vertex_graph.specs.GraphLink.{GraphLink}
 use Rattle.vertex_graph.specs.Graphs.{GraphValue}
 use Rattle.vertex_queue.specs.Maps.{DistanceMap}
 use Rattle.vertex_queue.specs.Differing.{IsFarther, IsNearer}
 use Rattle.spf.specs.Parts.{AreLost, IsRelaxedTo, AreSettled, hops_of}
-use Rattle.spf.specs.TreeValues.{TreeValue, IsTreeOf, IsTreeBefore, IsBegun, Differs, IsChangedBy, AreChanged, IsBounded, IsWorkDone, IsCarriedOut, tree_of}
+use Rattle.spf.specs.TreeValues.{TreeValue, IsTreeOf, IsTreeBefore, IsBegun, Differs, IsVertexChangedBy, AreChanged, IsBounded, IsWorkDone, IsRepairCarriedOut, tree_of}
 use Rattle.spf.proofs.Idle.{idle}
 use Rattle.spf.proofs.CarriedOut.{tree_after, bounded, work_done, changed_by}
 
@@ -22,9 +22,9 @@ counted : (moved near taken : ℕ) → near ≡ moved → near ≤ taken → mov
 counted moved near taken all more = omega arith
 
 -- What relaxing and the update of next hops leave, once a repair is begun.
-pub carried_out : {g : GraphValue} {gone come : List Link} {t : TreeValue} (u : TreeValue) {lost stale wider moved written : List Vertex} {near taken hop_sets : ℕ} → IsBegun g gone come t lost stale
+pub carried_out : {g : GraphValue} {gone come : List GraphLink} {t : TreeValue} (u : TreeValue) {lost stale wider moved written : List Vertex} {near taken hop_sets : ℕ} → IsBegun g gone come t lost stale
     → IsRelaxedTo g come (get t.distances) (get u.distances) lost stale wider moved → AreSettled g (get u.distances) (hops_of t.hops) (hops_of u.hops) lost moved wider written (taken - near)
-    → near ≡ length moved → near ≤ taken → hop_sets ≡ length written → u.spent ≡ t.spent → IsCarriedOut g come t u lost stale moved written taken hop_sets
+    → near ≡ length moved → near ≤ taken → hop_sets ≡ length written → u.spent ≡ t.spent → IsRepairCarriedOut g come t u lost stale moved written taken hop_sets
 carried_out {g} {gone} {come} {t} u {lost} {stale} {wider} {moved} {written} {near} {taken} {hop_sets} b n s all more wrote kept = record {
   tree = tree_after u b.before b.losses n s (kept ∙ b.before.fresh);
   bounded = λ went d. let is = bounded u d.before d.losses n s in subst (λ k. IsBounded g went come t k hop_sets) total (subst (λ k. IsBounded g went come t (length moved + (taken - near)) k) (sym wrote) is);
@@ -37,9 +37,9 @@ carried_out {g} {gone} {come} {t} u {lost} {stale} {wider} {moved} {written} {ne
     total = counted (length moved) near taken all more
 
 -- A repair is begun after the vertices that lost their support are found, in the old tree.
-pub begun : {g : GraphValue} {gone come : List Link} (i t : TreeValue) {slice : List Link} {lost stale : List Vertex} → i ≡ t → slice ≡ come → IsTreeBefore g gone come t → AreLost g gone come (get i.distances) lost stale → IsBegun g gone slice t lost stale
+pub begun : {g : GraphValue} {gone come : List GraphLink} (i t : TreeValue) {slice : List GraphLink} {lost stale : List Vertex} → i ≡ t → slice ≡ come → IsTreeBefore g gone come t → AreLost g gone come (get i.distances) lost stale → IsBegun g gone slice t lost stale
 begun {g} {gone} {come} i t {slice} {lost} {stale} view same before losses =
-    subst (λ (links : List Link). IsBegun g gone links t lost stale) (sym same) (record { before = before; losses = subst (λ (w : TreeValue). AreLost g gone come (get w.distances) lost stale) view losses })
+    subst (λ (links : List GraphLink). IsBegun g gone links t lost stale) (sym same) (record { before = before; losses = subst (λ (w : TreeValue). AreLost g gone come (get w.distances) lost stale) view losses })
 
 -- a vertex with its distance
 abbrev pub with_distance : DistanceMap → Vertex → Vertex × Option ℕ
@@ -60,7 +60,7 @@ farther_is remembered vertices old new all v = (
 -- The vertices listed as changed are those that differ.
 pub listed : (root : ℕ) (t u : TreeValue) (lost moved written changed : List Vertex) (remembered : List (Vertex × Option ℕ)) → remembered ≡ map (with_distance t.distances) (Router root ∷ lost)
     → ((v : Vertex) → Contains changed v ↔ (IsFarther remembered u.distances v ⊎ (IsNearer moved lost v ⊎ Contains written v)))
-    → ((v : Vertex) → IsChangedBy root t u lost moved written v ↔ Differs t u v) → (v : Vertex) → Contains changed v ↔ Differs t u v
+    → ((v : Vertex) → IsVertexChangedBy root t u lost moved written v ↔ Differs t u v) → (v : Vertex) → Contains changed v ↔ Differs t u v
 listed root t u lost moved written changed remembered all exact differ v =
     let far = farther_is remembered (Router root ∷ lost) t.distances u.distances all v in (
       λ c. (differ v).0 (elim ((exact v).0 c) [ inl f ↦ inl (far.0 f) | inr other ↦ inr other ]),
@@ -87,12 +87,12 @@ listed_work u changed work = record {
 }
 
 -- a repair is begun of the distances and the next hops of a tree
-pub bare_begun : {g : GraphValue} {gone come : List Link} (t : TreeValue) {lost stale : List Vertex} → IsBegun g gone come t lost stale → IsBegun g gone come (tree_of t.distances t.hops) lost stale
+pub bare_begun : {g : GraphValue} {gone come : List GraphLink} (t : TreeValue) {lost stale : List Vertex} → IsBegun g gone come t lost stale → IsBegun g gone come (tree_of t.distances t.hops) lost stale
 bare_begun t b = record { before = record { fresh = refl; links = b.before.links; tree = b.before.tree; came = b.before.came }; losses = b.losses }
 
 -- what it comes to is what it comes to of the tree
-carried_out_of : {g : GraphValue} {come : List Link} (t u : TreeValue) {lost stale moved written : List Vertex} {taken hop_sets : ℕ} → u.spent ≡ false
-    → IsCarriedOut g come (tree_of t.distances t.hops) (tree_of u.distances u.hops) lost stale moved written taken hop_sets → IsCarriedOut g come t u lost stale moved written taken hop_sets
+carried_out_of : {g : GraphValue} {come : List GraphLink} (t u : TreeValue) {lost stale moved written : List Vertex} {taken hop_sets : ℕ} → u.spent ≡ false
+    → IsRepairCarriedOut g come (tree_of t.distances t.hops) (tree_of u.distances u.hops) lost stale moved written taken hop_sets → IsRepairCarriedOut g come t u lost stale moved written taken hop_sets
 carried_out_of t u fresh r = record {
   tree = record { fresh = fresh; tree = r.tree.tree };
   bounded = λ gone b. let is = r.bounded gone (bare_begun t b) in record { taken_most = is.taken_most; sets_most = is.sets_most };
@@ -109,17 +109,17 @@ carried_out_of t u fresh r = record {
 }
 
 -- what the tree is seen as, and the added links, given another way
-pub carried_out_at : {g : GraphValue} {slice come : List Link} (i t u : TreeValue) {lost stale moved written : List Vertex} {taken hop_sets : ℕ} → i ≡ t → slice ≡ come → u.spent ≡ false
-    → IsCarriedOut g slice (tree_of i.distances i.hops) (tree_of u.distances u.hops) lost stale moved written taken hop_sets → IsCarriedOut g come t u lost stale moved written taken hop_sets
+pub carried_out_at : {g : GraphValue} {slice come : List GraphLink} (i t u : TreeValue) {lost stale moved written : List Vertex} {taken hop_sets : ℕ} → i ≡ t → slice ≡ come → u.spent ≡ false
+    → IsRepairCarriedOut g slice (tree_of i.distances i.hops) (tree_of u.distances u.hops) lost stale moved written taken hop_sets → IsRepairCarriedOut g come t u lost stale moved written taken hop_sets
 carried_out_at {g} {slice} {come} i t u {lost} {stale} {moved} {written} {taken} {hop_sets} view same fresh r =
-    subst (λ (links : List Link). IsCarriedOut g links t u lost stale moved written taken hop_sets) same (subst (λ (w : TreeValue). IsCarriedOut g slice w u lost stale moved written taken hop_sets) view (carried_out_of i u fresh r))
+    subst (λ (links : List GraphLink). IsRepairCarriedOut g links t u lost stale moved written taken hop_sets) same (subst (λ (w : TreeValue). IsRepairCarriedOut g slice w u lost stale moved written taken hop_sets) view (carried_out_of i u fresh r))
 
 -- The list has the vertices that differ, where the root and what was lost were remembered as the
 -- tree was.
 pub changed_list : (i t u : TreeValue) (root at_root : ℕ) (lost at_lost left moved written changed : List Vertex) (remembered slice : List (Vertex × Option ℕ)) → i ≡ t → at_root ≡ root → at_lost ≡ lost → left ≡ lost → slice ≡ remembered
     → remembered ≡ map (with_distance i.distances) (Router at_root ∷ at_lost) → IsStrictlySortedBy vertex_cmp changed
     → ((v : Vertex) → Contains changed v ↔ (IsFarther slice u.distances v ⊎ (IsNearer moved left v ⊎ Contains written v)))
-    → ((v : Vertex) → IsChangedBy root t u lost moved written v ↔ Differs t u v) → AreChanged t (with_changed u changed) changed
+    → ((v : Vertex) → IsVertexChangedBy root t u lost moved written v ↔ Differs t u v) → AreChanged t (with_changed u changed) changed
 changed_list i t u root at_root lost at_lost left moved written changed remembered slice view is_root are_lost still_lost same all in_order exact differ = record {
   in_order = in_order;
   exact = listed root t u lost moved written changed slice (same ∙ all ∙ (λ j. map (with_distance (view j).distances) (Router (is_root j) ∷ are_lost j)))

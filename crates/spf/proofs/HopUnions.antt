@@ -18,7 +18,7 @@ use Rattle.ospf_types.proofs.Elements.{no_element, first_element}
 use Rattle.ospf_types.proofs.OneBest.{same_list}
 use Rattle.ospf_types.proofs.Orders.{hop_total, hop_exact}
 use Rattle.vertex_graph.specs.Labels.{addresses_of}
-use Rattle.vertex_graph.specs.Link.{Link}
+use Rattle.vertex_graph.specs.GraphLink.{GraphLink}
 use Rattle.vertex_queue.specs.Maps.{HopMap}
 use Rattle.spf.specs.Changes.{link_value}
 use Rattle.spf.specs.Parts.{hops_of}
@@ -114,7 +114,7 @@ union_stays old new (hop.Direct i) label (inr router) added = let e : hop.Direct
 
 -- ---- what one link gives
 
-module _ (root : ℕ) (distance : Vertex → Option ℕ) (hops : HopMap) (l : Link) (least : IsLeastLink distance l) (old new : List NextHop) where
+module _ (root : ℕ) (distance : Vertex → Option ℕ) (hops : HopMap) (l : GraphLink) (least : IsLeastLink distance l) (old new : List NextHop) where
   -- a least link out of the root
   pub union_from_root : l.from ≡ Router root → IsUnion old new (FirstOnly l.to l.label) → IsUnion old new (IsGivenOver root distance (hops_of hops) l)
   union_from_root is_root = union_same old new (FirstOnly l.to l.label) (IsGivenOver root distance (hops_of hops) l) (λ h. (
@@ -136,8 +136,8 @@ module _ (root : ℕ) (distance : Vertex → Option ℕ) (hops : HopMap) (l : Li
   ))
 
 -- all links into a vertex
-pub union_is_given : (link : Links) (root : ℕ) (distance : Vertex → Option ℕ) (hops : Vertex → NextHop → Type 0) (v : Vertex) (links : List Link) (set : List NextHop)
-    → ((l : Link) → Contains links l ↔ ((l.to ≡ v) × link l.from l.to l.cost l.label)) → IsUnion [] set (IsOfSome links (IsGivenOver root distance hops))
+pub union_is_given : (link : Links) (root : ℕ) (distance : Vertex → Option ℕ) (hops : Vertex → NextHop → Type 0) (v : Vertex) (links : List GraphLink) (set : List NextHop)
+    → ((l : GraphLink) → Contains links l ↔ ((l.to ≡ v) × link l.from l.to l.cost l.label)) → IsUnion [] set (IsOfSome links (IsGivenOver root distance hops))
     → (h : NextHop) → Contains set h ↔ IsGiven link root distance hops v h
 union_is_given link root distance hops v links set exact u h = (
   λ c. elim ((u.union h).0 c) [

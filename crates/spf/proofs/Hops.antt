@@ -7,7 +7,7 @@ use Rattle.ospf_types.specs.declared.hop.NextHop.{NextHop}
 use Rattle.ospf_types.specs.declared.label.Label.{Label}
 use Rattle.ospf_types.specs.Distances.{Links, TakenLink, Leads, IsPath, cost_of, IsDistance, FirstOnly, IsFirst, IsHop}
 use Rattle.vertex_queue.proofs.Elements.{cases_vertex}
-use Rattle.spf.specs.Trees.{step_to, AreLinks, HaveAddresses, AreDistances, IsLeast, HandsOn, Gives, IsGiven, AreUnions}
+use Rattle.spf.specs.Trees.{step_to, AreLinks, HaveAddresses, AreDistances, IsShortestLink, HandsOn, GivesHop, IsGiven, AreUnions}
 use Rattle.spf.proofs.Paths.{cost_of-push, one_more, last_step, ends_in, empty_to_root, beginning, same_distance}
 use Rattle.spf.proofs.Values.{root_zero, last_least}
 use Rattle.spf.proofs.Ranks.{along_least}
@@ -16,7 +16,7 @@ use Rattle.spf.proofs.Firsts.{first_before, first_after, has_first}
 module _ (link : Links) (root : ℕ) (has_root : Type 0) where
   -- what the last link of a least path gives
   given_by_path : (tail to : Vertex) (before : List TakenLink) (cost : ℕ) (label : Label) (h : NextHop) → has_root → Leads link root (Router root) before tail → IsDistance link root has_root tail (cost_of before)
-      → IsFirst (before ++ step_to to cost label ∷ []) h → Gives root (IsHop link root has_root) tail to label h
+      → IsFirst (before ++ step_to to cost label ∷ []) h → GivesHop root (IsHop link root has_root) tail to label h
   given_by_path tail to [] cost label h has leads at first = inl (sym leads, first)
   given_by_path tail to (step ∷ before) cost label h has leads at first =
       let g = first_before step (step_to to cost label) before h first in
@@ -56,7 +56,7 @@ module _ {link : Links} {root : ℕ} {has_root : Type 0} {distance : Vertex → 
       }
 
   -- what a least link out of the root gives is a next hop
-  from_root : (from to : Vertex) (cost : ℕ) (label : Label) (h : NextHop) → to ≢ Router root → IsLeast link distance from to cost label → from ≡ Router root → FirstOnly to label h → IsHop link root has_root to h
+  from_root : (from to : Vertex) (cost : ℕ) (label : Label) (h : NextHop) → to ≢ Router root → IsShortestLink link distance from to cost label → from ≡ Router root → FirstOnly to label h → IsHop link root has_root to h
   from_root from to cost label h other least is_root first =
       let at = are.right to (least.near + cost) least.head in
       let has = at.reached.1.0 in
@@ -69,7 +69,7 @@ module _ {link : Links} {root : ℕ} {has_root : Type 0} {distance : Vertex → 
       }
 
   -- what another least link passes on is a next hop
-  from_other : (from to : Vertex) (cost : ℕ) (label : Label) (g h : NextHop) → to ≢ Router root → IsLeast link distance from to cost label → IsHop link root has_root from g → HandsOn g label h → IsHop link root has_root to h
+  from_other : (from to : Vertex) (cost : ℕ) (label : Label) (g h : NextHop) → to ≢ Router root → IsShortestLink link distance from to cost label → IsHop link root has_root from g → HandsOn g label h → IsHop link root has_root to h
   from_other from to cost label g h other least is hands =
       let path = is.path in
       let near : least.near ≡ cost_of path.0 = same_distance link root has_root from least.near (cost_of path.0) (are.right from least.near least.tail) path.2 in
@@ -88,7 +88,7 @@ module _ {link : Links} {root : ℕ} {has_root : Type 0} {distance : Vertex → 
   hops_are_unions = record { union = λ to d is other h. (hop_is_given to h other, given_is_hop to h other) }
 
 -- what is given from sets is given from sets that have as much
-pub gives_more : (root : ℕ) (A B : Vertex → NextHop → Type 0) (from to : Vertex) (label : Label) (h : NextHop) → (from ≢ Router root → (g : NextHop) → A from g → B from g) → Gives root A from to label h → Gives root B from to label h
+pub gives_more : (root : ℕ) (A B : Vertex → NextHop → Type 0) (from to : Vertex) (label : Label) (h : NextHop) → (from ≢ Router root → (g : NextHop) → A from g → B from g) → GivesHop root A from to label h → GivesHop root B from to label h
 gives_more root A B from to label h more (inl w) = inl w
 gives_more root A B from to label h more (inr w) = inr (w.0, w.1, more w.0 w.1 w.2, w.3)
 

@@ -7,7 +7,7 @@ use Rattle.ospf_types.specs.declared.entry.Vertex.TheVariants.{Router}
 use Rattle.ospf_types.specs.declared.label.Label.{Label}
 use Rattle.ospf_types.specs.Distances.{Links, TakenLink, Leads}
 use Rattle.ospf_types.proofs.Elements.{no_element, first_element}
-use Rattle.vertex_graph.specs.Link.{Link}
+use Rattle.vertex_graph.specs.GraphLink.{GraphLink}
 use Rattle.vertex_graph.specs.Graphs.{GraphValue, LinksOf, HasRoot}
 use Rattle.spf.specs.Changes.{SameLinks}
 use Rattle.spf.specs.Parts.{HadRoot, LinksBefore, AreLost, IsRelaxedTo, AreSettled, hops_of}
@@ -106,7 +106,7 @@ module _ {g : GraphValue} {t : TreeValue} (u : TreeValue) {lost stale wider move
   no_work = (omega (arith, no_elements moved none_moved, no_elements s.taken none_taken, s.count), no_elements written none_written)
 
 -- A repair is idle where the lists are empty.
-pub idle : {g : GraphValue} (gone come : List Link) {t : TreeValue} (u : TreeValue) {lost stale wider moved written : List Vertex} {count : ℕ} → IsTreeBefore g gone come t → AreLost g gone come (get t.distances) lost stale
+pub idle : {g : GraphValue} (gone come : List GraphLink) {t : TreeValue} (u : TreeValue) {lost stale wider moved written : List Vertex} {count : ℕ} → IsTreeBefore g gone come t → AreLost g gone come (get t.distances) lost stale
     → IsRelaxedTo g come (get t.distances) (get u.distances) lost stale wider moved → AreSettled g (get u.distances) (hops_of t.hops) (hops_of u.hops) lost moved wider written count
     → gone ≡ [] → come ≡ [] → (length moved + count ≡ 0) × (length written ≡ 0)
 idle [] [] u b l n s none_gone none_came = no_work u b l n s

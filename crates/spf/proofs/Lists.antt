@@ -12,7 +12,7 @@ use Rattle.ospf_types.specs.declared.label.Label.{Label}
 use Rattle.ospf_types.specs.declared.label.Label.TheVariants.{Over, At, Plain}
 use Rattle.ospf_types.specs.Distances.{FirstOnly}
 use Rattle.ospf_types.proofs.Elements.{no_element, first_element, later_element, first_or_later, mapped_element, mapped_from}
-use Rattle.spf.specs.Trees.{HandsOn, Gives, first_hops, handed_on}
+use Rattle.spf.specs.Trees.{HandsOn, GivesHop, first_hops, handed_on}
 
 -- the one element of a list
 pub only_element : {X : Type 0} (x y : X) → Contains (x ∷ []) y ↔ (y ≡ x)
@@ -57,14 +57,14 @@ handed_on_is (hop.Router i a) l h = only_element (hop.Router i a) h
 
 module _ (root : ℕ) (sets : Vertex → List NextHop) (from to : Vertex) (label : Label) (h : NextHop) where
   -- what a link out of the root gives
-  pub gives_from_root : from ≡ Router root → Contains (first_hops to label) h ↔ Gives root (λ v g. Contains (sets v) g) from to label h
+  pub gives_from_root : from ≡ Router root → Contains (first_hops to label) h ↔ GivesHop root (λ v g. Contains (sets v) g) from to label h
   gives_from_root is_root = (
     λ c. inl (is_root, (first_hops_are to label h).0 c),
     λ given. elim given [ inl w ↦ (first_hops_are to label h).1 w.1 | inr w ↦ absurd (w.0 is_root) ],
   )
 
   -- what another link gives
-  pub gives_from_other : from ≢ Router root → Contains (flat_map (λ g. handed_on g label) (sets from)) h ↔ Gives root (λ v g. Contains (sets v) g) from to label h
+  pub gives_from_other : from ≢ Router root → Contains (flat_map (λ g. handed_on g label) (sets from)) h ↔ GivesHop root (λ v g. Contains (sets v) g) from to label h
   gives_from_other other = (
     λ c. let w = (contains_flat_map (λ g. handed_on g label) (sets from) h).0 c in inr (other, w.0, w.1, (handed_on_is w.0 label h).0 w.2),
     λ given. elim given [

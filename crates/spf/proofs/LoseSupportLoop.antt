@@ -6,7 +6,7 @@ use Rattle.ospf_types.specs.declared.entry.Vertex.TheVariants.{Router}
 use Rattle.ospf_types.specs.declared.label.Label.{Label}
 use Rattle.ospf_types.specs.Distances.{Links}
 use Rattle.vertex_queue.specs.VertexSet.{IsAdded}
-use Rattle.spf.specs.Trees.{AreDistances, IsLeast}
+use Rattle.spf.specs.Trees.{AreDistances, IsShortestLink}
 use Rattle.spf.specs.Repairs.{AreGone, IsSupported}
 use Rattle.spf.specs.Loops.{IsReached, AreLosingSupport, IsLost}
 use Rattle.ospf_types.proofs.Elements.{no_element}
@@ -15,7 +15,7 @@ use Rattle.spf.proofs.LostVertices.{held_at_start, held_passed, held_lost, dear_
 module _ {before after gone : Links} {root : ℕ} {had_root has_root : Type 0} {old : Vertex → Option ℕ} (were : AreDistances before root had_root old) where
   -- at the start the heads of the removed least links are suspected and stale
   pub lose_support_start : AreGone before after gone → (suspects stale : List Vertex)
-      → ((from to : Vertex) (cost : ℕ) (label : Label) → to ≢ Router root → IsLeast gone old from to cost label → Contains suspects to × Contains stale to)
+      → ((from to : Vertex) (cost : ℕ) (label : Label) → to ≢ Router root → IsShortestLink gone old from to cost label → Contains suspects to × Contains stale to)
       → ((v : Vertex) → Contains suspects v → IsReached root old v)
       → AreLosingSupport before after gone root had_root has_root old [] suspects stale
   lose_support_start are_gone suspects stale found reached = record {

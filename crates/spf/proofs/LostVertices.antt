@@ -8,7 +8,7 @@ use Rattle.ospf_types.specs.declared.entry.Vertex.TheVariants.{Router}
 use Rattle.ospf_types.specs.declared.label.Label.{Label}
 use Rattle.ospf_types.specs.Distances.{Links, TakenLink, Leads, IsPath, cost_of}
 use Rattle.vertex_queue.proofs.Elements.{cases_vertex}
-use Rattle.spf.specs.Trees.{step_to, AreLinks, EndsIn, HasPathWithin, AreDistances, IsLeast, rank}
+use Rattle.spf.specs.Trees.{step_to, AreLinks, EndsIn, HasPathWithin, AreDistances, IsShortestLink, rank}
 use Rattle.spf.specs.Repairs.{Between, AreGone, IsSupported, AreHeld, AreDear}
 use Rattle.ospf_types.proofs.Elements.{no_element}
 use Rattle.spf.proofs.Paths.{cost_of-push, one_more, ends_in, cost_before}
@@ -41,7 +41,7 @@ path_to_root link root has_root limit has = record { way = []; path = (has, refl
 module _ {before after gone : Links} {root : ℕ} {had_root : Type 0} {old : Vertex → Option ℕ} (changes : AreGone before after gone) (were : AreDistances before root had_root old) where
   -- Where nothing is lost yet, and the head of each removed least link is suspected, all are
   -- held: a vertex that is not suspected keeps a least link.
-  pub held_at_start : (suspects : List Vertex) → ((from to : Vertex) (cost : ℕ) (label : Label) → to ≢ Router root → IsLeast gone old from to cost label → Contains suspects to)
+  pub held_at_start : (suspects : List Vertex) → ((from to : Vertex) (cost : ℕ) (label : Label) → to ≢ Router root → IsShortestLink gone old from to cost label → Contains suspects to)
       → AreHeld after root old [] suspects
   held_at_start suspects suspected = record {
     held = λ to d is other.

@@ -7,9 +7,9 @@ use Rattle.ospf_types.specs.declared.entry.Vertex.TheVariants.{Router, Network}
 use Rattle.ospf_types.specs.declared.label.Label.{Label}
 use Rattle.ospf_types.specs.Distances.{Links, IsDistance}
 use Rattle.ospf_types.specs.Vertices.{vertex_cmp}
-use Rattle.vertex_graph.specs.Link.{Link}
+use Rattle.vertex_graph.specs.GraphLink.{GraphLink}
 use Rattle.vertex_graph.specs.Graphs.{GraphValue, graph_view, LinksOf, HasRoot}
-use Rattle.vertex_queue.specs.Queues.{Queue, IsFirst, rank as queue_rank}
+use Rattle.vertex_queue.specs.Queues.{Queue, IsFirstWaiting, rank as queue_rank}
 use Rattle.vertex_queue.proofs.Ranks.{first_has_least_rank}
 use Rattle.vertex_queue.specs.VertexSet.{HasNoDoubles}
 use Rattle.vertex_queue.specs.Maps.{DistanceMap}
@@ -17,8 +17,8 @@ use Rattle.vertex_queue.proofs.Counting.{no_doubles_nil, no_doubles_push}
 use Rattle.vertex_queue.proofs.Elements.{added_end, cases_vertex}
 use Rattle.vertex_queue.proofs.VertexMaps.{set_here, set_elsewhere, gone_here, gone_elsewhere}
 use Rattle.spf.specs.Trees.{AreLinks, rank}
-use Rattle.spf.specs.Repairs.{IsReset, IsOffered}
-use Rattle.spf.specs.Loops.{IsOpened, AreRelaxing, IsTaken}
+use Rattle.spf.specs.Repairs.{IsReset, IsQueuedOffer}
+use Rattle.spf.specs.Loops.{IsQueueOpened, AreRelaxing, IsVertexPopped}
 use Rattle.spf.specs.Changes.{Among, link_value}
 use Rattle.spf.specs.Offers.{OverReached, OutOf, Into, AreMade}
 use Rattle.spf.specs.Parts.{AreStarted, IsStaleNow, IsRelaxedTo}
@@ -39,11 +39,11 @@ none_queued : (v : Vertex) (k : ℕ) → get no_queue v ≡ Some k → ⊥
 none_queued v k at = let both : Some k ≡ None = sym at ∙ get-empty vertex_cmp v in cc
 
 -- the offers at the start, over links into what is lost and over added links
-abbrev AtStart : Links → ℕ → (Vertex → Option ℕ) → List Vertex → List Link → Vertex → ℕ → Type 0
+abbrev AtStart : Links → ℕ → (Vertex → Option ℕ) → List Vertex → List GraphLink → Vertex → ℕ → Type 0
 AtStart after root start lost came v e = Into after root start lost v e ⊎ OverReached root start came v e
 
-module _ {after : Links} {root : ℕ} {has_root : Type 0} {old start queue more : Vertex → Option ℕ} {lost stale wide wider : List Vertex} (came : List Link)
-    (links : (l : Link) → Contains came l → after l.from l.to l.cost l.label) (reset : IsReset root has_root old lost start)
+module _ {after : Links} {root : ℕ} {has_root : Type 0} {old start queue more : Vertex → Option ℕ} {lost stale wide wider : List Vertex} (came : List GraphLink)
+    (links : (l : GraphLink) → Contains came l → after l.from l.to l.cost l.label) (reset : IsReset root has_root old lost start)
     (into : AreMade (Into after root start lost) start (get no_queue) queue stale wide) (over : AreMade (OverReached root start came) start queue more wide wider) where
   made : AreMade (AtStart after root start lost came) start (get no_queue) more stale wider
   made = made_both {first = Into after root start lost} {second = OverReached root start came} {all = AtStart after root start lost came} into over (λ v e offer. offer) (λ v e offer. inl offer) (λ v e offer. inr offer)
@@ -52,14 +52,14 @@ module _ {after : Links} {root : ℕ} {has_root : Type 0} {old start queue more 
   over_came : (from to : Vertex) (cost : ℕ) (label : Label) (d : ℕ) → Among came from to cost label → start from ≡ Some d → to ≢ Router root → AtStart after root start lost came to (d + cost)
   over_came from to cost label d c at other = inr (link_value from to cost label, d, c, at, (refl, other, refl))
 
-  offer_at_start : (to : Vertex) (k : ℕ) → AtStart after root start lost came to k → IsOffered after root start to k
+  offer_at_start : (to : Vertex) (k : ℕ) → AtStart after root start lost came to k → IsQueuedOffer after root start to k
   offer_at_start to k (inl o) = record { from = o.0; cost = o.1; label = o.2; taken = o.5; near = o.3; tail = o.6; other = o.7; sum = o.8 }
   offer_at_start to k (inr o) =
       let l = o.0 in
       record { from = l.from; cost = l.cost; label = l.label; taken = subst (λ v. after l.from v l.cost l.label) (sym o.4.0) (links l o.2); near = o.1; tail = o.3; other = o.4.1; sum = o.4.2 }
 
   -- With both made the queue is open.
-  pub opened : IsOpened after (Among came) root lost start more wider
+  pub opened : IsQueueOpened after (Among came) root lost start more wider
   opened = record {
     into_lost = λ from to cost label d gone other taken at. elim (made.offered to (d + cost) (inl (from, cost, label, d, gone, taken, at, other, refl))) [
       | inl reached ↦ absurd (none_within (start to) (d + cost) (reset.blank to other gone) reached)
@@ -91,12 +91,12 @@ same_rank : (v : Vertex) (k : ℕ) → queue_rank v k ≡ rank v k
 same_rank (Router r) k = refl
 same_rank (Network n) k = refl
 
-module _ (queue : Queue) (v : Vertex) (k : ℕ) (first : IsFirst queue v k) where
+module _ (queue : Queue) (v : Vertex) (k : ℕ) (first : IsFirstWaiting queue v k) where
   least_first : (w : Vertex) (e : ℕ) → get queue w ≡ Some e → rank v k ≤ rank w e
   least_first w e waits = omega (arith, first_has_least_rank queue v w k e first waits, same_rank v k, same_rank w e)
 
   -- what is first is taken
-  pub taken : (link : Links) (root : ℕ) (distances new : DistanceMap) (rest more : Queue) {stale wider : List Vertex} → rest ≡ remove queue v → new ≡ insert distances v k → AreMade (OutOf link root v k) (get new) (get rest) (get more) stale wider → IsTaken link root (get distances) (get queue) (get new) (get more) stale wider v k
+  pub taken : (link : Links) (root : ℕ) (distances new : DistanceMap) (rest more : Queue) {stale wider : List Vertex} → rest ≡ remove queue v → new ≡ insert distances v k → AreMade (OutOf link root v k) (get new) (get rest) (get more) stale wider → IsVertexPopped link root (get distances) (get queue) (get new) (get more) stale wider v k
   taken link root distances new rest more rest_is new_is a = record {
     waits = first.waits;
     least = least_first;
@@ -122,20 +122,20 @@ module _ (queue : Queue) (v : Vertex) (k : ℕ) (first : IsFirst queue v k) wher
 -- ---- the whole search
 
 -- While distances are sought: what holds of them, of those that moved and of what is stale.
-pub record AreSought (g : GraphValue) (came : List Link) (start : DistanceMap) (stale : List Vertex) (distances : DistanceMap) (queue : Queue) (moved wider : List Vertex) : Type 0 where
+pub record AreSought (g : GraphValue) (came : List GraphLink) (start : DistanceMap) (stale : List Vertex) (distances : DistanceMap) (queue : Queue) (moved wider : List Vertex) : Type 0 where
   pub relaxing : AreRelaxing (LinksOf g) (Among came) g.root (HasRoot g) (get start) (get distances) (get queue) moved wider
   pub apart : HasNoDoubles moved
   pub widens : (v : Vertex) → Contains stale v → Contains wider v
   pub why : (v : Vertex) → Contains wider v → IsStaleNow g came stale moved v
 
-module _ (g : GraphValue) (came : List Link) where
+module _ (g : GraphValue) (came : List GraphLink) where
   graph_links : AreLinks (LinksOf g) g.root (HasRoot g)
   graph_links = area_links (graph_view g)
 
   -- at the start
   pub sought_at_start : {old : Vertex → Option ℕ} {stale wide wider : List Vertex} (lost cleared offered moved : List Vertex) (start : DistanceMap) (none queue more : Queue) (root : ℕ)
       → cleared ≡ lost → offered ≡ lost → none ≡ empty → moved ≡ [] → root ≡ g.root
-      → AreStarted (LinksOf g) (Among came) g.root (HasRoot g) old lost → ((l : Link) → Contains came l → LinksOf g l.from l.to l.cost l.label) → IsReset g.root (HasRoot g) old cleared (get start)
+      → AreStarted (LinksOf g) (Among came) g.root (HasRoot g) old lost → ((l : GraphLink) → Contains came l → LinksOf g l.from l.to l.cost l.label) → IsReset g.root (HasRoot g) old cleared (get start)
       → AreMade (Into (LinksOf g) g.root (get start) offered) (get start) (get none) (get queue) stale wide → AreMade (OverReached root (get start) came) (get start) (get queue) (get more) wide wider
       → AreSought g came start stale start more moved wider
   sought_at_start {old} {stale} {wide} {wider} lost cleared offered moved start none queue more root cleared_is offered_is none_is moved_is root_is s links reset_cleared into_offered over_root =
@@ -166,7 +166,7 @@ module _ (g : GraphValue) (came : List Link) where
     pub moved_most : length moved ≤ len g.ends
     moved_most = no_more g moved s.apart moved_there
 
-    module _ (v : Vertex) (k : ℕ) (first : IsFirst queue v k) where
+    module _ (v : Vertex) (k : ℕ) (first : IsFirstWaiting queue v k) where
       -- what is taken has not moved
       pub unmoved : Contains moved v → ⊥
       unmoved = fresh s.relaxing v k first.waits

@@ -9,7 +9,7 @@ use Rattle.std.proofs.lemmas.List.Elements.{Contains-append_left, Contains-push,
 use Rattle.ospf_types.specs.declared.entry.Vertex.{Vertex}
 use Rattle.ospf_types.specs.declared.entry.Vertex.TheVariants.{Router}
 use Rattle.ospf_types.specs.Distances.{Links}
-use Rattle.vertex_graph.specs.Link.{Link}
+use Rattle.vertex_graph.specs.GraphLink.{GraphLink}
 use Rattle.vertex_queue.specs.Queues.{Queue, waits_within, lessened}
 use Rattle.vertex_queue.proofs.Ranks.{lessened_here, lessened_elsewhere}
 use Rattle.vertex_queue.specs.VertexSet.{IsAdded}
@@ -17,7 +17,7 @@ use Rattle.vertex_queue.proofs.Elements.{cases_vertex}
 use Rattle.vertex_queue.proofs.VertexMaps.{set_here}
 use Rattle.spf.specs.declared.relax.Pending.{Pending}
 use Rattle.spf.specs.Changes.{link_value}
-use Rattle.spf.specs.Trees.{IsWithin}
+use Rattle.spf.specs.Trees.{IsInLimit}
 use Rattle.spf.specs.Offers.{Offers, OneOffer, OverLink, OverLinks, OverReached, OutOf, Into, AreMade}
 use Rattle.spf.proofs.QueuedDistances.{within_more}
 
@@ -38,7 +38,7 @@ module _ {X : Type 0} (xs : List X) (i : ℕ) (x : X) (within : i < length xs) (
 
 -- ---- one offer
 
-at_itself : (value : Option ℕ) (e : ℕ) → value ≡ Some e → IsWithin value e
+at_itself : (value : Option ℕ) (e : ℕ) → value ≡ Some e → IsInLimit value e
 at_itself value e is = record { number = e; is = is; most = omega arith }
 
 module _ (distance : Vertex → Option ℕ) (v : Vertex) (k : ℕ) where
@@ -47,7 +47,7 @@ module _ (distance : Vertex → Option ℕ) (v : Vertex) (k : ℕ) where
   offer_queued queue stale nearer = record {
     keeps = λ w e waits. elim (cases_vertex w v) [
       | inr other ↦ at_itself (get (lessened queue v k) w) e (lessened_elsewhere queue v w k other ∙ waits)
-      | inl same ↦ subst (λ u. IsWithin (get (lessened queue v k) u) e) (sym same) (kept_here e (ap (get queue) (sym same) ∙ waits))
+      | inl same ↦ subst (λ u. IsInLimit (get (lessened queue v k) u) e) (sym same) (kept_here e (ap (get queue) (sym same) ∙ waits))
     ];
     put = λ w e waits. elim (cases_vertex w v) [
       | inr other ↦ inl (sym (lessened_elsewhere queue v w k other) ∙ waits)
@@ -67,8 +67,8 @@ module _ (distance : Vertex → Option ℕ) (v : Vertex) (k : ℕ) where
       here : (e : ℕ) × (get (lessened queue v k) v ≡ Some e) × (e ≤ k) × ((e ≡ k) ⊎ (get queue v ≡ Some e))
       here = lessened_here queue v k
 
-      kept_here : (e : ℕ) → get queue v ≡ Some e → IsWithin (get (lessened queue v k) v) e
-      kept_here e waits = subst (λ (q : Queue). IsWithin (get q v) e) (sym (ap (λ (o : Option ℕ). if waits_within o k then queue else insert queue v k) waits)) (elim (nat_le e k) as (λ b. nat_le e k ≡ b → IsWithin (get (if b then queue else insert queue v k) v) e) [
+      kept_here : (e : ℕ) → get queue v ≡ Some e → IsInLimit (get (lessened queue v k) v) e
+      kept_here e waits = subst (λ (q : Queue). IsInLimit (get q v) e) (sym (ap (λ (o : Option ℕ). if waits_within o k then queue else insert queue v k) waits)) (elim (nat_le e k) as (λ b. nat_le e k ≡ b → IsInLimit (get (if b then queue else insert queue v k) v) e) [
         | true ↦ λ within. at_itself (get queue v) e waits
         | false ↦ λ nearer. record { number = k; is = set_here queue v k; most = grind (arith, nat_tests, nearer) }
       ] refl)
@@ -157,12 +157,12 @@ made_renamed {offers} {distance} {before} {stale} is a = subst (λ (x : Pending)
 
 module _ (root : ℕ) (distance : Vertex → Option ℕ) where
   -- what a link offers its head, which is not the root
-  pub over_link : {queue more : Vertex → Option ℕ} {stale wider : List Vertex} (l : Link) (near k : ℕ) → l.to ≢ Router root → k ≡ near + l.cost
+  pub over_link : {queue more : Vertex → Option ℕ} {stale wider : List Vertex} (l : GraphLink) (near k : ℕ) → l.to ≢ Router root → k ≡ near + l.cost
       → AreMade (OneOffer l.to k) distance queue more stale wider → AreMade (OverLink root l near) distance queue more stale wider
   over_link l near k other sum a =
       made_same {first = OneOffer l.to k} {all = OverLink root l near} a (λ v e offer. (offer.0, offer.2 ∙ sym sum)) (λ v e offer. (offer.0, subst (λ u. u ≢ Router root) (sym offer.0) other, offer.1 ∙ sum))
 
-  module _ {before queue : Vertex → Option ℕ} {stale wider : List Vertex} (links : List Link) (i : ℕ) (l : Link) (within : i < length links) (is : l ≡ get_or links i l) where
+  module _ {before queue : Vertex → Option ℕ} {stale wider : List Vertex} (links : List GraphLink) (i : ℕ) (l : GraphLink) (within : i < length links) (is : l ≡ get_or links i l) where
     -- one link more, where the tails are all at one distance
     pub over_more : {more : Vertex → Option ℕ} {widest : List Vertex} (near : ℕ)
         → AreMade (OverLinks root (take i links) near) distance before queue stale wider → AreMade (OverLink root l near) distance queue more wider widest
@@ -170,7 +170,7 @@ module _ (root : ℕ) (distance : Vertex → Option ℕ) where
     over_more near a b = made_both {first = OverLinks root (take i links) near} {second = OverLink root l near} {all = OverLinks root (take (i + 1) links) near} a b
         (λ v e offer. elim (contained_so_far links i l within is offer.0 offer.1) [
           | inl was ↦ inl (offer.0, was, offer.2)
-          | inr same ↦ inr (subst (λ (x : Link). OverLink root x near v e) (sym same) offer.2)
+          | inr same ↦ inr (subst (λ (x : GraphLink). OverLink root x near v e) (sym same) offer.2)
         ])
         (λ v e offer. (offer.0, still_contained links i l within is offer.0 offer.1, offer.2))
         (λ v e offer. (l, now_contained links i l within is, offer))
@@ -183,9 +183,9 @@ module _ (root : ℕ) (distance : Vertex → Option ℕ) where
         (λ v e offer. elim (contained_so_far links i l within is offer.0 offer.2) [
           | inl was ↦ inl (offer.0, offer.1, was, offer.3, offer.4)
           | inr same ↦
-              let both : Some near ≡ Some offer.1 = sym at ∙ ap (λ (x : Link). distance x.from) same ∙ offer.3 in
+              let both : Some near ≡ Some offer.1 = sym at ∙ ap (λ (x : GraphLink). distance x.from) same ∙ offer.3 in
               let number : offer.1 ≡ near = cc in
-              inr (subst (λ (x : Link). OverLink root x near v e) (sym same) (subst (λ n. OverLink root offer.0 n v e) number offer.4))
+              inr (subst (λ (x : GraphLink). OverLink root x near v e) (sym same) (subst (λ n. OverLink root offer.0 n v e) number offer.4))
         ])
         (λ v e offer. (offer.0, offer.1, still_contained links i l within is offer.0 offer.2, offer.3, offer.4))
         (λ v e offer. (l, near, now_contained links i l within is, at, offer))
@@ -196,7 +196,7 @@ module _ (root : ℕ) (distance : Vertex → Option ℕ) where
     unreached_more none a = made_same {first = OverReached root distance (take i links)} {all = OverReached root distance (take (i + 1) links)} a
         (λ v e offer. elim (contained_so_far links i l within is offer.0 offer.2) [
           | inl was ↦ (offer.0, offer.1, was, offer.3, offer.4)
-          | inr same ↦ let both : None ≡ Some offer.1 = sym none ∙ ap (λ (x : Link). distance x.from) same ∙ offer.3 in absurd cc
+          | inr same ↦ let both : None ≡ Some offer.1 = sym none ∙ ap (λ (x : GraphLink). distance x.from) same ∙ offer.3 in absurd cc
         ])
         (λ v e offer. (offer.0, offer.1, still_contained links i l within is offer.0 offer.2, offer.3, offer.4))
 
@@ -204,7 +204,7 @@ module _ (root : ℕ) (distance : Vertex → Option ℕ) where
 
 module _ (link : Links) (root : ℕ) {distance : Vertex → Option ℕ} where
   -- the links out of a vertex at a distance
-  pub out_made : {queue more : Vertex → Option ℕ} {stale wider : List Vertex} (links : List Link) (from : Vertex) (near : ℕ) → ((l : Link) → Contains links l ↔ ((l.from ≡ from) × link l.from l.to l.cost l.label))
+  pub out_made : {queue more : Vertex → Option ℕ} {stale wider : List Vertex} (links : List GraphLink) (from : Vertex) (near : ℕ) → ((l : GraphLink) → Contains links l ↔ ((l.from ≡ from) × link l.from l.to l.cost l.label))
       → AreMade (OverLinks root links near) distance queue more stale wider → AreMade (OutOf link root from near) distance queue more stale wider
   out_made links from near exact a = made_same {first = OverLinks root links near} {all = OutOf link root from near} a
       (λ v e offer. (link_value from v offer.0 offer.1, (exact (link_value from v offer.0 offer.1)).1 (refl, offer.2), (refl, offer.3, offer.4)))
@@ -215,8 +215,8 @@ module _ (link : Links) (root : ℕ) {distance : Vertex → Option ℕ} where
       (l.cost, l.label, subst (λ u. link u v l.cost l.label) is.0 (subst (λ u. link l.from u l.cost l.label) (sym over.0) is.1), over.1, over.2))
 
   -- the links into one vertex more
-  pub into_more : {before queue more : Vertex → Option ℕ} {stale wider widest : List Vertex} (vertices : List Vertex) (i : ℕ) (default : Vertex) (links : List Link) → i < length vertices
-      → ((l : Link) → Contains links l ↔ ((l.to ≡ get_or vertices i default) × link l.from l.to l.cost l.label))
+  pub into_more : {before queue more : Vertex → Option ℕ} {stale wider widest : List Vertex} (vertices : List Vertex) (i : ℕ) (default : Vertex) (links : List GraphLink) → i < length vertices
+      → ((l : GraphLink) → Contains links l ↔ ((l.to ≡ get_or vertices i default) × link l.from l.to l.cost l.label))
       → AreMade (Into link root distance (take i vertices)) distance before queue stale wider → AreMade (OverReached root distance links) distance queue more wider widest
       → AreMade (Into link root distance (take (i + 1) vertices)) distance before more stale widest
   into_more vertices i default links within exact a b =

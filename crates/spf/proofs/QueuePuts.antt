@@ -7,14 +7,14 @@ use Rattle.std.proofs.lemmas.List.{get_or_default}
 use Rattle.ospf_types.specs.declared.entry.Vertex.{Vertex}
 use Rattle.ospf_types.specs.declared.entry.Vertex.TheVariants.{Router}
 use Rattle.ospf_types.specs.Distances.{Links}
-use Rattle.vertex_graph.specs.Link.{Link}
+use Rattle.vertex_graph.specs.GraphLink.{GraphLink}
 use Rattle.vertex_queue.specs.Queues.{Queue, lessened}
 use Rattle.vertex_queue.proofs.Ranks.{lessened_here, lessened_elsewhere}
 use Rattle.vertex_queue.proofs.Elements.{cases_vertex}
 use Rattle.spf.specs.Changes.{link_value}
 use Rattle.spf.specs.HandedOn.{IsOfSome, IsLeastLink, ArePut, IsReachedAt, IsHeadOver, IsLeastHead}
 use Rattle.spf.specs.Loops.{IsReached}
-use Rattle.spf.specs.Trees.{IsLeast}
+use Rattle.spf.specs.Trees.{IsShortestLink}
 use Rattle.spf.proofs.OfSome.{of_none, of_more, of_all}
 
 module _ (distance : Vertex → Option ℕ) where
@@ -101,21 +101,21 @@ module _ (distance : Vertex → Option ℕ) where
   put_root root queue v is = put_none queue (IsReachedAt root distance v) (λ w due. due.1.other (due.0 ∙ is))
 
   -- the head of a least link
-  pub put_head : (root : ℕ) (queue : Queue) (l : Link) (d : ℕ) → IsLeastLink distance l → distance l.to ≡ Some d → l.to ≢ Router root → ArePut distance (IsHeadOver root distance l) (get queue) (get (lessened queue l.to d))
+  pub put_head : (root : ℕ) (queue : Queue) (l : GraphLink) (d : ℕ) → IsLeastLink distance l → distance l.to ≡ Some d → l.to ≢ Router root → ArePut distance (IsHeadOver root distance l) (get queue) (get (lessened queue l.to d))
   put_head root queue l d least at other = put_one queue l.to d (IsHeadOver root distance l) at (λ w. (
     λ due. due.1,
     λ is. (least, is, λ root_is. other (sym is ∙ root_is)),
   ))
 
   -- the heads of the least links out of a vertex
-  pub heads_put : (link : Links) (root : ℕ) (v : Vertex) (links : List Link) (queue more : Vertex → Option ℕ)
-      → ((l : Link) → Contains links l ↔ ((l.from ≡ v) × link l.from l.to l.cost l.label)) → ArePut distance (IsOfSome links (IsHeadOver root distance)) queue more → ArePut distance (IsLeastHead link root distance v) queue more
+  pub heads_put : (link : Links) (root : ℕ) (v : Vertex) (links : List GraphLink) (queue more : Vertex → Option ℕ)
+      → ((l : GraphLink) → Contains links l ↔ ((l.from ≡ v) × link l.from l.to l.cost l.label)) → ArePut distance (IsOfSome links (IsHeadOver root distance)) queue more → ArePut distance (IsLeastHead link root distance v) queue more
   heads_put link root v links queue more exact = put_same queue more (IsOfSome links (IsHeadOver root distance)) (IsLeastHead link root distance v) (λ w. (
     λ due.
         let at = (exact due.0).0 due.1 in
-        let least : IsLeast link distance due.0.from due.0.to due.0.cost due.0.label = record { taken = at.1; near = due.2.0.near; tail = due.2.0.tail; head = due.2.0.head } in
-        let from_v = subst (λ (u : Vertex). IsLeast link distance u due.0.to due.0.cost due.0.label) at.0 least in
-        ((due.0.cost, due.0.label, subst (λ (u : Vertex). IsLeast link distance v u due.0.cost due.0.label) (sym due.2.1) from_v), due.2.2),
+        let least : IsShortestLink link distance due.0.from due.0.to due.0.cost due.0.label = record { taken = at.1; near = due.2.0.near; tail = due.2.0.tail; head = due.2.0.head } in
+        let from_v = subst (λ (u : Vertex). IsShortestLink link distance u due.0.to due.0.cost due.0.label) at.0 least in
+        ((due.0.cost, due.0.label, subst (λ (u : Vertex). IsShortestLink link distance v u due.0.cost due.0.label) (sym due.2.1) from_v), due.2.2),
     λ due.
         let least = due.0.2 in
         (link_value v w due.0.0 due.0.1, (exact (link_value v w due.0.0 due.0.1)).1 (refl, least.taken), (record { near = least.near; tail = least.tail; head = least.head }, refl, due.1)),

@@ -7,19 +7,19 @@ use Rattle.ospf_types.specs.declared.entry.Vertex.TheVariants.{Router}
 use Rattle.ospf_types.specs.declared.label.Label.{Label}
 use Rattle.ospf_types.specs.Distances.{Links}
 use Rattle.vertex_queue.proofs.Elements.{cases_vertex, cases_contains}
-use Rattle.spf.specs.Trees.{AreLinks, IsWithin, HasPathWithin, AreRelaxed, AreReal, AreDistances, rank}
-use Rattle.spf.specs.Repairs.{AreHeld, IsReset, IsSet, AreMoved, AreFair, IsOffered, AreForward, IsEmptyQueue}
+use Rattle.spf.specs.Trees.{AreLinks, IsInLimit, HasPathWithin, AreRelaxed, AreReal, AreDistances, rank}
+use Rattle.spf.specs.Repairs.{AreHeld, IsReset, IsSet, AreMoved, AreFair, IsQueuedOffer, AreForward, IsEmptyQueue}
 use Rattle.ospf_types.proofs.Elements.{no_element}
 use Rattle.spf.proofs.Values.{none_within, distances_from_local}
 use Rattle.spf.proofs.Ranks.{rank_grows, rank_falls}
 use Rattle.spf.proofs.LostVertices.{path_more, path_to_root, kept_path}
 
 -- an equal value under another name
-pub within_same : (x y : Option ℕ) (limit : ℕ) → x ≡ y → IsWithin x limit → IsWithin y limit
+pub within_same : (x y : Option ℕ) (limit : ℕ) → x ≡ y → IsInLimit x limit → IsInLimit y limit
 within_same x y limit same within = record { number = within.number; is = sym same ∙ within.is; most = within.most }
 
 -- a value within a limit is within a greater one
-pub within_more : (x : Option ℕ) (low high : ℕ) → low ≤ high → IsWithin x low → IsWithin x high
+pub within_more : (x : Option ℕ) (low high : ℕ) → low ≤ high → IsInLimit x low → IsInLimit x high
 within_more x low high most within = record { number = within.number; is = within.is; most = omega (arith, within.most) }
 
 -- a reached vertex from which the search starts: the root, or one that was reached and is not lost
@@ -55,13 +55,13 @@ module _ {root : ℕ} {has_root : Type 0} {old distance : Vertex → Option ℕ}
 
 module _ {link : Links} {root : ℕ} {has_root : Type 0} where
   -- what is offered is the cost of a path, or more
-  pub offer_real : (distance : Vertex → Option ℕ) → AreReal link root has_root distance → (to : Vertex) (k : ℕ) → IsOffered link root distance to k → HasPathWithin link root has_root to k
+  pub offer_real : (distance : Vertex → Option ℕ) → AreReal link root has_root distance → (to : Vertex) (k : ℕ) → IsQueuedOffer link root distance to k → HasPathWithin link root has_root to k
   offer_real distance real to k offer =
       subst (λ n. HasPathWithin link root has_root to n) (sym offer.sum) (path_more link root has_root offer.from to offer.cost offer.near offer.label (real.real offer.from offer.near offer.tail) offer.taken offer.other)
 
   -- a queue stays real by such offers
   pub queue_real : (distance queue more : Vertex → Option ℕ) → AreReal link root has_root distance → AreReal link root has_root queue
-      → ((v : Vertex) (k : ℕ) → more v ≡ Some k → (queue v ≡ Some k) ⊎ IsOffered link root distance v k) → AreReal link root has_root more
+      → ((v : Vertex) (k : ℕ) → more v ≡ Some k → (queue v ≡ Some k) ⊎ IsQueuedOffer link root distance v k) → AreReal link root has_root more
   queue_real distance queue more real queued from = record {
     real = λ v k at. elim (from v k at) [ inl was ↦ queued.real v k was | inr offer ↦ offer_real distance real v k offer ];
   }
@@ -82,21 +82,21 @@ module _ {link : Links} {root : ℕ} {has_root : Type 0} where
 -- each link out of the vertex is offered: then the links stay fair.
 pub fair_taken : {link : Links} {root : ℕ} (distance queue new more : Vertex → Option ℕ) (v : Vertex) (k : ℕ) → AreFair link root distance queue → queue v ≡ Some k → IsSet distance new v k
     → ((d : ℕ) → distance v ≡ Some d → k ≤ d)
-    → ((w : Vertex) (e : ℕ) → w ≢ v → queue w ≡ Some e → IsWithin (more w) e)
-    → ((to : Vertex) (cost : ℕ) (label : Label) → link v to cost label → to ≢ Router root → IsWithin (new to) (k + cost) ⊎ IsWithin (more to) (k + cost))
+    → ((w : Vertex) (e : ℕ) → w ≢ v → queue w ≡ Some e → IsInLimit (more w) e)
+    → ((to : Vertex) (cost : ℕ) (label : Label) → link v to cost label → to ≢ Router root → IsInLimit (new to) (k + cost) ⊎ IsInLimit (more to) (k + cost))
     → AreFair link root new more
 fair_taken {link} {root} distance queue new more v k fair waits set nearer stays offered = record {
   fair = λ from to cost label d taken other at. elim (cases_vertex from v) [
     | inl same ↦
         let equal : Some k ≡ Some d = sym set.here ∙ ap new (sym same) ∙ at in
         let number : k ≡ d = cc in
-        subst (λ n. IsWithin (new to) (n + cost) ⊎ IsWithin (more to) (n + cost)) number (offered to cost label (subst (λ w. link w to cost label) same taken) other)
+        subst (λ n. IsInLimit (new to) (n + cost) ⊎ IsInLimit (more to) (n + cost)) number (offered to cost label (subst (λ w. link w to cost label) same taken) other)
     | inr from_other ↦ kept to (d + cost) (fair.fair from to cost label d taken other (sym (set.elsewhere from from_other) ∙ at))
   ];
 }
   where
     -- what was reached or queued within a limit is so still
-    kept : (to : Vertex) (limit : ℕ) → IsWithin (distance to) limit ⊎ IsWithin (queue to) limit → IsWithin (new to) limit ⊎ IsWithin (more to) limit
+    kept : (to : Vertex) (limit : ℕ) → IsInLimit (distance to) limit ⊎ IsInLimit (queue to) limit → IsInLimit (new to) limit ⊎ IsInLimit (more to) limit
     kept to limit c = elim (cases_vertex to v) [
       | inl same ↦ inl (record {
         number = k;

@@ -5,7 +5,7 @@ use Rattle.ospf_types.specs.declared.entry.Vertex.{Vertex}
 use Rattle.ospf_types.specs.declared.entry.Vertex.TheVariants.{Router, Network}
 use Rattle.ospf_types.specs.declared.label.Label.{Label}
 use Rattle.ospf_types.specs.Distances.{Links}
-use Rattle.spf.specs.Trees.{AreLinks, IsLeast, rank}
+use Rattle.spf.specs.Trees.{AreLinks, IsShortestLink, rank}
 
 module _ {link : Links} {root : ℕ} {has_root : Type 0} (are : AreLinks link root has_root) where
   -- Over a link to what is no nearer than its cost allows the rank grows.
@@ -39,7 +39,7 @@ module _ (distance : Vertex → Option ℕ) (P : Vertex → Type 0) where
 
   -- what holds of a reached vertex if it holds of the tails of its least links, holds of all
   pub along_least : {link : Links} {root : ℕ} {has_root : Type 0} → AreLinks link root has_root
-      → ((to : Vertex) (d : ℕ) → distance to ≡ Some d → ((from : Vertex) (cost : ℕ) (label : Label) → IsLeast link distance from to cost label → P from) → P to)
+      → ((to : Vertex) (d : ℕ) → distance to ≡ Some d → ((from : Vertex) (cost : ℕ) (label : Label) → IsShortestLink link distance from to cost label → P from) → P to)
       → (to : Vertex) (d : ℕ) → distance to ≡ Some d → P to
   along_least are step =
       by_rank (λ to d is before.

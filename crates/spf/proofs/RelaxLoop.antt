@@ -7,10 +7,10 @@ use Rattle.ospf_types.specs.declared.label.Label.{Label}
 use Rattle.ospf_types.specs.Distances.{Links}
 use Rattle.vertex_queue.specs.VertexSet.{IsAdded}
 use Rattle.vertex_queue.proofs.Elements.{cases_contains, cases_vertex}
-use Rattle.spf.specs.Trees.{AreLinks, IsWithin, AreReal, AreDistances}
+use Rattle.spf.specs.Trees.{AreLinks, IsInLimit, AreReal, AreDistances}
 use Rattle.spf.specs.Parts.{StartsAt, AreStarted}
-use Rattle.spf.specs.Repairs.{AreCome, IsReset, IsOffered, IsEmptyQueue}
-use Rattle.spf.specs.Loops.{AreLosingSupport, IsOpened, AreRelaxing, IsPut, IsTaken}
+use Rattle.spf.specs.Repairs.{AreCome, IsReset, IsQueuedOffer, IsEmptyQueue}
+use Rattle.spf.specs.Loops.{AreLosingSupport, IsQueueOpened, AreRelaxing, IsLinkQueued, IsVertexPopped}
 use Rattle.spf.proofs.Values.{root_zero, distances_relaxed}
 use Rattle.ospf_types.proofs.Elements.{no_element}
 use Rattle.spf.proofs.QueuedDistances.{Starts, AsRoot, AsKept, starts, within_same, real_at_start, offer_real, forward_at_start, moved_at_start, queue_real, real_taken, fair_taken, forward_taken, none_nearer, moved_taken, distances_at_end}
@@ -27,7 +27,7 @@ module _ {after come : Links} {root : ℕ} {has_root : Type 0} {old start : Vert
   start_real = real_at_start flag reset links s.held
 
   -- With the queue open the search begins.
-  pub relax_started : {queue : Vertex → Option ℕ} {stale : List Vertex} → IsOpened after come root lost start queue stale → AreRelaxing after come root has_root start start queue [] stale
+  pub relax_started : {queue : Vertex → Option ℕ} {stale : List Vertex} → IsQueueOpened after come root lost start queue stale → AreRelaxing after come root has_root start start queue [] stale
   relax_started {queue} {stale} o = record {
     rooted = reset.rooted;
     real = start_real;
@@ -72,7 +72,7 @@ started {before = before} {root = root} {has_root = has_root} {old = old} {start
     at_start v d (inl r) = ap start r.0 ∙ reset.rooted r.1 ∙ ap Some (sym r.2)
     at_start v d (inr k) = reset.kept v k.0 k.1 ∙ k.2
 
-    over_old : (from to : Vertex) (cost : ℕ) (label : Label) (d : ℕ) → before from to cost label → to ≢ Router root → StartsAt root has_root old lost from d → IsWithin (old to) (d + cost)
+    over_old : (from to : Vertex) (cost : ℕ) (label : Label) (d : ℕ) → before from to cost label → to ≢ Router root → StartsAt root has_root old lost from d → IsInLimit (old to) (d + cost)
     over_old from to cost label d stood other (inl r) =
         let out = links.out_of_root to cost label (subst (λ w. before w to cost label) r.0 stood) in
         (distances_relaxed were).relaxed from to cost label d stood other (ap old r.0 ∙ root_zero were out.has ∙ ap Some (sym r.2))
@@ -81,7 +81,7 @@ started {before = before} {root = root} {has_root = has_root} {old = old} {start
 -- and once the queue is open it has started
 pub relax_start : {before after gone come : Links} {root : ℕ} {had_root has_root : Type 0} {old start queue : Vertex → Option ℕ} {lost stale told : List Vertex}
     → AreLinks before root had_root → AreLinks after root has_root → has_root ⊎ (has_root → ⊥) → AreDistances before root had_root old → AreCome before after come start
-    → AreLosingSupport before after gone root had_root has_root old lost [] told → IsReset root has_root old lost start → IsOpened after come root lost start queue stale
+    → AreLosingSupport before after gone root had_root has_root old lost [] told → IsReset root has_root old lost start → IsQueueOpened after come root lost start queue stale
     → AreRelaxing after come root has_root start start queue [] stale
 relax_start links_before links flag were changes l reset o = relax_started links flag (started links_before were changes l reset) reset o
 
@@ -95,9 +95,9 @@ module _ {after come : Links} {root : ℕ} {has_root : Type 0} {start distance q
   pub relax_end : IsEmptyQueue queue → AreDistances after root has_root distance
   relax_end none = distances_at_end distance queue n.rooted none n.fair n.real
 
-  module _ (links : AreLinks after root has_root) (new more : Vertex → Option ℕ) (all wider : List Vertex) (v : Vertex) (k : ℕ) (t : IsTaken after root distance queue new more stale wider v k) (added : IsAdded moved all v) where
+  module _ (links : AreLinks after root has_root) (new more : Vertex → Option ℕ) (all wider : List Vertex) (v : Vertex) (k : ℕ) (t : IsVertexPopped after root distance queue new more stale wider v k) (added : IsAdded moved all v) where
     -- what is put is offered by the vertex that is taken
-    put_offered : (w : Vertex) (e : ℕ) → IsPut after root new v k w e → IsOffered after root new w e
+    put_offered : (w : Vertex) (e : ℕ) → IsLinkQueued after root new v k w e → IsQueuedOffer after root new w e
     put_offered w e p = record { from = v; cost = p.cost; label = p.label; taken = p.taken; near = k; tail = t.set.here; other = p.other; sum = p.sum }
 
     -- the distances stay real
@@ -105,7 +105,7 @@ module _ {after come : Links} {root : ℕ} {has_root : Type 0} {start distance q
     new_real = real_taken distance queue new v k n.real n.queued_real t.waits t.set
 
     -- what is put was not moved: no link leads nearer to what was taken
-    put_fresh : (w : Vertex) (e : ℕ) → IsPut after root new v k w e → Contains all w → ⊥
+    put_fresh : (w : Vertex) (e : ℕ) → IsLinkQueued after root new v k w e → Contains all w → ⊥
     put_fresh w e p m = elim (cases_vertex w v) [
       | inl same ↦ omega (arith, p.nearer k (ap new same ∙ t.set.here), p.sum)
       | inr other ↦ elim (added.only w m) [

@@ -10,8 +10,8 @@ use Rattle.ospf_types.specs.Distances.{Links, IsHop}
 use Rattle.vertex_queue.specs.VertexSet.{HasNoDoubles}
 use Rattle.vertex_queue.proofs.Elements.{cases_contains}
 use Rattle.spf.specs.Trees.{AreLinks, IsTree}
-use Rattle.spf.specs.Repairs.{AreGone, AreCome, AreChanges, IsReset, IsEmptyQueue, IsQueued, AreToldLost, AreOwed}
-use Rattle.spf.specs.Loops.{AreLosingSupport, AreRelaxing, AreUpdatingNextHops, AreDue}
+use Rattle.spf.specs.Repairs.{AreGone, AreCome, AreLinkUpdates, IsReset, IsEmptyQueue, IsQueued, AreToldLost, AreOwed}
+use Rattle.spf.specs.Loops.{AreLosingSupport, AreRelaxing, AreUpdatingNextHops, AreVerticesDue}
 use Rattle.spf.proofs.Settling.{right_at_start}
 use Rattle.spf.proofs.Bounds.{written_differs, lost_differs, taken_bound, written_bound}
 use Rattle.spf.proofs.Whole.{tree_unions}
@@ -65,7 +65,7 @@ module _ {before after gone come : Links} {root : ℕ} {had_root has_root : Type
 
   -- And the work of all three is bounded: what is taken from the queues, and the sets that are
   -- written, those of lost vertices that stay unreached among them.
-  module _ {begun now : Vertex → NextHop → Type 0} {again : Vertex → Option ℕ} {taken written : List Vertex} {first second heads first_out second_out : List Vertex} (changes : AreChanges before after gone come)
+  module _ {begun now : Vertex → NextHop → Type 0} {again : Vertex → Option ℕ} {taken written : List Vertex} {first second heads first_out second_out : List Vertex} (changes : AreLinkUpdates before after gone come)
       (owed : AreOwed root before after gone come had_root has_root first second heads first_out second_out)
       (h : AreUpdatingNextHops after root distance again begun now taken written) (after_tree : IsTree after root has_root distance now)
       (same : (v : Vertex) (d : ℕ) → distance v ≡ Some d → (g : NextHop) → begun v g ↔ sets v g) where
@@ -78,7 +78,7 @@ module _ {before after gone come : Links} {root : ℕ} {had_root has_root : Type
         (λ x. begun_is.1 ((equal g).0 x), λ y. (equal g).1 (begun_is.0 y))))
 
     -- what is taken from both queues
-    pub work_taken : HasNoDoubles moved → HasNoDoubles taken → AreDue after gone come lost moved written taken
+    pub work_taken : HasNoDoubles moved → HasNoDoubles taken → AreVerticesDue after gone come lost moved written taken
         → length moved + length taken ≤ 2 * (length first + length second) + (length heads + (length first_out + length second_out))
     work_taken moved_apart taken_apart due =
         taken_bound owed changes was.distances after_tree.distances l.dear (λ v c. let r = l.reached v c in (r.number, r.at)) reset n.ended n.moved_other

@@ -8,7 +8,7 @@ use Rattle.ospf_types.specs.declared.entry.Vertex.TheVariants.{Router, Network}
 use Rattle.ospf_types.specs.declared.label.Label.{Label}
 use Rattle.ospf_types.specs.Links.{IsVertexOf}
 use Rattle.ospf_types.proofs.Elements.{no_element, first_element}
-use Rattle.vertex_graph.specs.Link.{Link}
+use Rattle.vertex_graph.specs.GraphLink.{GraphLink}
 use Rattle.vertex_graph.specs.Graphs.{GraphValue, graph_view, LinksOf, HasRoot, AreLinksFrom}
 use Rattle.vertex_queue.specs.Maps.{DistanceMap}
 use Rattle.vertex_queue.proofs.Elements.{cases_vertex}
@@ -68,7 +68,7 @@ router_there g r (Router to) cost label is = (is.0, is.1, is.3)
 router_there g r (Network to) cost label is = (is.0, is.1, is.3)
 
 -- so the root is one where links lead out of it
-pub rooted_by : (g : GraphValue) (links : List Link) (v : Vertex) (none : Bool) → v ≡ Router g.root → AreLinksFrom g v links → none ≡ (length links == 0) → not none ≡ true → HasRoot g
+pub rooted_by : (g : GraphValue) (links : List GraphLink) (v : Vertex) (none : Bool) → v ≡ Router g.root → AreLinksFrom g v links → none ≡ (length links == 0) → not none ≡ true → HasRoot g
 rooted_by g [] v none is exact test some = absurd cc
 rooted_by g (l ∷ links) v none is exact test some =
     let at = (exact l).0 (first_element l links) in

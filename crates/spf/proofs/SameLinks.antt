@@ -6,7 +6,7 @@ use Rattle.ospf_types.specs.declared.entry.Vertex.{Vertex}
 use Rattle.ospf_types.specs.declared.hop.NextHop.{NextHop}
 use Rattle.ospf_types.specs.Distances.{Links, TakenLink, IsPath, IsDistance, IsHop}
 use Rattle.spf.specs.Trees.{AreLinks, HaveAddresses, AreCosts, AreDistances, IsTree}
-use Rattle.spf.specs.Repairs.{AreChanges, IsSame}
+use Rattle.spf.specs.Repairs.{AreLinkUpdates, IsSame}
 use Rattle.spf.specs.Changes.{SameLinks}
 use Rattle.spf.proofs.LostVertices.{leads_more}
 
@@ -80,7 +80,7 @@ module _ {A B : Links} (same : SameLinks A B) where
   }
 
 -- changes between links are changes between the same links
-pub changes_same : {before was after is gone come : Links} → SameLinks before was → SameLinks after is → AreChanges before after gone come → AreChanges was is gone come
+pub changes_same : {before was after is gone come : Links} → SameLinks before was → SameLinks after is → AreLinkUpdates before after gone come → AreLinkUpdates was is gone come
 changes_same same_before same_after changes = record {
   went = λ from to cost label was. elim (changes.went from to cost label ((same_before from to cost label).1 was)) [ inl stands ↦ inl ((same_after from to cost label).0 stands) | inr went ↦ inr went ];
   came = λ from to cost label is. elim (changes.came from to cost label ((same_after from to cost label).1 is)) [ inl stood ↦ inl ((same_before from to cost label).0 stood) | inr came ↦ inr came ];

@@ -9,15 +9,15 @@ use Rattle.ospf_types.specs.declared.hop.NextHop.{NextHop}
 use Rattle.ospf_types.specs.declared.label.Label.{Label}
 use Rattle.ospf_types.specs.Distances.{Links}
 use Rattle.vertex_queue.proofs.Elements.{cases_vertex, cases_contains}
-use Rattle.spf.specs.Trees.{AreLinks, AreDistances, IsLeast, IsGiven, AreUnions}
-use Rattle.spf.specs.Repairs.{AreGone, AreCome, IsReset, IsSet, AreMoved, IsEmptyQueue, IsQueued, AreToldLost, AreTold, AreRightOrQueued}
+use Rattle.spf.specs.Trees.{AreLinks, AreDistances, IsShortestLink, IsGiven, AreUnions}
+use Rattle.spf.specs.Repairs.{AreGone, AreCome, IsReset, IsSet, AreMoved, IsEmptyQueue, IsQueued, AreToldLost, AreHeadsQueued, AreRightOrQueued}
 use Rattle.spf.proofs.Values.{root_zero, distances_relaxed}
 use Rattle.spf.proofs.Hops.{gives_more}
 
 -- what one family is given over some least links, another is given over others
 pub given_more : (A B : Links) (root : ℕ) (near far : Vertex → Option ℕ) (sets more : Vertex → NextHop → Type 0) (to : Vertex) (h : NextHop)
-    → ((from : Vertex) (cost : ℕ) (label : Label) → IsLeast A near from to cost label → IsLeast B far from to cost label)
-    → ((from : Vertex) (cost : ℕ) (label : Label) → IsLeast A near from to cost label → from ≢ Router root → (g : NextHop) → sets from g → more from g)
+    → ((from : Vertex) (cost : ℕ) (label : Label) → IsShortestLink A near from to cost label → IsShortestLink B far from to cost label)
+    → ((from : Vertex) (cost : ℕ) (label : Label) → IsShortestLink A near from to cost label → from ≢ Router root → (g : NextHop) → sets from g → more from g)
     → IsGiven A root near sets to h → IsGiven B root far more to h
 given_more A B root near far sets more to h least kept given = record {
   from = given.from;
@@ -29,12 +29,12 @@ given_more A B root near far sets more to h least kept given = record {
 
 -- Where the heads of the links of the vertex that is taken become stale if they are as near, all
 -- are stale.
-pub told_taken : {after come : Links} {root : ℕ} (distance queue new more : Vertex → Option ℕ) (moved all stale wider : List Vertex) (v : Vertex) (k : ℕ) → AreTold after come root distance queue moved stale → IsSet distance new v k
+pub told_taken : {after come : Links} {root : ℕ} (distance queue new more : Vertex → Option ℕ) (moved all stale wider : List Vertex) (v : Vertex) (k : ℕ) → AreHeadsQueued after come root distance queue moved stale → IsSet distance new v k
     → ((w : Vertex) → Contains moved w → Contains all w) → Contains all v → ((w : Vertex) → Contains all w → (w ≡ v) ⊎ Contains moved w)
     → ((w : Vertex) → Contains stale w → Contains wider w)
     → ((w : Vertex) → w ≢ v → IsQueued queue w → IsQueued more w)
     → ((to : Vertex) (cost : ℕ) (label : Label) → after v to cost label → to ≢ Router root → new to ≡ Some (k + cost) → Contains wider to ⊎ (Contains all to ⊎ IsQueued more to))
-    → AreTold after come root new more all wider
+    → AreHeadsQueued after come root new more all wider
 told_taken {after} {come} {root} distance queue new more moved all stale wider v k before set grows v_in only widens stays tells = record {
   told = λ from to cost label other least cause. elim (cases_vertex to v) [
     | inl same ↦ inr (inl (subst (λ w. Contains all w) (sym same) v_in))
@@ -44,7 +44,7 @@ told_taken {after} {come} {root} distance queue new more moved all stale wider v
           let number : least.near ≡ k = cc in
           tells to cost label (subst (λ w. after w to cost label) same least.taken) other (least.head ∙ ap (λ n. Some (n + cost)) number)
       | inr from_other ↦
-          let was : IsLeast after distance from to cost label = record { taken = least.taken; near = least.near; tail = sym (set.elsewhere from from_other) ∙ least.tail; head = sym (set.elsewhere to to_other) ∙ least.head } in
+          let was : IsShortestLink after distance from to cost label = record { taken = least.taken; near = least.near; tail = sym (set.elsewhere from from_other) ∙ least.tail; head = sym (set.elsewhere to to_other) ∙ least.head } in
           elim (before.told from to cost label other was (earlier from cost label to from_other cause)) [
             | inl s ↦ inl (widens to s)
             | inr (inl m) ↦ inr (inl (grows to m))
@@ -62,7 +62,7 @@ module _ {before after gone come : Links} {root : ℕ} {had_root has_root : Type
     (are_gone : AreGone before after gone) (are_come : AreCome before after come start) (links_before : AreLinks before root had_root) (links : AreLinks after root has_root)
     (were : AreDistances before root had_root old) (are : AreDistances after root has_root distance)
     (reset : IsReset root has_root old lost start) (ended : AreMoved start distance moved)
-    (told_lost : AreToldLost after gone root old lost stale) (told : AreTold after come root distance queue moved stale) (none : IsEmptyQueue queue) where
+    (told_lost : AreToldLost after gone root old lost stale) (told : AreHeadsQueued after come root distance queue moved stale) (none : IsEmptyQueue queue) where
   -- what was not moved and is reached was not lost, and has its old distance
   unmoved : (v : Vertex) (d : ℕ) → v ≢ Router root → distance v ≡ Some d → (Contains moved v → ⊥) → (Contains lost v → ⊥) × (distance v ≡ old v)
   unmoved v d other at still =
@@ -77,7 +77,7 @@ module _ {before after gone come : Links} {root : ℕ} {had_root has_root : Type
   module _ (to : Vertex) (d : ℕ) (other : to ≢ Router root) (at : distance to ≡ Some d) (still : Contains moved to → ⊥) (fresh : Contains stale to → ⊥) where
     -- A least link of before is one after: it did not go, its tail was not lost, and a nearer tail
     -- would have moved its head.
-    pub still_least : (from : Vertex) (cost : ℕ) (label : Label) → IsLeast before old from to cost label → IsLeast after distance from to cost label
+    pub still_least : (from : Vertex) (cost : ℕ) (label : Label) → IsShortestLink before old from to cost label → IsShortestLink after distance from to cost label
     still_least from cost label least = elim (are_gone.went from to cost label least.taken) [
       | inr went ↦ absurd (fresh (told_lost.went from to cost label other (record { taken = went; near = least.near; tail = least.tail; head = least.head })))
       | inl stands ↦ record { taken = stands; near = least.near; tail = tail stands; head = head }
@@ -108,7 +108,7 @@ module _ {before after gone come : Links} {root : ℕ} {had_root has_root : Type
         ]
 
     -- A least link after is one of before: it did not come, and its tail was not moved.
-    pub was_least : (from : Vertex) (cost : ℕ) (label : Label) → IsLeast after distance from to cost label → IsLeast before old from to cost label
+    pub was_least : (from : Vertex) (cost : ℕ) (label : Label) → IsShortestLink after distance from to cost label → IsShortestLink before old from to cost label
     was_least from cost label least = record { taken = stood; near = least.near; tail = tail; head = sym (unmoved to d other at still).1 ∙ least.head }
       where
         untold : come from to cost label ⊎ Contains moved from → ⊥

@@ -13,7 +13,7 @@ use Rattle.ospf_types.specs.Distances.{Links, FirstOnly}
 use Rattle.vertex_queue.proofs.Elements.{added_front}
 use Rattle.spf.specs.Trees.{AreLinks, IsTree, IsGiven}
 use Rattle.spf.specs.Repairs.{IsReset}
-use Rattle.spf.specs.Loops.{AreLosingSupport, AreRelaxing, IsOpened, IsTaken, AreUpdatingNextHops, IsUpdated}
+use Rattle.spf.specs.Loops.{AreLosingSupport, AreRelaxing, IsQueueOpened, IsVertexPopped, AreUpdatingNextHops, IsUpdated}
 use Rattle.ospf_types.proofs.Elements.{no_element, first_element}
 use Rattle.spf.proofs.Whole.{NoLinks, no_distances, blank_tree, no_links}
 use Rattle.spf.proofs.Building.{none_went, none_lost, root_came}
@@ -93,7 +93,7 @@ reset : IsReset 0 (Unit {0}) no_distances [] start
 reset = record { rooted = λ has. refl; rootless = λ none. absurd (none tt); blank = λ v other none. absurd (no_element v none); kept = λ v other kept. unset v other }
 
 -- the link was added, and is offered
-opened : IsOpened one_link one_link 0 [] start queue []
+opened : IsQueueOpened one_link one_link 0 [] start queue []
 opened = record {
   into_lost = λ from to cost label d none. absurd (no_element to none);
   over_new = λ from to cost label d t other at.
@@ -111,7 +111,7 @@ begun : AreRelaxing one_link one_link 0 (Unit {0}) start start queue [] []
 begun = relax_start (no_links 0) links (inl tt) (blank_tree 0).distances (root_came one_link 0 (Unit {0}) one_link start (inl tt) reset (λ to cost label t. t)) (none_lost one_link 0 (Unit {0})) reset opened
 
 -- router 1 is taken
-taken : IsTaken one_link 0 start queue distance empty [] [] (Router 1) 1
+taken : IsVertexPopped one_link 0 start queue distance empty [] [] (Router 1) 1
 taken = record {
   waits = refl;
   least = λ w e at. let i = only_queued w e at in rw i.0 (rw i.1 (omega arith));

@@ -8,7 +8,7 @@ use Rattle.std.proofs.lemmas.List.{take_more}
 use Rattle.std.proofs.lemmas.List.Elements.{All-contains, Contains-push, Contains-append_left, Contains-append_cases, Contains-push_cases}
 use Rattle.ospf_types.specs.declared.entry.Vertex.{Vertex}
 use Rattle.ospf_types.proofs.Elements.{no_element}
-use Rattle.vertex_graph.specs.Link.{Link}
+use Rattle.vertex_graph.specs.GraphLink.{GraphLink}
 use Rattle.vertex_graph.specs.Graphs.{GraphValue, LinksOf, AreLinksFrom, AreLinksTo}
 use Rattle.vertex_queue.specs.VertexSet.{HasNoDoubles, IsAdded, IsWithMember}
 use Rattle.vertex_queue.specs.Maps.{DistanceMap}
@@ -18,9 +18,9 @@ use Rattle.vertex_queue.proofs.VertexMaps.{len_most}
 use Rattle.vertex_queue.proofs.VertexSets.{member_added}
 use Rattle.spf.specs.Changes.{link_value, Among}
 use Rattle.spf.specs.Loops.{IsReached}
-use Rattle.spf.specs.Parts.{IsBefore, AreLost}
+use Rattle.spf.specs.Parts.{IsRightBefore, AreLost}
 use Rattle.spf.specs.Repairs.{IsSupported}
-use Rattle.spf.specs.Suspects.{Supports, WasLeast, MaySupport, IsHead, AreToldOf, AreWithin, IsJudged, AreSuspected}
+use Rattle.spf.specs.Suspects.{Supports, WasLeast, MaySupport, IsHead, AreToldOf, AreSuspectsWithin, IsSuspectJudged, AreSuspected}
 use Rattle.spf.proofs.Before.{earlier_changes}
 use Rattle.spf.proofs.Falling.{lose_support_falls}
 use Rattle.spf.proofs.LoseSupportLoop.{lose_support_start, lose_support_passed, lose_support_lost}
@@ -38,12 +38,12 @@ member_fresh old new v fresh (inl one) is = one.2
 member_fresh old new v fresh (inr same) is = λ there. let no = same.0 in absurd cc
 
 -- a lost or suspected vertex is still stale after more became stale
-pub within_told : {Told : Vertex → Type 0} (lost stale wider suspects more : List Vertex) → AreWithin lost suspects stale → AreToldOf Told lost stale wider suspects more → AreWithin lost more wider
+pub within_told : {Told : Vertex → Type 0} (lost stale wider suspects more : List Vertex) → AreSuspectsWithin lost suspects stale → AreToldOf Told lost stale wider suspects more → AreSuspectsWithin lost more wider
 within_told lost stale wider suspects more within told v (inl gone) = told.widens v (within v (inl gone))
 within_told lost stale wider suspects more within told v (inr waits) = elim (told.suspects_only v waits) [ inl was ↦ told.widens v (within v (inr was)) | inr is ↦ (told.told v is).0 ]
 
 -- and after one that is stale was lost
-pub within_lost : (lost more suspects stale : List Vertex) (v : Vertex) → AreWithin lost suspects stale → Contains stale v → more ≡ lost ++ v ∷ [] → AreWithin more suspects stale
+pub within_lost : (lost more suspects stale : List Vertex) (v : Vertex) → AreSuspectsWithin lost suspects stale → Contains stale v → more ≡ lost ++ v ∷ [] → AreSuspectsWithin more suspects stale
 within_lost lost more suspects stale v within there pushed w (inr waits) = within w (inr waits)
 within_lost lost more suspects stale v within there pushed w (inl gone) = elim (Contains-push_cases lost v w (subst (λ (vs : List Vertex). Contains vs w) pushed gone)) [
   | inl was ↦ within w (inl was)
@@ -51,12 +51,12 @@ within_lost lost more suspects stale v within there pushed w (inl gone) = elim (
 ]
 
 -- none is lost or suspected
-pub within_none : (stale : List Vertex) → AreWithin [] [] stale
+pub within_none : (stale : List Vertex) → AreSuspectsWithin [] [] stale
 within_none stale v (inl none) = absurd (no_element v none)
 within_none stale v (inr none) = absurd (no_element v none)
 
 -- the last suspect taken out
-pub within_popped : (lost suspects rest stale : List Vertex) (v : Vertex) → suspects ≡ rest ++ v ∷ [] → AreWithin lost suspects stale → AreWithin lost rest stale × Contains stale v
+pub within_popped : (lost suspects rest stale : List Vertex) (v : Vertex) → suspects ≡ rest ++ v ∷ [] → AreSuspectsWithin lost suspects stale → AreSuspectsWithin lost rest stale × Contains stale v
 within_popped lost suspects rest stale v popped within = (
   λ w c. elim c [ inl gone ↦ within w (inl gone) | inr waits ↦ within w (inr (subst (λ (vs : List Vertex). Contains vs w) (sym popped) (Contains-append_left rest (v ∷ []) w waits))) ],
   within v (inr (subst (λ (vs : List Vertex). Contains vs v) (sym popped) (Contains-push rest v))),
@@ -125,7 +125,7 @@ told_same A B lost stale wider suspects more to from a = record {
   apart = a.apart;
 }
 
-module _ (Passes : Link → Type 0) (links : List Link) where
+module _ (Passes : GraphLink → Type 0) (links : List GraphLink) where
   -- the heads of the links up to a place
   abbrev pub HeadsBefore : ℕ → Vertex → Type 0
   HeadsBefore i = IsHead Passes (take i links)
@@ -134,22 +134,22 @@ module _ (Passes : Link → Type 0) (links : List Link) where
   pub heads_none : (v : Vertex) → HeadsBefore 0 v → ⊥
   heads_none v is = no_element is.0 is.1
 
-  module _ (i : ℕ) (l : Link) (within : i < length links) (at : get_or links i l ≡ l) where
+  module _ (i : ℕ) (l : GraphLink) (within : i < length links) (at : get_or links i l ≡ l) where
     next_is : take (i + 1) links ≡ take i links ++ l ∷ []
-    next_is = take_more links i l within ∙ ap (λ (x : Link). take i links ++ x ∷ []) at
+    next_is = take_more links i l within ∙ ap (λ (x : GraphLink). take i links ++ x ∷ []) at
 
     -- one more link has the heads of those before it, and its own if it passes
     heads_split : (v : Vertex) → HeadsBefore (i + 1) v → HeadsBefore i v ⊎ (Passes l × (l.to ≡ v))
-    heads_split v is = elim (Contains-push_cases (take i links) l is.0 (subst (λ (ls : List Link). Contains ls is.0) next_is is.1)) [
+    heads_split v is = elim (Contains-push_cases (take i links) l is.0 (subst (λ (ls : List GraphLink). Contains ls is.0) next_is is.1)) [
       | inl before ↦ inl (is.0, before, is.2, is.3)
-      | inr same ↦ inr (subst Passes (sym same) is.2, ap (λ (x : Link). x.to) same ∙ is.3)
+      | inr same ↦ inr (subst Passes (sym same) is.2, ap (λ (x : GraphLink). x.to) same ∙ is.3)
     ]
 
     heads_grow : (v : Vertex) → HeadsBefore i v → HeadsBefore (i + 1) v
-    heads_grow v is = (is.0, subst (λ (ls : List Link). Contains ls is.0) (sym next_is) (Contains-append_left (take i links) (l ∷ []) is.0 is.1), is.2, is.3)
+    heads_grow v is = (is.0, subst (λ (ls : List GraphLink). Contains ls is.0) (sym next_is) (Contains-append_left (take i links) (l ∷ []) is.0 is.1), is.2, is.3)
 
     head_here : Passes l → (v : Vertex) → l.to ≡ v → HeadsBefore (i + 1) v
-    head_here passes v is = (l, subst (λ (ls : List Link). Contains ls l) (sym next_is) (Contains-push (take i links) l), passes, is)
+    head_here passes v is = (l, subst (λ (ls : List GraphLink). Contains ls l) (sym next_is) (Contains-push (take i links) l), passes, is)
 
     -- a link that passes, and whose head becomes stale
     pub told_next : (lost stale wide wider suspects some more : List Vertex) → AreToldOf (HeadsBefore i) lost stale wide suspects some → Passes l
@@ -166,9 +166,9 @@ module _ (Passes : Link → Type 0) (links : List Link) where
 
 -- ---- whether a vertex is supported
 
-module _ (g : GraphValue) (old : Vertex → Option ℕ) (lost : List Vertex) (v : Vertex) (d : ℕ) (links : List Link) (exact : AreLinksTo g v links) where
+module _ (g : GraphValue) (old : Vertex → Option ℕ) (lost : List Vertex) (v : Vertex) (d : ℕ) (links : List GraphLink) (exact : AreLinksTo g v links) where
   -- a link into the vertex that supports it
-  pub supported_by : (l : Link) → Contains links l → Supports old lost d l → IsSupported (LinksOf g) old lost v d
+  pub supported_by : (l : GraphLink) → Contains links l → Supports old lost d l → IsSupported (LinksOf g) old lost v d
   supported_by l there s =
       let into = (exact l).0 there in
       record {
@@ -183,10 +183,10 @@ module _ (g : GraphValue) (old : Vertex → Option ℕ) (lost : List Vertex) (v 
       }
 
   -- none does, neither among those that were passed over nor among the others
-  pub unsupported : (passed others : List Link) → links ≡ passed ++ others → All (λ l. Supports old lost d l → ⊥) passed → All (λ l. Supports old lost d l → ⊥) others → IsSupported (LinksOf g) old lost v d → ⊥
+  pub unsupported : (passed others : List GraphLink) → links ≡ passed ++ others → All (λ l. Supports old lost d l → ⊥) passed → All (λ l. Supports old lost d l → ⊥) others → IsSupported (LinksOf g) old lost v d → ⊥
   unsupported passed others parts before rest s =
       let l = link_value s.from v s.cost s.label in
-      let there : Contains (passed ++ others) l = subst (λ (ls : List Link). Contains ls l) parts ((exact l).1 (refl, s.taken)) in
+      let there : Contains (passed ++ others) l = subst (λ (ls : List GraphLink). Contains ls l) parts ((exact l).1 (refl, s.taken)) in
       let supports : Supports old lost d l = (s.near, s.tail, s.kept, s.most) in
       elim (Contains-append_cases passed others l there) [
         | inl early ↦ All-contains (λ l. Supports old lost d l → ⊥) passed l before early supports
@@ -197,8 +197,8 @@ module _ (g : GraphValue) (old : Vertex → Option ℕ) (lost : List Vertex) (v 
 
 module _ (g : GraphValue) (old : Vertex → Option ℕ) (lost suspects stale : List Vertex) (v : Vertex) where
   -- one that was not lost, and is not supported, is lost
-  pub judged_lost : (more again wider : List Vertex) (fresh : Bool) (d : ℕ) (links : List Link) → (Contains lost v → ⊥) → old v ≡ Some d → (IsSupported (LinksOf g) old lost v d → ⊥) → AreLinksFrom g v links
-      → IsWithMember lost more v fresh → AreWithin more suspects stale → AreToldOf (IsHead (MaySupport g.root old d) links) more stale wider suspects again → IsJudged g old lost more suspects again stale wider v
+  pub judged_lost : (more again wider : List Vertex) (fresh : Bool) (d : ℕ) (links : List GraphLink) → (Contains lost v → ⊥) → old v ≡ Some d → (IsSupported (LinksOf g) old lost v d → ⊥) → AreLinksFrom g v links
+      → IsWithMember lost more v fresh → AreSuspectsWithin more suspects stale → AreToldOf (IsHead (MaySupport g.root old d) links) more stale wider suspects again → IsSuspectJudged g old lost more suspects again stale wider v
   judged_lost more again wider fresh d links new at not_supported exact with within told = inr (record {
     judged = record {
       unsupported = λ e is supported. not_supported (subst (λ n. IsSupported (LinksOf g) old lost v n) (sym (same_distance e is)) supported);
@@ -229,7 +229,7 @@ module _ (g : GraphValue) (old : Vertex → Option ℕ) (lost suspects stale : L
 
 -- ---- the loop
 
-module _ (g : GraphValue) (gone come : List Link) (old : Vertex → Option ℕ) (is : IsBefore g gone come old) where
+module _ (g : GraphValue) (gone come : List GraphLink) (old : Vertex → Option ℕ) (is : IsRightBefore g gone come old) where
   -- at the start the heads of the removed least links become stale
   pub suspected_at_start : (suspects stale : List Vertex) → AreToldOf (IsHead (WasLeast g.root old) gone) [] [] stale [] suspects → AreSuspected g gone come old [] suspects stale
   suspected_at_start suspects stale told = record {
@@ -262,7 +262,7 @@ module _ (g : GraphValue) (gone come : List Link) (old : Vertex → Option ℕ) 
         (get_or-append rest (v ∷ []) d i (omega (arith, less, within)) ∙ same ∙ sym (get_or-append rest (v ∷ []) d j within))
 
     -- each round keeps the invariant
-    pub suspected_next : AreSuspected g gone come old lost suspects stale → IsJudged g old lost more rest again stale wider v → AreSuspected g gone come old more again wider
+    pub suspected_next : AreSuspected g gone come old lost suspects stale → IsSuspectJudged g old lost more rest again stale wider v → AreSuspected g gone come old more again wider
     suspected_next s (inl p) =
         subst (λ (vs : List Vertex). AreSuspected g gone come old vs again wider) (sym p.lost_same)
         (subst (λ (vs : List Vertex). AreSuspected g gone come old lost vs wider) (sym p.suspects_same)
@@ -288,13 +288,13 @@ module _ (g : GraphValue) (gone come : List Link) (old : Vertex → Option ℕ) 
     }
 
 -- with no suspect left
-pub lost_at_end : (g : GraphValue) (gone come : List Link) (old : Vertex → Option ℕ) (lost stale : List Vertex) → AreSuspected g gone come old lost [] stale → AreLost g gone come old lost stale
+pub lost_at_end : (g : GraphValue) (gone come : List GraphLink) (old : Vertex → Option ℕ) (lost stale : List Vertex) → AreSuspected g gone come old lost [] stale → AreLost g gone come old lost stale
 lost_at_end g gone come old lost stale s = record { losing_support = s.losing_support; why = s.why }
 
 -- No more are lost, and no more suspected, than have a distance. So each round comes nearer to the
 -- end.
-pub suspects_fall : (g : GraphValue) (gone come : List Link) (m : DistanceMap) (lost more suspects rest again stale wider : List Vertex) (v : Vertex) → suspects ≡ rest ++ v ∷ []
-    → IsJudged g (get m) lost more rest again stale wider v → AreSuspected g gone come (get m) more again wider
+pub suspects_fall : (g : GraphValue) (gone come : List GraphLink) (m : DistanceMap) (lost more suspects rest again stale wider : List Vertex) (v : Vertex) → suspects ≡ rest ++ v ∷ []
+    → IsSuspectJudged g (get m) lost more rest again stale wider v → AreSuspected g gone come (get m) more again wider
     → (len m - length more) * (len m + 1) + length again < (len m - length lost) * (len m + 1) + length suspects
 suspects_fall g gone come m lost more suspects rest again stale wider v popped judged s =
     lose_support_falls (len m) (length lost) (length more) (length suspects) (length again)

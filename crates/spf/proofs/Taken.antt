@@ -5,7 +5,7 @@ use Rattle.ospf_types.specs.declared.entry.Vertex.{Vertex}
 use Rattle.ospf_types.specs.declared.entry.Vertex.TheVariants.{Router, Network}
 use Rattle.ospf_types.specs.Distances.{Links, TakenLink, Leads, IsPath, cost_of, IsDistance}
 use Rattle.spf.specs.Trees.{rank}
-use Rattle.spf.specs.Loops.{AreRelaxing, IsTaken}
+use Rattle.spf.specs.Loops.{AreRelaxing, IsVertexPopped}
 use Rattle.spf.proofs.Paths.{cost_of-cons}
 
 -- what has no greater rank is no farther, at another vertex too
@@ -38,5 +38,5 @@ module _ {after come : Links} {root : ℕ} {has_root : Type 0} {start distance q
         record { reached = (found.way, found.path, omega (arith, found.most, path_as_long found.way found.path)); least = path_as_long }
 
   -- So each round takes a vertex at its distance.
-  pub taken_distance : (new more : Vertex → Option ℕ) (wider : List Vertex) (v : Vertex) (k : ℕ) → IsTaken after root distance queue new more stale wider v k → IsDistance after root has_root v k
+  pub taken_distance : (new more : Vertex → Option ℕ) (wider : List Vertex) (v : Vertex) (k : ℕ) → IsVertexPopped after root distance queue new more stale wider v k → IsDistance after root has_root v k
   taken_distance new more wider v k t = queued_distance v k t.waits t.least

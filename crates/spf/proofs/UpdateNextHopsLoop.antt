@@ -10,7 +10,7 @@ use Rattle.ospf_types.specs.declared.label.Label.{Label}
 use Rattle.ospf_types.specs.Distances.{Links}
 use Rattle.vertex_queue.specs.VertexSet.{IsAdded}
 use Rattle.vertex_queue.proofs.Elements.{cases_vertex}
-use Rattle.spf.specs.Trees.{AreLinks, AreDistances, IsTree, IsLeast}
+use Rattle.spf.specs.Trees.{AreLinks, AreDistances, IsTree, IsShortestLink}
 use Rattle.spf.specs.Repairs.{IsQueued, IsEmptyQueue, AreRightOrQueued}
 use Rattle.spf.specs.Loops.{IsReached, AreUpdatingNextHops, IsPutAgain, IsUpdated}
 use Rattle.ospf_types.proofs.Elements.{no_element}
@@ -77,7 +77,7 @@ module _ {link : Links} {root : ℕ} {distance queue : Vertex → Option ℕ} {s
     stays w c = t.elsewhere w (λ same. n.apart v k (subst (λ u. Contains taken u) same c) t.waits)
 
     -- the set is written and its heads are queued, or it stays
-    heads_queued : ((to : Vertex) (cost : ℕ) (label : Label) → to ≢ Router root → IsLeast link distance v to cost label → IsQueued more to) ⊎ ((h : NextHop) → new v h ↔ now v h)
+    heads_queued : ((to : Vertex) (cost : ℕ) (label : Label) → to ≢ Router root → IsShortestLink link distance v to cost label → IsQueued more to) ⊎ ((h : NextHop) → new v h ↔ now v h)
     heads_queued = elim t.heads [ inl w ↦ inl w.1 | inr same ↦ inr same ]
 
     -- what is not written keeps its set

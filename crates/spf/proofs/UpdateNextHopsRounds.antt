@@ -14,7 +14,7 @@ use Rattle.ospf_types.specs.declared.hop.NextHop.{NextHop}
 use Rattle.ospf_types.specs.Vertices.{vertex_cmp}
 use Rattle.ospf_types.proofs.Elements.{no_element, first_element, later_element}
 use Rattle.vertex_graph.specs.Graphs.{GraphValue, LinksOf, graph_view}
-use Rattle.vertex_queue.specs.Queues.{Queue, IsFirst}
+use Rattle.vertex_queue.specs.Queues.{Queue, IsFirstWaiting}
 use Rattle.vertex_queue.specs.Queues as queue
 use Rattle.vertex_queue.proofs.Ranks.{first_has_least_rank}
 use Rattle.ospf_types.proofs.VertexOrder.{vertex_exact}
@@ -60,7 +60,7 @@ same_rank : (v : Vertex) (d : ℕ) → queue.rank v d ≡ rank v d
 same_rank (Router r) d = refl
 same_rank (Network n) d = refl
 
-least_of : (q : Queue) (v w : Vertex) (k e : ℕ) → IsFirst q v k → get q w ≡ Some e → rank v k ≤ rank w e
+least_of : (q : Queue) (v w : Vertex) (k e : ℕ) → IsFirstWaiting q v k → get q w ≡ Some e → rank v k ≤ rank w e
 least_of q v w k e first at = omega (arith, first_has_least_rank q v w k e first at, same_rank v k, same_rank w e)
 
 -- what waits once the first was taken waited before, and is another
@@ -199,7 +199,7 @@ module _ {g : GraphValue} {distance : Vertex → Option ℕ} {begun now : Vertex
     more_apart : HasNoDoubles (a.taken ++ v ∷ [])
     more_apart = no_doubles_push a.taken v a.apart not_taken
 
-  module _ {more : Queue} {new : Vertex → NextHop → Type 0} {wider : List Vertex} (v : Vertex) (k : ℕ) (first : IsFirst waiting v k) (between : Queue) (out : between ≡ remove waiting v)
+  module _ {more : Queue} {new : Vertex → NextHop → Type 0} {wider : List Vertex} (v : Vertex) (k : ℕ) (first : IsFirstWaiting waiting v k) (between : Queue) (out : between ≡ remove waiting v)
       (s : IsSettled (LinksOf g) g.root distance between more now new written wider v) where
     -- what waits between
     between_waits : (w : Vertex) (e : ℕ) → get between w ≡ Some e → (w ≢ v) × (get waiting w ≡ Some e)

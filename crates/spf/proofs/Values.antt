@@ -3,16 +3,16 @@ use Rattle.std.proofs.Common.{◌≡◌, ◌≢◌, ℕ, ◌+◌, ◌≤◌, Lis
 use Rattle.ospf_types.specs.declared.entry.Vertex.{Vertex}
 use Rattle.ospf_types.specs.declared.entry.Vertex.TheVariants.{Router}
 use Rattle.ospf_types.specs.Distances.{Links, TakenLink, Leads, IsPath, cost_of, IsDistance}
-use Rattle.spf.specs.Trees.{step_to, EndsIn, IsWithin, AreRelaxed, AreReal, AreDistances, IsLeast, HasLeast}
+use Rattle.spf.specs.Trees.{step_to, EndsIn, IsInLimit, AreRelaxed, AreReal, AreDistances, IsShortestLink, HasLeast}
 use Rattle.spf.proofs.Paths.{cost_of-cons, cost_of-push, one_more, ends_in, cost_before, beginning, same_distance}
 
 -- a value that is none is not within a limit
-pub none_within : (value : Option ℕ) (limit : ℕ) → value ≡ None → IsWithin value limit → ⊥
+pub none_within : (value : Option ℕ) (limit : ℕ) → value ≡ None → IsInLimit value limit → ⊥
 none_within value limit none within = let same : Some within.number ≡ None = sym within.is ∙ none in cc
 
 module _ (link : Links) (root : ℕ) (value : Vertex → Option ℕ) (relaxed : AreRelaxed link root value) where
   -- a way from a vertex with a value ends at one that is valued at no more than it costs
-  pub lower_bound : (from to : Vertex) (d : ℕ) (way : List TakenLink) → value from ≡ Some d → Leads link root from way to → IsWithin (value to) (d + cost_of way)
+  pub lower_bound : (from to : Vertex) (d : ℕ) (way : List TakenLink) → value from ≡ Some d → Leads link root from way to → IsInLimit (value to) (d + cost_of way)
   lower_bound from to d [] is leads = record { number = d; is = subst (λ v. value v ≡ Some d) leads is; most = omega arith }
   lower_bound from to d (step ∷ way) is leads =
       let first = relaxed.relaxed from step.to step.cost step.label d leads.0 leads.1 is in
@@ -41,10 +41,10 @@ module _ (link : Links) (root : ℕ) (has_root : Type 0) (value : Vertex → Opt
 
 module _ {link : Links} {root : ℕ} {has_root : Type 0} {value : Vertex → Option ℕ} (are : AreDistances link root has_root value) where
   -- what a path leads to has a value, at most its cost
-  pub within_path : (to : Vertex) (way : List TakenLink) → IsPath link root has_root way to → IsWithin (value to) (cost_of way)
+  pub within_path : (to : Vertex) (way : List TakenLink) → IsPath link root has_root way to → IsInLimit (value to) (cost_of way)
   within_path to way path = go (value to) refl
     where
-      go : (o : Option ℕ) → value to ≡ o → IsWithin (value to) (cost_of way)
+      go : (o : Option ℕ) → value to ≡ o → IsInLimit (value to) (cost_of way)
       go None none = absurd (are.unreached to none way path)
       go (Some d) is = record { number = d; is = is; most = (are.right to d is).least way path }
 
@@ -91,7 +91,7 @@ module _ {link : Links} {root : ℕ} {has_root : Type 0} {value : Vertex → Opt
 
   -- and the last step is a least link
   pub last_least : (to : Vertex) (way : List TakenLink) (e : EndsIn link root (Router root) way to) → has_root → IsDistance link root has_root to (cost_of way)
-      → IsLeast link value e.tail to e.cost e.label
+      → IsShortestLink link value e.tail to e.cost e.label
   last_least to way e has at = record {
     taken = e.taken;
     near = cost_of e.before;

@@ -7,7 +7,7 @@ use Rattle.ospf_types.specs.declared.entry.Vertex.TheVariants.{Router}
 use Rattle.ospf_types.specs.declared.hop.NextHop.{NextHop}
 use Rattle.ospf_types.specs.Distances.{Links, IsDistance, IsHop}
 use Rattle.spf.specs.Trees.{AreLinks, AreReal, AreDistances, AreUnions, IsTree}
-use Rattle.spf.specs.Repairs.{AreGone, AreCome, AreChanges, AreFair, IsEmptyQueue, AreRightOrQueued}
+use Rattle.spf.specs.Repairs.{AreGone, AreCome, AreLinkUpdates, AreFair, IsEmptyQueue, AreRightOrQueued}
 use Rattle.spf.proofs.Values.{value_at}
 use Rattle.spf.proofs.Hops.{hops_are_unions, hops_everywhere}
 use Rattle.spf.proofs.Settling.{given_more}
@@ -39,11 +39,11 @@ no_links root = record {
 
 module _ {before after gone come : Links} where
   -- lists that name every change name what each part of a repair needs
-  pub are_gone : AreChanges before after gone come → AreGone before after gone
+  pub are_gone : AreLinkUpdates before after gone come → AreGone before after gone
   are_gone changes = record { went = changes.went }
 
   -- and the added links, whatever has a distance at the start
-  pub are_come : AreChanges before after gone come → (start : Vertex → Option ℕ) → AreCome before after come start
+  pub are_come : AreLinkUpdates before after gone come → (start : Vertex → Option ℕ) → AreCome before after come start
   are_come changes start = record { came = λ from to cost label d taken is. changes.came from to cost label taken }
 
 module _ {link : Links} {root : ℕ} {has_root : Type 0} {distance : Vertex → Option ℕ} {hops : Vertex → NextHop → Type 0} where

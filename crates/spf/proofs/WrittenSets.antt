@@ -9,7 +9,7 @@ use Rattle.ospf_types.specs.declared.hop.NextHop.{NextHop}
 use Rattle.ospf_types.specs.declared.label.Label.{Label}
 use Rattle.ospf_types.specs.Distances.{Links}
 use Rattle.vertex_queue.proofs.Elements.{cases_vertex}
-use Rattle.spf.specs.Trees.{AreLinks, IsLeast, IsGiven, AreUnions, rank}
+use Rattle.spf.specs.Trees.{AreLinks, IsShortestLink, IsGiven, AreUnions, rank}
 use Rattle.spf.specs.Repairs.{AreForward, IsEmptyQueue, IsQueued, AreRightOrQueued}
 use Rattle.spf.proofs.Ranks.{rank_grows}
 use Rattle.spf.proofs.Settling.{given_more}
@@ -24,7 +24,7 @@ cases_queued queue v = go (queue v) refl
 
 module _ {link : Links} {root : ℕ} {has_root : Type 0} (links : AreLinks link root has_root) where
   -- a least link leads to a greater rank
-  pub least_later : (distance : Vertex → Option ℕ) (from to : Vertex) (cost : ℕ) (label : Label) (k e : ℕ) → IsLeast link distance from to cost label → distance from ≡ Some k → distance to ≡ Some e → rank from k < rank to e
+  pub least_later : (distance : Vertex → Option ℕ) (from to : Vertex) (cost : ℕ) (label : Label) (k e : ℕ) → IsShortestLink link distance from to cost label → distance from ≡ Some k → distance to ≡ Some e → rank from k < rank to e
   least_later distance from to cost label k e least at_from at_to =
       let tail : Some k ≡ Some least.near = sym at_from ∙ least.tail in
       let near : k ≡ least.near = cc in
@@ -33,7 +33,7 @@ module _ {link : Links} {root : ℕ} {has_root : Type 0} (links : AreLinks link 
       rank_grows links from to cost label k e least.taken (omega arith)
 
   -- so it does not lead back to its tail
-  pub least_elsewhere : (distance : Vertex → Option ℕ) (from to : Vertex) (cost : ℕ) (label : Label) → IsLeast link distance from to cost label → from ≢ to
+  pub least_elsewhere : (distance : Vertex → Option ℕ) (from to : Vertex) (cost : ℕ) (label : Label) → IsShortestLink link distance from to cost label → from ≢ to
   least_elsewhere distance from to cost label least same =
       let less = least_later distance from to cost label least.near (least.near + cost) least least.tail least.head in
       let equal : Some least.near ≡ Some (least.near + cost) = sym least.tail ∙ ap distance same ∙ least.head in
@@ -42,7 +42,7 @@ module _ {link : Links} {root : ℕ} {has_root : Type 0} (links : AreLinks link 
 
   -- and not to a vertex that was taken before its tail is
   pub none_again : (distance queue : Vertex → Option ℕ) (taken : List Vertex) (v done : Vertex) (k d cost : ℕ) (label : Label) → AreForward distance queue taken → queue v ≡ Some k → distance v ≡ Some k
-      → IsLeast link distance v done cost label → distance done ≡ Some d → Contains taken done → ⊥
+      → IsShortestLink link distance v done cost label → distance done ≡ Some d → Contains taken done → ⊥
   none_again distance queue taken v done k d cost label before waits at least at_done in_taken =
       omega (arith, before.forward done v d k in_taken at_done waits, least_later distance v done cost label k d least at at_done)
 
@@ -52,7 +52,7 @@ module _ {link : Links} {root : ℕ} {has_root : Type 0} (links : AreLinks link 
       → ((w : Vertex) → w ≢ v → IsQueued queue w → IsQueued more w)
       → ((h : NextHop) → new v h ↔ IsGiven link root distance sets v h)
       → ((w : Vertex) → w ≢ v → (h : NextHop) → new w h ↔ sets w h)
-      → ((to : Vertex) (cost : ℕ) (label : Label) → to ≢ Router root → IsLeast link distance v to cost label → IsQueued more to) ⊎ ((h : NextHop) → new v h ↔ sets v h)
+      → ((to : Vertex) (cost : ℕ) (label : Label) → to ≢ Router root → IsShortestLink link distance v to cost label → IsQueued more to) ⊎ ((h : NextHop) → new v h ↔ sets v h)
       → AreRightOrQueued link root distance more new
   right_written distance queue more sets new v before stays written elsewhere heads = record {
     right = λ to d at other. elim (cases_queued more to) [
@@ -67,7 +67,7 @@ module _ {link : Links} {root : ℕ} {has_root : Type 0} (links : AreLinks link 
     ];
   }
     where
-      given_same : (to : Vertex) → ((from : Vertex) (cost : ℕ) (label : Label) → IsLeast link distance from to cost label → (h : NextHop) → new from h ↔ sets from h)
+      given_same : (to : Vertex) → ((from : Vertex) (cost : ℕ) (label : Label) → IsShortestLink link distance from to cost label → (h : NextHop) → new from h ↔ sets from h)
           → (h : NextHop) → IsGiven link root distance sets to h ↔ IsGiven link root distance new to h
       given_same to same h = (
         given_more link link root distance distance sets new to h (λ from cost label least. least) (λ from cost label least not_root g. (same from cost label least g).1),
@@ -79,11 +79,11 @@ module _ {link : Links} {root : ℕ} {has_root : Type 0} (links : AreLinks link 
           let same = given_same v (λ from cost label least. elsewhere from (least_elsewhere distance from v cost label least)) h in
           (λ x. same.0 ((written h).0 x), λ given. (written h).1 (same.1 given))
 
-      tails_same : (to : Vertex) → to ≢ Router root → (IsQueued more to → ⊥) → (from : Vertex) (cost : ℕ) (label : Label) → IsLeast link distance from to cost label → (h : NextHop) → new from h ↔ sets from h
+      tails_same : (to : Vertex) → to ≢ Router root → (IsQueued more to → ⊥) → (from : Vertex) (cost : ℕ) (label : Label) → IsShortestLink link distance from to cost label → (h : NextHop) → new from h ↔ sets from h
       tails_same to other none from cost label least = elim (cases_vertex from v) [
         | inr from_other ↦ elsewhere from from_other
         | inl same ↦ elim heads [
-          | inl queued ↦ absurd (none (queued to cost label other (subst (λ w. IsLeast link distance w to cost label) same least)))
+          | inl queued ↦ absurd (none (queued to cost label other (subst (λ w. IsShortestLink link distance w to cost label) same least)))
           | inr stayed ↦ subst (λ w. (h : NextHop) → new w h ↔ sets w h) (sym same) stayed
         ]
       ]

@@ -8,7 +8,7 @@ use Rattle.ospf_types.specs.declared.label.Label.{Label}
 use Rattle.ospf_types.specs.Distances.{Links}
 use Rattle.std.specs.FinMap.{get}
 use Rattle.vertex_graph.specs.Graphs.{GraphValue, LinksOf}
-use Rattle.vertex_graph.specs.Link.{Link}
+use Rattle.vertex_graph.specs.GraphLink.{GraphLink}
 use Rattle.vertex_queue.specs.Queues.{Queue}
 use Rattle.vertex_queue.specs.VertexSet.{HasNoDoubles}
 use Rattle.vertex_queue.specs.Maps.{DistanceMap, HopMap}
@@ -16,7 +16,7 @@ use Rattle.spf.specs.Loops.{IsReached, AreUpdatingNextHops}
 use Rattle.spf.specs.Parts.{IsTakenBy, hops_of}
 use Rattle.spf.specs.Repairs.{IsQueued}
 use Rattle.spf.specs.TreeValues.{listed_hops}
-use Rattle.spf.specs.Trees.{IsLeast, IsGiven, Gives, HandsOn}
+use Rattle.spf.specs.Trees.{IsShortestLink, IsGiven, GivesHop, HandsOn}
 
 -- some element of the list has the property
 abbrev pub IsOfSome : {A B : Type 0} → List A → (A → B → Type 0) → B → Type 0
@@ -25,7 +25,7 @@ IsOfSome {A} xs P y = (x : A) × Contains xs x × P x y
 -- ---- what is given
 
 -- the head of the link is as far as its tail and the link together
-pub record IsLeastLink (distance : Vertex → Option ℕ) (l : Link) : Type 0 where
+pub record IsLeastLink (distance : Vertex → Option ℕ) (l : GraphLink) : Type 0 where
   pub near : ℕ
   pub tail : distance l.from ≡ Some near
   pub head : distance l.to ≡ Some (near + l.cost)
@@ -35,8 +35,8 @@ abbrev pub HasDistance : DistanceMap → Vertex → ℕ → Type 0
 HasDistance distances v d = get distances v ≡ Some d
 
 -- what the link gives its head, if it is a least link
-abbrev pub IsGivenOver : ℕ → (Vertex → Option ℕ) → (Vertex → NextHop → Type 0) → Link → NextHop → Type 0
-IsGivenOver root distance hops l h = IsLeastLink distance l × Gives root hops l.from l.to l.label h
+abbrev pub IsGivenOver : ℕ → (Vertex → Option ℕ) → (Vertex → NextHop → Type 0) → GraphLink → NextHop → Type 0
+IsGivenOver root distance hops l h = IsLeastLink distance l × GivesHop root hops l.from l.to l.label h
 
 -- what a link with this label passes on of a next hop
 abbrev pub IsHandedOn : Label → NextHop → NextHop → Type 0
@@ -47,7 +47,7 @@ pub record IsUnion (old new : List NextHop) (Given : NextHop → Type 0) : Type 
   pub union : (h : NextHop) → Contains new h ↔ (Contains old h ⊎ Given h)
 
 -- the set has what it had, and what the link gives its head
-abbrev pub IsUnionOver : ℕ → DistanceMap → HopMap → Link → List NextHop → List NextHop → Type 0
+abbrev pub IsUnionOver : ℕ → DistanceMap → HopMap → GraphLink → List NextHop → List NextHop → Type 0
 IsUnionOver root distances hops l old new = IsUnion old new (IsGivenOver root (get distances) (hops_of hops) l)
 
 -- the set has just what the least links of the graph into the vertex give it
@@ -80,12 +80,12 @@ abbrev pub IsReachedAt : ℕ → (Vertex → Option ℕ) → Vertex → Vertex �
 IsReachedAt root distance at v = (v ≡ at) × IsReached root distance v
 
 -- it is the head of the link, if that is a least link, and not the root
-abbrev pub IsHeadOver : ℕ → (Vertex → Option ℕ) → Link → Vertex → Type 0
+abbrev pub IsHeadOver : ℕ → (Vertex → Option ℕ) → GraphLink → Vertex → Type 0
 IsHeadOver root distance l v = IsLeastLink distance l × (v ≡ l.to) × (v ≢ Router root)
 
 -- it is the head of a least link out of the vertex, and not the root
 abbrev pub IsLeastHead : Links → ℕ → (Vertex → Option ℕ) → Vertex → Vertex → Type 0
-IsLeastHead link root distance from to = ((cost : ℕ) × (label : Label) × IsLeast link distance from to cost label) × (to ≢ Router root)
+IsLeastHead link root distance from to = ((cost : ℕ) × (label : Label) × IsShortestLink link distance from to cost label) × (to ≢ Router root)
 
 -- those of the vertices that are reached are put into the queue, but not the root
 abbrev pub AreReachedPut : ℕ → DistanceMap → List Vertex → Queue → Queue → Type 0
@@ -103,7 +103,7 @@ AreHeadsPut g distances v old new =
     ArePut (get distances) (IsLeastHead (LinksOf g) g.root (get distances) v) (get old) (get new)
 
 -- the link's head is put into the queue if that is a least link, but not the root
-abbrev pub IsHeadPut : ℕ → DistanceMap → Link → Queue → Queue → Type 0
+abbrev pub IsHeadPut : ℕ → DistanceMap → GraphLink → Queue → Queue → Type 0
 IsHeadPut root distances l old new = ArePut (get distances) (IsHeadOver root (get distances) l) (get old) (get new)
 
 -- ---- what is written

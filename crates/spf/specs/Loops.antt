@@ -7,8 +7,8 @@ use Rattle.ospf_types.specs.declared.hop.NextHop.{NextHop}
 use Rattle.ospf_types.specs.declared.label.Label.{Label}
 use Rattle.ospf_types.specs.Distances.{Links}
 use Rattle.vertex_queue.specs.VertexSet.{IsAdded}
-use Rattle.spf.specs.Trees.{IsWithin, AreReal, IsLeast, rank, IsGiven}
-use Rattle.spf.specs.Repairs.{Between, IsSupported, AreHeld, AreDear, IsSet, AreMoved, AreFair, IsOffered, AreForward, IsQueued, AreRightOrQueued, AreToldLost, AreTold, IsDue}
+use Rattle.spf.specs.Trees.{IsInLimit, AreReal, IsShortestLink, rank, IsGiven}
+use Rattle.spf.specs.Repairs.{Between, IsSupported, AreHeld, AreDear, IsSet, AreMoved, AreFair, IsQueuedOffer, AreForward, IsQueued, AreRightOrQueued, AreToldLost, AreHeadsQueued, IsDue}
 
 -- a vertex that has a value, and is not the root
 pub record IsReached (root : ℕ) (value : Vertex → Option ℕ) (v : Vertex) : Type 0 where
@@ -37,12 +37,12 @@ pub record IsLost (after : Links) (root : ℕ) (old : Vertex → Option ℕ) (lo
 
 -- The opening of the queue of distances: every link into what is lost is offered, and every added
 -- link. What is offered is nearer, and a vertex as near becomes stale.
-pub record IsOpened (after come : Links) (root : ℕ) (lost : List Vertex) (start queue : Vertex → Option ℕ) (stale : List Vertex) : Type 0 where
-  pub into_lost : (from to : Vertex) (cost : ℕ) (label : Label) (d : ℕ) → Contains lost to → to ≢ Router root → after from to cost label → start from ≡ Some d → IsWithin (queue to) (d + cost)
-  pub over_new : (from to : Vertex) (cost : ℕ) (label : Label) (d : ℕ) → come from to cost label → to ≢ Router root → start from ≡ Some d → IsWithin (start to) (d + cost) ⊎ IsWithin (queue to) (d + cost)
-  pub offered : (to : Vertex) (k : ℕ) → queue to ≡ Some k → IsOffered after root start to k
+pub record IsQueueOpened (after come : Links) (root : ℕ) (lost : List Vertex) (start queue : Vertex → Option ℕ) (stale : List Vertex) : Type 0 where
+  pub into_lost : (from to : Vertex) (cost : ℕ) (label : Label) (d : ℕ) → Contains lost to → to ≢ Router root → after from to cost label → start from ≡ Some d → IsInLimit (queue to) (d + cost)
+  pub over_new : (from to : Vertex) (cost : ℕ) (label : Label) (d : ℕ) → come from to cost label → to ≢ Router root → start from ≡ Some d → IsInLimit (start to) (d + cost) ⊎ IsInLimit (queue to) (d + cost)
+  pub offered : (to : Vertex) (k : ℕ) → queue to ≡ Some k → IsQueuedOffer after root start to k
   pub less : (v : Vertex) (k d : ℕ) → queue v ≡ Some k → start v ≡ Some d → k < d
-  pub tells : (from to : Vertex) (cost : ℕ) (label : Label) → come from to cost label → to ≢ Router root → IsLeast after start from to cost label → Contains stale to
+  pub tells : (from to : Vertex) (cost : ℕ) (label : Label) → come from to cost label → to ≢ Router root → IsShortestLink after start from to cost label → Contains stale to
 
 -- relaxing, while distances are queued
 pub record AreRelaxing (after come : Links) (root : ℕ) (has_root : Type 0) (start distance queue : Vertex → Option ℕ) (moved stale : List Vertex) : Type 0 where
@@ -56,10 +56,10 @@ pub record AreRelaxing (after come : Links) (root : ℕ) (has_root : Type 0) (st
   pub apart : (v : Vertex) (k : ℕ) → Contains moved v → queue v ≡ Some k → ⊥
   pub ended : AreMoved start distance moved
   pub moved_other : (v : Vertex) → Contains moved v → v ≢ Router root
-  pub told : AreTold after come root distance queue moved stale
+  pub told : AreHeadsQueued after come root distance queue moved stale
 
 -- what a link out of the vertex that is taken puts into the queue: only what is nearer over it
-pub record IsPut (link : Links) (root : ℕ) (distance : Vertex → Option ℕ) (from : Vertex) (k : ℕ) (to : Vertex) (e : ℕ) : Type 0 where
+pub record IsLinkQueued (link : Links) (root : ℕ) (distance : Vertex → Option ℕ) (from : Vertex) (k : ℕ) (to : Vertex) (e : ℕ) : Type 0 where
   pub cost : ℕ
   pub label : Label
   pub taken : link from to cost label
@@ -69,13 +69,13 @@ pub record IsPut (link : Links) (root : ℕ) (distance : Vertex → Option ℕ) 
 
 -- The vertex of least rank is taken from the queue and gets its distance. Each link out of it is
 -- offered, and tells its head if that is as near over it.
-pub record IsTaken (link : Links) (root : ℕ) (distance queue new more : Vertex → Option ℕ) (stale wider : List Vertex) (v : Vertex) (k : ℕ) : Type 0 where
+pub record IsVertexPopped (link : Links) (root : ℕ) (distance queue new more : Vertex → Option ℕ) (stale wider : List Vertex) (v : Vertex) (k : ℕ) : Type 0 where
   pub waits : queue v ≡ Some k
   pub least : (w : Vertex) (e : ℕ) → queue w ≡ Some e → rank v k ≤ rank w e
   pub set : IsSet distance new v k
-  pub keeps : (w : Vertex) (e : ℕ) → w ≢ v → queue w ≡ Some e → IsWithin (more w) e
-  pub put : (w : Vertex) (e : ℕ) → more w ≡ Some e → ((w ≢ v) × (queue w ≡ Some e)) ⊎ IsPut link root new v k w e
-  pub offered : (to : Vertex) (cost : ℕ) (label : Label) → link v to cost label → to ≢ Router root → IsWithin (new to) (k + cost) ⊎ IsWithin (more to) (k + cost)
+  pub keeps : (w : Vertex) (e : ℕ) → w ≢ v → queue w ≡ Some e → IsInLimit (more w) e
+  pub put : (w : Vertex) (e : ℕ) → more w ≡ Some e → ((w ≢ v) × (queue w ≡ Some e)) ⊎ IsLinkQueued link root new v k w e
+  pub offered : (to : Vertex) (cost : ℕ) (label : Label) → link v to cost label → to ≢ Router root → IsInLimit (new to) (k + cost) ⊎ IsInLimit (more to) (k + cost)
   pub widens : (w : Vertex) → Contains stale w → Contains wider w
   pub tells : (to : Vertex) (cost : ℕ) (label : Label) → link v to cost label → to ≢ Router root → new to ≡ Some (k + cost) → Contains wider to
 
@@ -94,7 +94,7 @@ pub record AreUpdatingNextHops (link : Links) (root : ℕ) (distance queue : Ver
 pub record IsPutAgain (link : Links) (root : ℕ) (distance : Vertex → Option ℕ) (from to : Vertex) (e : ℕ) : Type 0 where
   pub cost : ℕ
   pub label : Label
-  pub least : IsLeast link distance from to cost label
+  pub least : IsShortestLink link distance from to cost label
   pub other : to ≢ Router root
   pub at : distance to ≡ Some e
 
@@ -107,12 +107,12 @@ pub record IsUpdated (link : Links) (root : ℕ) (distance queue more : Vertex �
   pub elsewhere : (w : Vertex) → w ≢ v → (h : NextHop) → new w h ↔ now w h
   pub keeps : (w : Vertex) → w ≢ v → IsQueued queue w → IsQueued more w
   pub put : (w : Vertex) (e : ℕ) → more w ≡ Some e → ((w ≢ v) × (queue w ≡ Some e)) ⊎ (IsPutAgain link root distance v w e × Contains wider v)
-  pub heads : (Contains wider v × ((to : Vertex) (cost : ℕ) (label : Label) → to ≢ Router root → IsLeast link distance v to cost label → IsQueued more to)) ⊎ ((h : NextHop) → new v h ↔ now v h)
+  pub heads : (Contains wider v × ((to : Vertex) (cost : ℕ) (label : Label) → to ≢ Router root → IsShortestLink link distance v to cost label → IsQueued more to)) ⊎ ((h : NextHop) → new v h ↔ now v h)
   pub widens : (w : Vertex) → Contains written w → Contains wider w
   pub writes : (w : Vertex) → Contains wider w → Contains written w ⊎ ((w ≡ v) × (((h : NextHop) → new v h ↔ now v h) → ⊥))
 
 -- each vertex of the list is due
-pub record AreDue (after gone come : Links) (lost moved written vertices : List Vertex) : Type 0 where
+pub record AreVerticesDue (after gone come : Links) (lost moved written vertices : List Vertex) : Type 0 where
   pub due : (v : Vertex) → Contains vertices v → IsDue after gone come lost moved written v
 
 -- and so is each that is queued

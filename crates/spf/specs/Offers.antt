@@ -6,11 +6,11 @@ use Rattle.ospf_types.specs.declared.entry.Vertex.{Vertex}
 use Rattle.ospf_types.specs.declared.entry.Vertex.TheVariants.{Router}
 use Rattle.ospf_types.specs.declared.label.Label.{Label}
 use Rattle.ospf_types.specs.Distances.{Links}
-use Rattle.vertex_graph.specs.Link.{Link}
+use Rattle.vertex_graph.specs.GraphLink.{GraphLink}
 use Rattle.vertex_graph.specs.Graphs.{GraphValue, LinksOf}
 use Rattle.vertex_queue.specs.Maps.{DistanceMap}
 use Rattle.spf.specs.declared.relax.Pending.{Pending}
-use Rattle.spf.specs.Trees.{IsWithin}
+use Rattle.spf.specs.Trees.{IsInLimit}
 
 -- vertices, each with a distance
 abbrev pub Offers : Type 1
@@ -21,16 +21,16 @@ abbrev pub OneOffer : Vertex → ℕ → Offers
 OneOffer v k to e = (to ≡ v) × (e ≡ k)
 
 -- what a link offers its head, where its tail has this distance; the root is offered nothing
-abbrev pub OverLink : ℕ → Link → ℕ → Offers
+abbrev pub OverLink : ℕ → GraphLink → ℕ → Offers
 OverLink root l near to e = (to ≡ l.to) × (to ≢ Router root) × (e ≡ near + l.cost)
 
 -- what links offer whose tails all have this distance
-abbrev pub OverLinks : ℕ → List Link → ℕ → Offers
-OverLinks root links near to e = (l : Link) × Contains links l × OverLink root l near to e
+abbrev pub OverLinks : ℕ → List GraphLink → ℕ → Offers
+OverLinks root links near to e = (l : GraphLink) × Contains links l × OverLink root l near to e
 
 -- what links offer where their tails are reached
-abbrev pub OverReached : ℕ → (Vertex → Option ℕ) → List Link → Offers
-OverReached root distance links to e = (l : Link) × (near : ℕ) × Contains links l × (distance l.from ≡ Some near) × OverLink root l near to e
+abbrev pub OverReached : ℕ → (Vertex → Option ℕ) → List GraphLink → Offers
+OverReached root distance links to e = (l : GraphLink) × (near : ℕ) × Contains links l × (distance l.from ≡ Some near) × OverLink root l near to e
 
 -- what is offered over a relation of links out of one vertex
 abbrev pub OutOf : Links → ℕ → Vertex → ℕ → Offers
@@ -43,9 +43,9 @@ Into link root distance vertices to e = (from : Vertex) × (cost : ℕ) × (labe
 -- The offers were made: what is nearer is queued, and of each vertex the nearest; what is as near
 -- makes its vertex stale.
 pub record AreMade (offers : Offers) (distance queue more : Vertex → Option ℕ) (stale wider : List Vertex) : Type 0 where
-  pub keeps : (v : Vertex) (e : ℕ) → queue v ≡ Some e → IsWithin (more v) e
+  pub keeps : (v : Vertex) (e : ℕ) → queue v ≡ Some e → IsInLimit (more v) e
   pub put : (v : Vertex) (e : ℕ) → more v ≡ Some e → (queue v ≡ Some e) ⊎ (offers v e × ((d : ℕ) → distance v ≡ Some d → e < d))
-  pub offered : (v : Vertex) (e : ℕ) → offers v e → IsWithin (distance v) e ⊎ IsWithin (more v) e
+  pub offered : (v : Vertex) (e : ℕ) → offers v e → IsInLimit (distance v) e ⊎ IsInLimit (more v) e
   pub widens : (v : Vertex) → Contains stale v → Contains wider v
   pub tells : (v : Vertex) (e : ℕ) → offers v e → distance v ≡ Some e → Contains wider v
   pub why : (v : Vertex) → Contains wider v → Contains stale v ⊎ ((e : ℕ) × offers v e × (distance v ≡ Some e))
@@ -60,7 +60,7 @@ AreMadeAt offers v far old new =
     (distance : Vertex → Option ℕ) → distance v ≡ far → AreMade offers distance (get old.queue) (get new.queue) old.stale new.stale
 
 -- what these links offer where their tails have a distance
-abbrev pub OverReachedIn : ℕ → DistanceMap → List Link → Offers
+abbrev pub OverReachedIn : ℕ → DistanceMap → List GraphLink → Offers
 OverReachedIn root distances links = OverReached root (get distances) links
 
 -- what the links of the graph out of a vertex at the distance offer
@@ -72,8 +72,8 @@ abbrev pub IntoIn : GraphValue → DistanceMap → List Vertex → Offers
 IntoIn g distances vertices = Into (LinksOf g) g.root (get distances) vertices
 
 -- the head of each link is this far
-abbrev pub AreHeadsAt : DistanceMap → List Link → Option ℕ → Type 0
-AreHeadsAt distances links far = (l : Link) → Contains links l → get distances l.to ≡ far
+abbrev pub AreHeadsAt : DistanceMap → List GraphLink → Option ℕ → Type 0
+AreHeadsAt distances links far = (l : GraphLink) → Contains links l → get distances l.to ≡ far
 
 -- what is lost has no distance, the others keep theirs
 pub record IsCleared (old : Vertex → Option ℕ) (lost : List Vertex) (new : Vertex → Option ℕ) : Type 0 where

@@ -8,7 +8,7 @@ use Rattle.ospf_types.specs.declared.entry.Vertex.TheVariants.{Router}
 use Rattle.ospf_types.specs.declared.hop.NextHop.{NextHop}
 use Rattle.ospf_types.specs.declared.label.Label.{Label}
 use Rattle.ospf_types.specs.Distances.{Links}
-use Rattle.vertex_graph.specs.Link.{Link}
+use Rattle.vertex_graph.specs.GraphLink.{GraphLink}
 use Rattle.vertex_graph.specs.Graphs.{GraphValue, LinksOf, HasRoot}
 use Rattle.vertex_queue.specs.Maps.{DistanceMap, HopMap}
 use Rattle.vertex_queue.specs.VertexSet.{HasNoDoubles}
@@ -18,7 +18,7 @@ use Rattle.spf.specs.declared.update_next_hops.Relaxed.{Relaxed}
 use Rattle.spf.specs.Changes.{Among, Earlier}
 use Rattle.spf.specs.Loops.{AreLosingSupport, AreRelaxing, IsReached}
 use Rattle.spf.specs.Repairs.{AreHeld, IsReset}
-use Rattle.spf.specs.Trees.{AreLinks, AreDistances, IsGiven, IsTree, IsWithin}
+use Rattle.spf.specs.Trees.{AreLinks, AreDistances, IsGiven, IsTree, IsInLimit}
 
 -- the next hops of each vertex
 abbrev pub hops_of : HopMap → Vertex → NextHop → Type 0
@@ -33,39 +33,39 @@ abbrev pub HadRoot : ℕ → (Vertex → Option ℕ) → Type 0
 HadRoot root old = old (Router root) ≡ Some 0
 
 -- the links before the changes that are listed
-abbrev pub LinksBefore : GraphValue → List Link → List Link → Links
+abbrev pub LinksBefore : GraphValue → List GraphLink → List GraphLink → Links
 LinksBefore g gone come = Earlier (LinksOf g) gone come
 
 -- each of these is a link of the graph
-abbrev pub AreLinksOfGraph : GraphValue → List Link → Type 0
-AreLinksOfGraph g links = (l : Link) → Contains links l → LinksOf g l.from l.to l.cost l.label
+abbrev pub AreLinksOfGraph : GraphValue → List GraphLink → Type 0
+AreLinksOfGraph g links = (l : GraphLink) → Contains links l → LinksOf g l.from l.to l.cost l.label
 
 -- The distances are right for the links before, and the added links are links after.
-pub record IsBefore (g : GraphValue) (gone come : List Link) (old : Vertex → Option ℕ) : Type 0 where
+pub record IsRightBefore (g : GraphValue) (gone come : List GraphLink) (old : Vertex → Option ℕ) : Type 0 where
   pub links : AreLinks (LinksBefore g gone come) g.root (HadRoot g.root old)
   pub distances : AreDistances (LinksBefore g gone come) g.root (HadRoot g.root old) old
-  pub came : (l : Link) → Contains come l → LinksOf g l.from l.to l.cost l.label
+  pub came : (l : GraphLink) → Contains come l → LinksOf g l.from l.to l.cost l.label
 
 -- the distances are right for the links before these were removed and added
-abbrev pub AreBefore : GraphValue → List Link → List Link → DistanceMap → Type 0
-AreBefore g gone come distances = IsBefore g gone come (get distances)
+abbrev pub AreBefore : GraphValue → List GraphLink → List GraphLink → DistanceMap → Type 0
+AreBefore g gone come distances = IsRightBefore g gone come (get distances)
 
 -- ---- who loses its distance
 
 -- why a vertex is stale: it is the head of a removed link, or of a link out of a vertex that is
 -- lost
-abbrev pub IsStaleBy : GraphValue → List Link → List Vertex → Vertex → Type 0
+abbrev pub IsStaleBy : GraphValue → List GraphLink → List Vertex → Vertex → Type 0
 IsStaleBy g gone lost to =
     ((from : Vertex) × (cost : ℕ) × (label : Label) × Among gone from to cost label)
     ⊎ ((from : Vertex) × (cost : ℕ) × (label : Label) × LinksOf g from to cost label × Contains lost from)
 
 -- what losing support leaves
-pub record AreLost (g : GraphValue) (gone come : List Link) (old : Vertex → Option ℕ) (lost stale : List Vertex) : Type 0 where
+pub record AreLost (g : GraphValue) (gone come : List GraphLink) (old : Vertex → Option ℕ) (lost stale : List Vertex) : Type 0 where
   pub losing_support : AreLosingSupport (LinksBefore g gone come) (LinksOf g) (Among gone) g.root (HadRoot g.root old) (HasRoot g) old lost [] stale
   pub why : (v : Vertex) → Contains stale v → IsStaleBy g gone lost v
 
 -- what the links that were removed and added take from these distances
-abbrev pub AreLostBy : GraphValue → List Link → List Link → DistanceMap → Search → Type 0
+abbrev pub AreLostBy : GraphValue → List GraphLink → List GraphLink → DistanceMap → Search → Type 0
 AreLostBy g gone come distances search = AreLost g gone come (get distances) search.lost search.pending.stale
 
 -- ---- the distances after
@@ -81,10 +81,10 @@ pub record AreStarted (after come : Links) (root : ℕ) (has_root : Type 0) (old
   pub held : AreHeld after root old lost []
   pub reached : (v : Vertex) → Contains lost v → IsReached root old v
   pub fair : (from to : Vertex) (cost : ℕ) (label : Label) (d : ℕ) → after from to cost label → to ≢ Router root → StartsAt root has_root old lost from d
-      → come from to cost label ⊎ (Contains lost to ⊎ IsWithin (old to) (d + cost))
+      → come from to cost label ⊎ (Contains lost to ⊎ IsInLimit (old to) (d + cost))
 
 -- relaxing starts from these distances, without what is lost
-abbrev pub AreReadyToRelax : GraphValue → List Link → DistanceMap → List Vertex → Type 0
+abbrev pub AreReadyToRelax : GraphValue → List GraphLink → DistanceMap → List Vertex → Type 0
 AreReadyToRelax g come distances lost = AreStarted (LinksOf g) (Among come) g.root (HasRoot g) (get distances) lost
 
 -- the distances from which those after are sought in the graph
@@ -93,7 +93,7 @@ AreReset g old lost new = IsReset g.root (HasRoot g) (get old) lost (get new)
 
 -- why a vertex is stale once distances are relaxed: it was before, it is the head of an added link,
 -- or of a link out of a vertex that moved
-abbrev pub IsStaleNow : GraphValue → List Link → List Vertex → List Vertex → Vertex → Type 0
+abbrev pub IsStaleNow : GraphValue → List GraphLink → List Vertex → List Vertex → Vertex → Type 0
 IsStaleNow g come stale moved to =
     Contains stale to
     ⊎ (((from : Vertex) × (cost : ℕ) × (label : Label) × Among come from to cost label)
@@ -101,7 +101,7 @@ IsStaleNow g come stale moved to =
 
 -- what relaxing leaves: the distances after, reached from those at its start, where what was lost
 -- is taken out
-pub record IsRelaxedTo (g : GraphValue) (come : List Link) (old distance : Vertex → Option ℕ) (lost stale wider moved : List Vertex) : Type 0 where
+pub record IsRelaxedTo (g : GraphValue) (come : List GraphLink) (old distance : Vertex → Option ℕ) (lost stale wider moved : List Vertex) : Type 0 where
   pub start : DistanceMap
   pub reset : IsReset g.root (HasRoot g) old lost (get start)
   pub relaxing : AreRelaxing (LinksOf g) (Among come) g.root (HasRoot g) (get start) distance nothing_queued moved wider
@@ -111,7 +111,7 @@ pub record IsRelaxedTo (g : GraphValue) (come : List Link) (old distance : Verte
 
 -- relaxing leads from the old distances to the new ones, with what is lost, what waits before and
 -- after, and what it moved
-abbrev pub IsRelaxed : GraphValue → List Link → DistanceMap → DistanceMap → List Vertex → Pending → Pending → List Vertex → Type 0
+abbrev pub IsRelaxed : GraphValue → List GraphLink → DistanceMap → DistanceMap → List Vertex → Pending → Pending → List Vertex → Type 0
 IsRelaxed g come old new lost before after moved = IsRelaxedTo g come (get old) (get new) lost before.stale after.stale moved
 
 -- ---- the next hops after

@@ -6,7 +6,7 @@ use Rattle.ospf_types.specs.declared.entry.Vertex.TheVariants.{Router}
 use Rattle.ospf_types.specs.declared.hop.NextHop.{NextHop}
 use Rattle.ospf_types.specs.declared.label.Label.{Label}
 use Rattle.ospf_types.specs.Distances.{Links, TakenLink, IsPath, cost_of, IsDistance, IsHop}
-use Rattle.spf.specs.Trees.{IsWithin, IsLeast, rank, IsGiven}
+use Rattle.spf.specs.Trees.{IsInLimit, IsShortestLink, rank, IsGiven}
 
 -- the links that are there both before and after
 abbrev pub Between : Links → Links → Links
@@ -22,7 +22,7 @@ pub record AreCome (before after come : Links) (start : Vertex → Option ℕ) :
 
 -- Each removed link is among those gone, and each added link among those come. To name more does no
 -- harm.
-pub record AreChanges (before after gone come : Links) : Type 0 where
+pub record AreLinkUpdates (before after gone come : Links) : Type 0 where
   pub went : (from to : Vertex) (cost : ℕ) (label : Label) → before from to cost label → after from to cost label ⊎ gone from to cost label
   pub came : (from to : Vertex) (cost : ℕ) (label : Label) → after from to cost label → before from to cost label ⊎ come from to cost label
 
@@ -70,10 +70,10 @@ pub record AreMoved (start distance : Vertex → Option ℕ) (moved : List Verte
 -- over that link
 pub record AreFair (link : Links) (root : ℕ) (distance queue : Vertex → Option ℕ) : Type 0 where
   pub fair : (from to : Vertex) (cost : ℕ) (label : Label) (d : ℕ) → link from to cost label → to ≢ Router root → distance from ≡ Some d
-      → IsWithin (distance to) (d + cost) ⊎ IsWithin (queue to) (d + cost)
+      → IsInLimit (distance to) (d + cost) ⊎ IsInLimit (queue to) (d + cost)
 
 -- what is queued is offered over a link from a reached vertex
-pub record IsOffered (link : Links) (root : ℕ) (distance : Vertex → Option ℕ) (to : Vertex) (k : ℕ) : Type 0 where
+pub record IsQueuedOffer (link : Links) (root : ℕ) (distance : Vertex → Option ℕ) (to : Vertex) (k : ℕ) : Type 0 where
   pub from : Vertex
   pub cost : ℕ
   pub label : Label
@@ -102,13 +102,13 @@ pub record AreRightOrQueued (link : Links) (root : ℕ) (distance queue : Vertex
 -- The heads of the removed least links are stale, and so are those that what is lost might have
 -- reached over a link after.
 pub record AreToldLost (after gone : Links) (root : ℕ) (old : Vertex → Option ℕ) (lost stale : List Vertex) : Type 0 where
-  pub went : (from to : Vertex) (cost : ℕ) (label : Label) → to ≢ Router root → IsLeast gone old from to cost label → Contains stale to
+  pub went : (from to : Vertex) (cost : ℕ) (label : Label) → to ≢ Router root → IsShortestLink gone old from to cost label → Contains stale to
   pub led : (from to : Vertex) (cost : ℕ) (label : Label) (d e : ℕ) → Contains lost from → after from to cost label → to ≢ Router root → old from ≡ Some d → old to ≡ Some e → d + cost ≤ e → Contains stale to
 
 -- The head of each added least link, or that leads out of a moved vertex, is stale, moved or
 -- queued.
-pub record AreTold (after come : Links) (root : ℕ) (distance queue : Vertex → Option ℕ) (moved stale : List Vertex) : Type 0 where
-  pub told : (from to : Vertex) (cost : ℕ) (label : Label) → to ≢ Router root → IsLeast after distance from to cost label → come from to cost label ⊎ Contains moved from
+pub record AreHeadsQueued (after come : Links) (root : ℕ) (distance queue : Vertex → Option ℕ) (moved stale : List Vertex) : Type 0 where
+  pub told : (from to : Vertex) (cost : ℕ) (label : Label) → to ≢ Router root → IsShortestLink after distance from to cost label → come from to cost label ⊎ Contains moved from
       → Contains stale to ⊎ (Contains moved to ⊎ IsQueued queue to)
 
 -- over both links the vertex has the same distance and the same next hops

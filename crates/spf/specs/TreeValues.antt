@@ -6,7 +6,7 @@ use Rattle.ospf_types.specs.declared.entry.Vertex.{Vertex}
 use Rattle.ospf_types.specs.declared.entry.Vertex.TheVariants.{Router}
 use Rattle.ospf_types.specs.declared.hop.NextHop.{NextHop}
 use Rattle.ospf_types.specs.Vertices.{vertex_cmp}
-use Rattle.vertex_graph.specs.Link.{Link}
+use Rattle.vertex_graph.specs.GraphLink.{GraphLink}
 use Rattle.vertex_graph.specs.Graphs.{GraphValue, LinksOf, HasRoot}
 use Rattle.vertex_queue.specs.Differing.{IsNearer}
 use Rattle.vertex_queue.specs.VertexSet.{HasNoDoubles}
@@ -39,20 +39,20 @@ pub record IsTreeOf (g : GraphValue) (t : TreeValue) : Type 0 where
 
 -- The tree is right for the links before the changes that are listed, and the added links are links
 -- of the graph.
-pub record IsTreeBefore (g : GraphValue) (gone come : List Link) (t : TreeValue) : Type 0 where
+pub record IsTreeBefore (g : GraphValue) (gone come : List GraphLink) (t : TreeValue) : Type 0 where
   pub fresh : t.spent ≡ false
   pub links : AreLinks (LinksBefore g gone come) g.root (HadRoot g.root (get t.distances))
   pub tree : IsTree (LinksBefore g gone come) g.root (HadRoot g.root (get t.distances)) (get t.distances) (hops_of t.hops)
-  pub came : (l : Link) → Contains come l → LinksOf g l.from l.to l.cost l.label
+  pub came : (l : GraphLink) → Contains come l → LinksOf g l.from l.to l.cost l.label
 
 -- A repair is begun: the tree is right before the changes, and what they take is known.
-pub record IsBegun (g : GraphValue) (gone come : List Link) (t : TreeValue) (lost stale : List Vertex) : Type 0 where
+pub record IsBegun (g : GraphValue) (gone come : List GraphLink) (t : TreeValue) (lost stale : List Vertex) : Type 0 where
   pub before : IsTreeBefore g gone come t
   pub losses : AreLost g gone come (get t.distances) lost stale
 
 -- a repair is begun for some removed links
-abbrev pub IsBegunWith : GraphValue → List Link → TreeValue → Search → Type 0
-IsBegunWith g come t search = (gone : List Link) × IsBegun g gone come t search.lost search.pending.stale
+abbrev pub IsBegunWith : GraphValue → List GraphLink → TreeValue → Search → Type 0
+IsBegunWith g come t search = (gone : List GraphLink) × IsBegun g gone come t search.lost search.pending.stale
 
 -- the vertex has another distance or other next hops
 abbrev pub Differs : TreeValue → TreeValue → Vertex → Type 0
@@ -60,8 +60,8 @@ Differs old new v = ((get new.distances v ≡ get old.distances v) × ((h : Next
 
 -- why a vertex differs: it is the root or lost its distance, and has another than before; it is
 -- nearer; or its next hops were written
-abbrev pub IsChangedBy : ℕ → TreeValue → TreeValue → List Vertex → List Vertex → List Vertex → Vertex → Type 0
-IsChangedBy root old new lost moved written v =
+abbrev pub IsVertexChangedBy : ℕ → TreeValue → TreeValue → List Vertex → List Vertex → List Vertex → Vertex → Type 0
+IsVertexChangedBy root old new lost moved written v =
     (Contains (Router root ∷ lost) v × (get new.distances v ≢ get old.distances v))
     ⊎ (IsNearer moved lost v ⊎ Contains written v)
 
@@ -77,7 +77,7 @@ AreOthersKept old new = (v : Vertex) → (Contains new.changed v → ⊥)
 
 -- The work is bounded by what differs: for all lists of the vertices that differ, of the heads of
 -- the links that differ, and of the heads of the links out of the vertices that differ.
-pub record IsBounded (g : GraphValue) (gone come : List Link) (old : TreeValue) (taken hop_sets : ℕ) : Type 0 where
+pub record IsBounded (g : GraphValue) (gone come : List GraphLink) (old : TreeValue) (taken hop_sets : ℕ) : Type 0 where
   pub taken_most : (first second heads first_out second_out : List Vertex)
       → AreOwed g.root (LinksBefore g gone come) (LinksOf g) (Among gone) (Among come) (HadRoot g.root (get old.distances)) (HasRoot g) first second heads first_out second_out
       → taken ≤ 2 * (length first + length second) + (length heads + (length first_out + length second_out))
@@ -86,11 +86,11 @@ pub record IsBounded (g : GraphValue) (gone come : List Link) (old : TreeValue) 
       → hop_sets ≤ length first + length second
 
 -- the work of a repair, counted, is bounded by what differs
-abbrev pub IsBoundedBy : GraphValue → List Link → List Link → TreeValue → Touched → Type 0
+abbrev pub IsBoundedBy : GraphValue → List GraphLink → List GraphLink → TreeValue → Touched → Type 0
 IsBoundedBy g gone come old touched = IsBounded g gone come old touched.taken touched.hop_sets
 
 -- there was no work, unless some link was removed or added
-abbrev pub IsIdleUnless : List Link → List Link → Touched → Type 0
+abbrev pub IsIdleUnless : List GraphLink → List GraphLink → Touched → Type 0
 IsIdleUnless gone come touched = gone ≡ [] → come ≡ [] → touched ≡ no_work
 
 -- a vertex other than the root that is reached
@@ -102,8 +102,8 @@ abbrev pub HasOtherHops : TreeValue → TreeValue → Vertex → Type 0
 HasOtherHops old new v = ((h : NextHop) → hops_of new.hops v h ↔ hops_of old.hops v h) → ⊥
 
 -- its next hops are written: they are others than before, or the vertex is reached no more
-abbrev pub IsWritten : GraphValue → TreeValue → TreeValue → Vertex → Type 0
-IsWritten g old new v = HasOtherHops old new v ⊎ (IsReachedIn g old v × (get new.distances v ≡ None))
+abbrev pub IsHopSetWritten : GraphValue → TreeValue → TreeValue → Vertex → Type 0
+IsHopSetWritten g old new v = HasOtherHops old new v ⊎ (IsReachedIn g old v × (get new.distances v ≡ None))
 
 -- And it is what differs.
 -- The number taken is at least the number of vertices reached at another distance than before, plus
@@ -117,7 +117,7 @@ pub record IsWorkDone (g : GraphValue) (old new : TreeValue) (taken hop_sets : �
   pub taken_twice_most : (reached : List Vertex) → ((v : Vertex) → IsReachedIn g new v → Contains reached v) → taken ≤ 2 * length reached
   pub written : List Vertex
   pub written_apart : HasNoDoubles written
-  pub written_exact : (v : Vertex) → Contains written v ↔ IsWritten g old new v
+  pub written_exact : (v : Vertex) → Contains written v ↔ IsHopSetWritten g old new v
   pub sets_are : hop_sets ≡ length written
 
 -- the work of a repair, counted
@@ -139,17 +139,17 @@ IsBuildWork g t touched = IsWorkForAll g t touched.taken touched.hop_sets
 
 -- The result of a repair that is begun, with the moved and the written vertices: the tree, its
 -- work, and why vertices differ.
-pub record IsCarriedOut (g : GraphValue) (come : List Link) (old new : TreeValue) (lost stale moved written : List Vertex) (taken hop_sets : ℕ) : Type 0 where
+pub record IsRepairCarriedOut (g : GraphValue) (come : List GraphLink) (old new : TreeValue) (lost stale moved written : List Vertex) (taken hop_sets : ℕ) : Type 0 where
   pub tree : IsTreeOf g new
-  pub bounded : (gone : List Link) → IsBegun g gone come old lost stale → IsBounded g gone come old taken hop_sets
+  pub bounded : (gone : List GraphLink) → IsBegun g gone come old lost stale → IsBounded g gone come old taken hop_sets
   pub idle : IsBegun g [] come old lost stale → come ≡ [] → (taken ≡ 0) × (hop_sets ≡ 0)
   pub work : IsWorkDone g old new taken hop_sets
-  pub differ : (v : Vertex) → IsChangedBy g.root old new lost moved written v ↔ Differs old new v
+  pub differ : (v : Vertex) → IsVertexChangedBy g.root old new lost moved written v ↔ Differs old new v
 
 -- what a repair that is begun comes to, by what is found before and after
-abbrev pub ComesTo : GraphValue → List Link → TreeValue → TreeValue → Workspace → Workspace → Touched → Type 0
+abbrev pub ComesTo : GraphValue → List GraphLink → TreeValue → TreeValue → Workspace → Workspace → Touched → Type 0
 ComesTo g come old new before after touched =
-    IsCarriedOut g come old new before.search.lost before.search.pending.stale after.moved after.writer.written touched.taken touched.hop_sets
+    IsRepairCarriedOut g come old new before.search.lost before.search.pending.stale after.moved after.writer.written touched.taken touched.hop_sets
 
 -- the tree of these distances and next hops
 abbrev pub tree_of : DistanceMap → HopMap → TreeValue

@@ -54,7 +54,7 @@ pub record EndsIn (link : Links) (root : ℕ) (from : Vertex) (way : List TakenL
   pub whole : way ≡ before ++ step_to to cost label ∷ []
 
 -- a value that is there, and at most the limit
-pub record IsWithin (value : Option ℕ) (limit : ℕ) : Type 0 where
+pub record IsInLimit (value : Option ℕ) (limit : ℕ) : Type 0 where
   pub number : ℕ
   pub is : value ≡ Some number
   pub most : number ≤ limit
@@ -68,7 +68,7 @@ pub record HasPathWithin (link : Links) (root : ℕ) (has_root : Type 0) (to : V
 -- each link from a vertex with a value leads to one that is valued at no more than it costs over
 -- that link
 pub record AreRelaxed (link : Links) (root : ℕ) (value : Vertex → Option ℕ) : Type 0 where
-  pub relaxed : (from to : Vertex) (cost : ℕ) (label : Label) (d : ℕ) → link from to cost label → to ≢ Router root → value from ≡ Some d → IsWithin (value to) (d + cost)
+  pub relaxed : (from to : Vertex) (cost : ℕ) (label : Label) (d : ℕ) → link from to cost label → to ≢ Router root → value from ≡ Some d → IsInLimit (value to) (d + cost)
 
 -- each value is at least the cost of some path
 pub record AreReal (link : Links) (root : ℕ) (has_root : Type 0) (value : Vertex → Option ℕ) : Type 0 where
@@ -80,7 +80,7 @@ pub record AreDistances (link : Links) (root : ℕ) (has_root : Type 0) (value :
   pub unreached : (to : Vertex) → value to ≡ None → (way : List TakenLink) → IsPath link root has_root way to → ⊥
 
 -- a link over which its head has its distance
-pub record IsLeast (link : Links) (distance : Vertex → Option ℕ) (from to : Vertex) (cost : ℕ) (label : Label) : Type 0 where
+pub record IsShortestLink (link : Links) (distance : Vertex → Option ℕ) (from to : Vertex) (cost : ℕ) (label : Label) : Type 0 where
   pub taken : link from to cost label
   pub near : ℕ
   pub tail : distance from ≡ Some near
@@ -91,7 +91,7 @@ pub record HasLeast (link : Links) (distance : Vertex → Option ℕ) (to : Vert
   pub from : Vertex
   pub cost : ℕ
   pub label : Label
-  pub least : IsLeast link distance from to cost label
+  pub least : IsShortestLink link distance from to cost label
 
 -- The nearer vertex has the lesser rank, and so have networks at the same distance.
 abbrev pub rank : Vertex → ℕ → ℕ
@@ -125,16 +125,16 @@ handed_on (hop.Router i a) label = hop.Router i a ∷ []
 
 -- what a link gives its head: out of the root the first hop of the link alone, else what it passes
 -- on
-abbrev pub Gives : ℕ → (Vertex → NextHop → Type 0) → Vertex → Vertex → Label → NextHop → Type 0
-Gives root hops from to label h = ((from ≡ Router root) × FirstOnly to label h) ⊎ ((from ≢ Router root) × (g : NextHop) × hops from g × HandsOn g label h)
+abbrev pub GivesHop : ℕ → (Vertex → NextHop → Type 0) → Vertex → Vertex → Label → NextHop → Type 0
+GivesHop root hops from to label h = ((from ≡ Router root) × FirstOnly to label h) ⊎ ((from ≢ Router root) × (g : NextHop) × hops from g × HandsOn g label h)
 
 -- what some least link into the vertex gives it
 pub record IsGiven (link : Links) (root : ℕ) (distance : Vertex → Option ℕ) (hops : Vertex → NextHop → Type 0) (to : Vertex) (h : NextHop) : Type 0 where
   pub from : Vertex
   pub cost : ℕ
   pub label : Label
-  pub least : IsLeast link distance from to cost label
-  pub gives : Gives root hops from to label h
+  pub least : IsShortestLink link distance from to cost label
+  pub gives : GivesHop root hops from to label h
 
 -- each reached vertex but the root has as next hops what its least links give it
 pub record AreUnions (link : Links) (root : ℕ) (distance : Vertex → Option ℕ) (hops : Vertex → NextHop → Type 0) : Type 0 where

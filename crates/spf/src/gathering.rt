@@ -13,7 +13,7 @@ use ospf_types::entry::Vertex;
 use ospf_types::hop::NextHop;
 use ospf_types::memory::Memory;
 use std::alloc::Global;
-use vertex_graph::{Graph, Link, LinkLabel};
+use vertex_graph::{Graph, GraphLink, LinkLabel};
 use vertex_map::HintedVertex;
 use vertex_queue::{Distances, NextHopMap};
 
@@ -49,7 +49,13 @@ impl TreeInUpdate<'_> {
 
     // Adds the next hops that the link passes on to its head, if it is a least link. `far` is the
     // distance of the head.
-    fn add_given(self, root: u32, link: &Link, far: u32, set: &mut HopSet) -> Result<(), Memory>
+    fn add_given(
+        self,
+        root: u32,
+        link: &GraphLink,
+        far: u32,
+        set: &mut HopSet,
+    ) -> Result<(), Memory>
         requires { map.get self.distances.now link.now.to ≡ Some far }
         ensures { OnOk result
             (IsUnionOver root self.entry.distances.now self.entry.hops.now link.now
@@ -80,7 +86,7 @@ pub(crate) fn are_same(before: Option<&HopSet>, after: &HopSet) -> bool
 }
 
 // Returns true if the link is a least link. `far` is the distance of its head.
-fn is_least(distances: &Distances, link: &Link, far: u32) -> bool
+fn is_least(distances: &Distances, link: &GraphLink, far: u32) -> bool
     requires { map.get distances.now link.now.to ≡ Some far }
     ensures { IsTrue result ↔ IsLeastLink (map.get distances.now) link.now }
 {

@@ -2,11 +2,11 @@
 ghost use Rattle.std.specs.Prelude.{◌≡◌, ◌↔◌, IsTrue};
 
 use ospf_types::entry::Vertex;
-use vertex_graph::{Graph, Link};
+use vertex_graph::{Graph, GraphLink};
 use vertex_map::HintedVertex;
 
 /// Returns the vertex, with the hint of the first of these links, which leave from it.
-pub(crate) fn tail_of(links: &[Link], vertex: Vertex) -> HintedVertex
+pub(crate) fn tail_of(links: &[GraphLink], vertex: Vertex) -> HintedVertex
     ensures { result ≡ vertex }
 {
     match links.first() {

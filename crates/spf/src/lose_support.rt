@@ -6,8 +6,8 @@ ghost use Rattle.std.specs.Prelude.{Contains, length};
 ghost use Rattle.std.specs.FinMap as map;
 ghost use Rattle.vertex_queue.specs.Maps.{most_distance};
 ghost use Rattle.spf.specs.Parts.{AreBefore, AreLostBy};
-ghost use Rattle.spf.specs.Suspects.{AreHeadsBeyondTold, AreHeadsTold, AreToldIn, AreWithin};
-ghost use Rattle.spf.specs.Suspects.{IsJudgedIn, MaySupport, NoneSupports, SomeSupports, Supports};
+ghost use Rattle.spf.specs.Suspects.{AreHeadsBeyondTold, AreHeadsTold, AreToldIn, AreSuspectsWithin};
+ghost use Rattle.spf.specs.Suspects.{IsSuspectJudgedIn, MaySupport, NoneSupports, SomeSupports, Supports};
 ghost use Rattle.spf.specs.Suspects.{TellsSupport, WasLeast};
 
 use crate::relax::Pending;
@@ -16,7 +16,7 @@ use ospf_types::WordHash;
 use ospf_types::entry::Vertex;
 use ospf_types::memory::Memory;
 use std::alloc::Global;
-use vertex_graph::{Graph, Link, LinkChanges};
+use vertex_graph::{Graph, GraphLink, LinkChanges};
 use vertex_map::{HintedVertex, VertexMap};
 use vertex_queue::{Distances, VertexSet};
 
@@ -99,11 +99,11 @@ impl Search {
     // Suspects the heads of the removed least links.
     fn suspect_heads(
         &mut self,
-        gone: &[Link],
+        gone: &[GraphLink],
         root: u32,
         distances: &Distances,
     ) -> Result<(), Memory>
-        requires within { AreWithin self.old.lost self.old.suspects self.old.pending.stale }
+        requires within { AreSuspectsWithin self.old.lost self.old.suspects self.old.pending.stale }
         ensures told { OnOk result (AreHeadsTold root distances.now gone.now self.old self.new) }
         ensures lost { OnOk result (self.new.lost ≡ self.old.lost) }
     {
@@ -119,13 +119,13 @@ impl Search {
     // distance that it had.
     fn suspect_beyond(
         &mut self,
-        links: &[Link],
+        links: &[GraphLink],
         root: u32,
         distances: &Distances,
         distance: u32,
     ) -> Result<(), Memory>
         requires near { distance < most_distance }
-        requires within { AreWithin self.old.lost self.old.suspects self.old.pending.stale }
+        requires within { AreSuspectsWithin self.old.lost self.old.suspects self.old.pending.stale }
         ensures told { OnOk result (AreHeadsBeyondTold root distances.now distance links.now
             self.old self.new) }
         ensures lost { OnOk result (self.new.lost ≡ self.old.lost) }
@@ -140,7 +140,7 @@ impl Search {
 
     // Makes the vertex stale, and a suspect unless it is lost.
     fn suspect(&mut self, vertex: &HintedVertex) -> Result<(), Memory>
-        requires within { AreWithin self.old.lost self.old.suspects self.old.pending.stale }
+        requires within { AreSuspectsWithin self.old.lost self.old.suspects self.old.pending.stale }
         ensures told { OnOk result (AreToldIn (λ v. vertex.now ≡ v) self.old self.new) }
         ensures lost { OnOk result (self.new.lost ≡ self.old.lost) }
     {
@@ -162,9 +162,9 @@ impl Search {
         distances: &Distances,
         suspect: &HintedVertex,
     ) -> Result<(), Memory>
-        requires within { AreWithin self.old.lost self.old.suspects self.old.pending.stale }
+        requires within { AreSuspectsWithin self.old.lost self.old.suspects self.old.pending.stale }
         requires stale { Contains self.old.pending.stale suspect.now }
-        ensures { OnOk result (IsJudgedIn graph.now distances.now self.old self.new suspect.now) }
+        ensures { OnOk result (IsSuspectJudgedIn graph.now distances.now self.old self.new suspect.now) }
     {
         if self.lost.has(suspect) {
             return Ok(());
@@ -222,7 +222,7 @@ impl StillReached<'_> {
     }
 
     // Returns the index of the first link that supports its head at the distance.
-    fn find_support(self, links: &[Link], distance: u32) -> Option<usize>
+    fn find_support(self, links: &[GraphLink], distance: u32) -> Option<usize>
         ensures none { IfNone result
             (NoneSupports self.entry.distances.now self.entry.lost.now distance links.now) }
         ensures within { IfSome result (λ place. place < length links.now) }
@@ -239,7 +239,7 @@ impl StillReached<'_> {
 
     // Returns true if the tail of the link keeps its distance, and the head is at most this far
     // over the link.
-    fn supports(self, link: &Link, distance: u32) -> bool
+    fn supports(self, link: &GraphLink, distance: u32) -> bool
         ensures { IsTrue result ↔
             Supports (map.get self.entry.distances.now) self.entry.lost.now distance link.now }
     {
@@ -273,7 +273,7 @@ fn note_stop(
 }
 
 // Returns true if the link is a least link to another vertex than the root.
-fn was_least(link: &Link, root: u32, distances: &Distances) -> bool
+fn was_least(link: &GraphLink, root: u32, distances: &Distances) -> bool
     ensures { IsTrue result ↔ WasLeast root (map.get distances.now) link.now }
 {
     if link.to.vertex() == Vertex::Router(root) {
@@ -287,7 +287,7 @@ fn was_least(link: &Link, root: u32, distances: &Distances) -> bool
 
 // Returns true if the link may have supported its head: over it, a reached vertex other than the
 // root is at most as far as it was. `distance` is the distance of the tail.
-fn may_support(link: &Link, root: u32, distances: &Distances, distance: u32) -> bool
+fn may_support(link: &GraphLink, root: u32, distances: &Distances, distance: u32) -> bool
     requires { distance < most_distance }
     ensures { IsTrue result ↔ MaySupport root (map.get distances.now) distance link.now }
 {

@@ -16,7 +16,7 @@ use ospf_types::WordHash;
 use ospf_types::entry::Vertex;
 use ospf_types::memory::Memory;
 use std::alloc::Global;
-use vertex_graph::{Graph, Link};
+use vertex_graph::{Graph, GraphLink};
 use vertex_map::HintedVertex;
 use vertex_queue::{Distances, Queue, Touched, VertexList, VertexSet};
 
@@ -25,7 +25,7 @@ use vertex_queue::{Distances, Queue, Touched, VertexList, VertexSet};
 pub(crate) struct LinksAfter<'a> {
     pub(crate) graph: &'a Graph,
     pub(crate) root: &'a HintedVertex,
-    pub(crate) came: &'a [Link],
+    pub(crate) came: &'a [GraphLink],
 }
 
 /// The vertices to be updated: the queued ones, and the stale ones, whose least links changed.
@@ -132,7 +132,7 @@ impl Pending {
     fn offer_to(
         &mut self,
         root: u32,
-        links: &[Link],
+        links: &[GraphLink],
         far: Option<u32>,
         distances: &Distances,
     ) -> Result<(), Memory>
@@ -153,7 +153,7 @@ impl Pending {
     fn offer_reached(
         &mut self,
         root: u32,
-        links: &[Link],
+        links: &[GraphLink],
         distances: &Distances,
     ) -> Result<(), Memory>
         requires { AreCheap links.now }
@@ -173,7 +173,7 @@ impl Pending {
     fn offer_from(
         &mut self,
         root: u32,
-        links: &[Link],
+        links: &[GraphLink],
         near: u32,
         distances: &Distances,
     ) -> Result<(), Memory>
@@ -194,7 +194,7 @@ impl Pending {
     fn offer_over(
         &mut self,
         root: u32,
-        link: &Link,
+        link: &GraphLink,
         near: u32,
         far: Option<u32>,
     ) -> Result<(), Memory>

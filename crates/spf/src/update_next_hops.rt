@@ -15,7 +15,7 @@ use crate::relax::Pending;
 use hop_sets::HopSet;
 use ospf_types::memory::Memory;
 use std::alloc::Global;
-use vertex_graph::{Graph, Link};
+use vertex_graph::{Graph, GraphLink};
 use vertex_map::HintedVertex;
 use vertex_queue::{Distances, NextHopMap, Queue, Touched, VertexList, VertexSet};
 
@@ -93,7 +93,7 @@ impl HopWriter {
         };
         // 16.1 (3): the vertex closest to the root, a network before a router.
         while let Some((vertex, distance)) = self.touched.take(&mut pending.queue) {
-            let taken = Taken { vertex, distance };
+            let taken = PoppedVertex { vertex, distance };
             self.settle(least_links, &taken, hops, &mut pending.queue)?;
         }
         Ok(())
@@ -128,7 +128,7 @@ impl HopWriter {
     fn settle(
         &mut self,
         least_links: LeastLinks<'_>,
-        taken: &Taken,
+        taken: &PoppedVertex,
         hops: &mut NextHopMap,
         queue: &mut Queue,
     ) -> Result<(), Memory>
@@ -177,7 +177,7 @@ impl HopWriter {
 
 // A vertex taken from the queue, at its distance.
 #[derive(Drop)]
-struct Taken {
+struct PoppedVertex {
     vertex: HintedVertex,
     distance: u32,
 }
@@ -191,7 +191,7 @@ struct LeastLinks<'a> {
 
 impl LeastLinks<'_> {
     // Queues the heads of the least links from the vertex, except the root.
-    fn put_heads(self, taken: &Taken, queue: &mut Queue) -> Result<(), Memory>
+    fn put_heads(self, taken: &PoppedVertex, queue: &mut Queue) -> Result<(), Memory>
         requires { map.get self.distances.now taken.now.vertex ≡ Some taken.now.distance }
         ensures { OnOk result (AreHeadsPut self.entry.graph.now self.entry.distances.now
             taken.now.vertex queue.old queue.new) }
@@ -205,7 +205,13 @@ impl LeastLinks<'_> {
 
     // Queues the head of the link, if it is a least link and the head is not the root. `near` is
     // the distance of its tail.
-    fn put_head(self, root: u32, link: &Link, near: u32, queue: &mut Queue) -> Result<(), Memory>
+    fn put_head(
+        self,
+        root: u32,
+        link: &GraphLink,
+        near: u32,
+        queue: &mut Queue,
+    ) -> Result<(), Memory>
         requires { map.get self.distances.now link.now.from ≡ Some near }
         ensures { OnOk result
             (IsHeadPut root self.entry.distances.now link.now queue.old queue.new) }
@@ -254,7 +260,7 @@ fn put_if_reached(
 
 // Returns the distance of the link's head, if it is a least link. `near` is the distance of its
 // tail.
-fn least_distance(distances: &Distances, link: &Link, near: u32) -> Option<u32>
+fn least_distance(distances: &Distances, link: &GraphLink, near: u32) -> Option<u32>
     requires { map.get distances.now link.now.from ≡ Some near }
     ensures least { IfSome result (λ distance. IsLeastLink (map.get distances.now) link.now) }
     ensures head { IfSome result (HasDistance distances.now link.now.to) }

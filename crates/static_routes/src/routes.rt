@@ -5,8 +5,8 @@ ghost use Rattle.ospf_types.specs.Network.{network_cmp};
 ghost use Rattle.route_choice.specs.Chosen.{HasChanged};
 ghost use Rattle.route_choice.specs.Lists.{ListsExactly};
 ghost use Rattle.route_choice.specs.Results.{result_at};
-ghost use Rattle.static_routes.specs.Routes.{AreRoutesOf, AreRoutesButAt, IsConfigured, IsLeast};
-ghost use Rattle.static_routes.specs.Routes.{IsLesser};
+ghost use Rattle.static_routes.specs.Routes.{AreStaticRoutesOf, AreRoutesButAt, IsRouteConfigured, IsLeast};
+ghost use Rattle.static_routes.specs.Routes.{IsLesserMetric};
 
 use ospf_types::memory::Memory;
 use ospf_types::prefix::Prefix;
@@ -79,7 +79,7 @@ impl StaticRoutes {
         inputs: &StaticInputs<'_>,
         hashing: RandomState,
     ) -> Result<StaticRoutes, Memory>
-        ensures { IfOk result (AreRoutesOf inputs.now.configured.now inputs.now.taken.now) }
+        ensures { IfOk result (AreStaticRoutesOf inputs.now.configured.now inputs.now.taken.now) }
     {
         let mut routes = StaticRoutes {
             routes: ResultMap::new(alloc, hashing),
@@ -106,7 +106,7 @@ impl StaticRoutes {
         requires { AreRoutesButAt inputs.now.configured.now inputs.now.taken.now
             networks.items self.old }
         ensures kept { OnOk result
-            (AreRoutesOf inputs.now.configured.now inputs.now.taken.now self.new) }
+            (AreStaticRoutesOf inputs.now.configured.now inputs.now.taken.now self.new) }
         ensures in_order { IfOk result (λ others. IsStrictlySortedBy network_cmp others.items) }
         ensures exact { IfOk result (λ others. ListsExactly
             (HasChanged (result_at network_cmp self.old) (result_at network_cmp self.new))
@@ -135,7 +135,7 @@ fn networks_in(alloc: Global, configured: &[(Prefix, u32)]) -> Result<Vec<Prefix
 
 // Returns the least metric configured for the network.
 fn least_of(configured: &[(Prefix, u32)], network: Prefix) -> Option<u32>
-    ensures { IsLeast (IsConfigured configured.now network) result }
+    ensures { IsLeast (IsRouteConfigured configured.now network) result }
 {
     let mut least = None;
     for (other, metric) in configured {
@@ -148,7 +148,7 @@ fn least_of(configured: &[(Prefix, u32)], network: Prefix) -> Option<u32>
 // network.
 fn least_with(least: Option<u32>, is_its: bool, metric: u32) -> Option<u32>
     ensures other { is_its ≡ false → result ≡ least }
-    ensures its { is_its ≡ true → IsLesser least metric result }
+    ensures its { is_its ≡ true → IsLesserMetric least metric result }
 {
     match least {
         _ if !is_its => least,

@@ -11,7 +11,7 @@ use Rattle.ospf_types.specs.Address.{Covers}
 use Rattle.ospf_types.specs.Inputs.{Inputs, Area, IsActive, IsBorder}
 use Rattle.active_ranges.specs.Right.{AreConfigured as AreRangesConfigured}
 use Rattle.active_ranges.proofs.Right.{configured_as, configured_from}
-use Rattle.summaries.specs.Giving.{IsOutside, IsAdvertised, IsServed}
+use Rattle.summaries.specs.Giving.{IsOutsideRanges, IsRangeAdvertised, IsServed}
 use Rattle.summaries.specs.Inputs.{SummaryInputsValue}
 use Rattle.summaries.specs.Right.{AreConfigured, AreInputsOf}
 
@@ -55,13 +55,13 @@ module _ (s : Inputs) (v : SummaryInputsValue) (are : AreInputsOf s v) where
     abbrev Misses : Range → Type 0
     Misses r = Covers r.prefix p → ⊥
 
-    pub outside_from : IsOutside v.areas b.id p → All (λ r. Covers r.prefix p → ⊥) b.ranges
+    pub outside_from : IsOutsideRanges v.areas b.id p → All (λ r. Covers r.prefix p → ⊥) b.ranges
     outside_from out = let w = config_of b here in subst (All Misses) (sym w.3) (out w.0 w.1 (sym w.2))
 
-    pub outside_to : All (λ r. Covers r.prefix p → ⊥) b.ranges → IsOutside v.areas b.id p
+    pub outside_to : All (λ r. Covers r.prefix p → ⊥) b.ranges → IsOutsideRanges v.areas b.id p
     outside_to all x there same = subst (All Misses) (sym (ranges_at b here x there same)) all
 
-    pub advertised_to : (r : Range) → Contains b.ranges r → r.prefix ≡ p → IsTrue r.advertise → IsAdvertised v.areas b.id p
+    pub advertised_to : (r : Range) → Contains b.ranges r → r.prefix ≡ p → IsTrue r.advertise → IsRangeAdvertised v.areas b.id p
     advertised_to r in_area same told = let w = config_of b here in (w.0, r, w.1, sym w.2, subst (λ rs. Contains rs r) w.3 in_area, same, told)
 
   -- ---- active areas

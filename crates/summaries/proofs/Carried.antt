@@ -5,7 +5,7 @@ use Rattle.std.proofs.Math.Seq.{map-set_same}
 use Rattle.std.proofs.lemmas.List.{drop_all, take_more_set, drop-set-lt, take-append-drop}
 use Rattle.summary_lists.specs.declared.plan.AreaPlan.{AreaPlan}
 use Rattle.summary_lists.specs.Lists.{AreaSummariesValue, Metrics}
-use Rattle.summary_lists.specs.Plans.{Fits, IsChanged}
+use Rattle.summary_lists.specs.Plans.{Fits, IsListChanged}
 use Rattle.summaries.specs.Carrying.{AllFit, AllChanged, changes_of}
 use Rattle.summary_lists.proofs.Changing.{left_at}
 
@@ -38,7 +38,7 @@ module _ (plans : List AreaPlan) (old : List AreaSummariesValue) (now : List Are
       fits_now : AllFit (p ∷ left) (w ∷ drop (i + 1) now)
       fits_now = subst (AllFit (p ∷ left)) split carried.fits
 
-      carried_one : (x : AreaSummariesValue) → IsChanged p.metrics.items w x → IsCarriedTo plans old left (set now i x) (i + 1)
+      carried_one : (x : AreaSummariesValue) → IsListChanged p.metrics.items w x → IsCarriedTo plans old left (set now i x) (i + 1)
       carried_one x changed =
           let same : drop (i + 1) (set now i x) ≡ drop (i + 1) now = drop-set-lt (i + 1) now i x (omega arith) in
           record {
@@ -62,7 +62,7 @@ module _ (plans : List AreaPlan) (old : List AreaSummariesValue) (now : List Are
       pub fits_there : Fits p w
       fits_there = (fits_now p (drop (i + 1) now_plans) first w at).0
 
-      pub carried_more : (x : AreaSummariesValue) (q : AreaPlan) → q.area ≡ p.area → q.metrics ≡ p.metrics → IsChanged p.metrics.items w x → AreCarriedTo plans (set now_plans i q) old (set now i x) (i + 1)
+      pub carried_more : (x : AreaSummariesValue) (q : AreaPlan) → q.area ≡ p.area → q.metrics ≡ p.metrics → IsListChanged p.metrics.items w x → AreCarriedTo plans (set now_plans i q) old (set now i x) (i + 1)
       carried_more x q area metrics changed = record {
         changes =
             let f : AreaPlan → ℕ × Metrics = λ r. (r.area, r.metrics.items) in

@@ -16,10 +16,10 @@ use Rattle.ospf_types.specs.Address.{Covers}
 use Rattle.ospf_types.specs.Summaries.{IsGreatest}
 use Rattle.external.specs.AsbrRoute.{PreferredValue}
 use Rattle.active_ranges.proofs.Searching.{all_lack}
-use Rattle.active_ranges.specs.Active.{IsWithin, RangesDifferAt}
+use Rattle.active_ranges.specs.Active.{IsRangeNetwork, RangesDifferAt}
 use Rattle.active_ranges.specs.declared.member.RangeMember.{RangeMember}
 use Rattle.summaries.specs.Changes.{InputsDifferAmong}
-use Rattle.summaries.specs.Giving.{GivesIn, IsAdvertised, IsComponentIn, IsDueIn, IsDueTo, IsNetworkDueIn, IsOutside, IsRouterDueIn, IsServed, PreferredGives}
+use Rattle.summaries.specs.Giving.{GivesIn, IsRangeAdvertised, IsComponentIn, IsDueIn, IsDueTo, IsNetworkDueIn, IsOutsideRanges, IsRouterDueIn, IsServed, PreferredGives}
 use Rattle.summaries.specs.Inputs.{SummaryInputsValue}
 use Rattle.summaries.specs.Touched.{IsRangeOver, IsTouchedBy}
 
@@ -29,7 +29,7 @@ record AreAlike (dests : List Dest) (a b : SummaryInputsValue) : Type 0 where
   pub range : Option (ℕ × Prefix)
   pub ranges : RangesDifferAt range a.areas b.areas
   pub prefix : (area : ℕ) (p : Prefix) → range ≡ Some (area, p) → Contains dests (Net p)
-  pub within : (area : ℕ) (q p : Prefix) → range ≡ Some (area, q) → (Contains dests (Net p) → ⊥) → IsWithin a.intra.entries area q p → ⊥
+  pub within : (area : ℕ) (q p : Prefix) → range ≡ Some (area, q) → (Contains dests (Net p) → ⊥) → IsRangeNetwork a.intra.entries area q p → ⊥
   pub active : b.active ≡ a.active
   pub intra : (p : Prefix) → (Contains dests (Net p) → ⊥) → get b.intra.entries p ≡ get a.intra.entries p
   pub members : (m : RangeMember) → (Contains dests (Net m.network) → Covers m.range m.network → ⊥) → get b.ranges.members m ≡ get a.ranges.members m
@@ -59,14 +59,14 @@ abbrev IsQuiet : List Dest → Prefix → Type 0
 IsQuiet dests p = (network : Prefix) → Contains dests (Net network) → Covers p network → ⊥
 
 -- where the prefix belongs to a range, and is not affected
-quiet : (areas : List AreaConfig) (dests : List Dest) (p : Prefix) (through : ℕ) → (IsTouchedBy areas dests (Net p) → ⊥) → IsAdvertised areas through p → IsQuiet dests p
+quiet : (areas : List AreaConfig) (dests : List Dest) (p : Prefix) (through : ℕ) → (IsTouchedBy areas dests (Net p) → ⊥) → IsRangeAdvertised areas through p → IsQuiet dests p
 quiet areas dests p through untouched range network named covers =
     let over : IsRangeOver areas dests p = (range.0, range.1, network, range.2, range.4, range.5, named, covers) in
     untouched (inr (p, refl, over))
 
 module _ (dests : List Dest) (a b : SummaryInputsValue) (alike : AreAlike dests a b) (p : Prefix) (unnamed : Contains dests (Net p) → ⊥) where
   -- no range of the area covers the network now, if none did
-  outside_stays : (through : ℕ) (e : Entry) → get a.intra.entries p ≡ Some e → e.area ≡ Some through → IsOutside a.areas through p → IsOutside b.areas through p
+  outside_stays : (through : ℕ) (e : Entry) → get a.intra.entries p ≡ Some e → e.area ≡ Some through → IsOutsideRanges a.areas through p → IsOutsideRanges b.areas through p
   outside_stays through e held area outside x there id =
       let none : (r : Range) → Contains x.ranges r → Covers r.prefix p → ⊥ = λ r range covers.
       let other : alike.range ≡ Some (through, r.prefix) → ⊥ = λ named. alike.within through r.prefix p named unnamed (e, held, area, covers) in
@@ -75,7 +75,7 @@ module _ (dests : List Dest) (a b : SummaryInputsValue) (alike : AreAlike dests 
       all_lack (λ (q : Range). Covers q.prefix p) x.ranges none
 
   -- and one with the prefix is advertised now, if it was
-  advertised_stays : (through : ℕ) → IsAdvertised a.areas through p → IsAdvertised b.areas through p
+  advertised_stays : (through : ℕ) → IsRangeAdvertised a.areas through p → IsRangeAdvertised b.areas through p
   advertised_stays through w =
       let r = w.1 in
       let other : alike.range ≡ Some (through, r.prefix) → ⊥ = λ named. unnamed (subst (λ (q : Prefix). Contains dests (Net q)) w.5 (alike.prefix through r.prefix named)) in

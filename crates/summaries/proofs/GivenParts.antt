@@ -17,7 +17,7 @@ use Rattle.external.specs.AsbrRoute.{PreferredValue}
 use Rattle.summaries.specs.declared.giving.Through.{Through}
 use Rattle.summaries.specs.Candidates.{CostsInto, IsIntraThrough, IsPreferredThrough, IsRangeThrough, LeadsThrough, metric_beside}
 use Rattle.summaries.specs.Inputs.{SummaryInputsValue}
-use Rattle.summaries.specs.Giving.{IsMost, IsComponentIn, IsOutside, GivesIn, IntraGives, InterGives, RangeGives, RangeGivesBy, IsRouterDueIn, IsServed, PreferredGives}
+use Rattle.summaries.specs.Giving.{IsMost, IsComponentIn, IsOutsideRanges, GivesIn, IntraGives, InterGives, RangeGives, RangeGivesBy, IsRouterDueIn, IsServed, PreferredGives}
 use Rattle.active_ranges.proofs.Searching.{HasNone}
 
 -- ---- networks outside the ranges of their area
@@ -26,7 +26,7 @@ use Rattle.active_ranges.proofs.Searching.{HasNone}
 abbrev pub HasInRange : ℕ → Prefix → AreaConfig → Type 0
 HasInRange id network a = (a.id ≡ id) × (All (λ r. Covers r.prefix network → ⊥) a.ranges → ⊥)
 
-pub is_outside : (areas : List AreaConfig) (id : ℕ) (network : Prefix) → HasNone (HasInRange id network) areas → IsOutside areas id network
+pub is_outside : (areas : List AreaConfig) (id : ℕ) (network : Prefix) → HasNone (HasInRange id network) areas → IsOutsideRanges areas id network
 is_outside areas id network none a there is k d lt covers = none a there (is, λ all. all k d lt covers)
 
 -- ---- the greatest of several

@@ -8,7 +8,7 @@ use Rattle.ospf_types.specs.Inter.{LSInfinity}
 use Rattle.external.specs.AsbrRoute.{PreferredValue}
 use Rattle.summaries.specs.declared.giving.Through.{Through}
 use Rattle.summaries.specs.Inputs.{SummaryInputsValue}
-use Rattle.summaries.specs.Giving.{IsOutside}
+use Rattle.summaries.specs.Giving.{IsOutsideRanges}
 use Rattle.summaries.specs.Candidates.{IsIntraThrough, IsPreferredThrough, LeadsThrough}
 
 some_same : {A : Type 0} {x y : A} → Some x ≡ Some y → x ≡ y
@@ -47,14 +47,14 @@ module _ (v : SummaryInputsValue) (p : Prefix) (found : Option Through) (leads :
   )
 
   module _ (through : Through) (is : found ≡ Some through) where
-    pub leads_outside : IsOutside v.areas through.area p → (t : Through) → (Some through ≡ Some t) ↔ IsIntraThrough v p t
+    pub leads_outside : IsOutsideRanges v.areas through.area p → (t : Through) → (Some through ≡ Some t) ↔ IsIntraThrough v p t
     leads_outside outside t = (
-      λ same. ((leads t).0 (is ∙ same), subst (λ (s : Through). IsOutside v.areas s.area p) (some_same same) outside),
+      λ same. ((leads t).0 (is ∙ same), subst (λ (s : Through). IsOutsideRanges v.areas s.area p) (some_same same) outside),
       λ w. sym is ∙ (leads t).1 w.0,
     )
 
-    pub leads_inside : (IsOutside v.areas through.area p → ⊥) → (t : Through) → (None ≡ Some t) ↔ IsIntraThrough v p t
+    pub leads_inside : (IsOutsideRanges v.areas through.area p → ⊥) → (t : Through) → (None ≡ Some t) ↔ IsIntraThrough v p t
     leads_inside inside t = (
       λ wrong. absurd cc,
-      λ w. absurd (inside (subst (λ (s : Through). IsOutside v.areas s.area p) (some_same (sym ((leads t).1 w.0) ∙ is)) w.1)),
+      λ w. absurd (inside (subst (λ (s : Through). IsOutsideRanges v.areas s.area p) (some_same (sym ((leads t).1 w.0) ∙ is)) w.1)),
     )

@@ -16,7 +16,7 @@ use Rattle.ospf_types.specs.Inter.{LSInfinity}
 use Rattle.ospf_types.specs.Routes.{IsEntry}
 use Rattle.ospf_types.specs.Summaries.{HasHop, IsTold, IsComponent, IsGreatest, Gives, IsNetworkDue, IsRouterDue}
 use Rattle.active_ranges.specs.declared.member.RangeMember.{RangeMember}
-use Rattle.summaries.specs.Giving.{Enters, IsOutside, IsComponentIn, IntraGives, InterGives, RangeGives, GivesIn, IsNetworkDueIn, IsRouterDueIn}
+use Rattle.summaries.specs.Giving.{Enters, IsOutsideRanges, IsComponentIn, IntraGives, InterGives, RangeGives, GivesIn, IsNetworkDueIn, IsRouterDueIn}
 use Rattle.summaries.specs.Inputs.{SummaryInputsValue}
 use Rattle.summaries.specs.Right.{AreInputsOf}
 use Rattle.summaries.proofs.Areas.{area_of, config_of, outside_from, outside_to, advertised_to}
@@ -72,7 +72,7 @@ module _ (s : Inputs) (v : SummaryInputsValue) (are : AreInputsOf s v) (a : Area
         let w = entry_area s p e g.1 is.0 enters.through_area in
         let b = w.0 in
         let through : e.area ≡ Some b.id = enters.through_area ∙ ap Some (sym w.2) in
-        (b, inr (inl (e, told b p e is.0 w.1 through (λ same. enters.foreign (sym w.2 ∙ same)) enters.finite, is.1, g.5, outside_from s v are b w.1 p (subst (λ n. IsOutside v.areas n p) (sym w.2) g.4))))
+        (b, inr (inl (e, told b p e is.0 w.1 through (λ same. enters.foreign (sym w.2 ∙ same)) enters.finite, is.1, g.5, outside_from s v are b w.1 p (subst (λ n. IsOutsideRanges v.areas n p) (sym w.2) g.4))))
 
     inter_from : InterGives v a.id p metric → Gives s a p metric
     inter_from g =

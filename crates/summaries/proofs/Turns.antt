@@ -21,15 +21,15 @@ use Rattle.summaries.specs.Inputs.{SummaryInputsValue}
 use Rattle.summaries.specs.Giving.{IsDueIn}
 use Rattle.summary_lists.specs.Lists.{AreChangesBetween, AreaSummariesValue, IsChangedBy, Metrics, due_for, kind_of}
 use Rattle.summaries.specs.DueSummaries.{AreDueChanges, IsListOf, AreListsOf, listed}
-use Rattle.summary_lists.specs.Plans.{IsChanged}
+use Rattle.summary_lists.specs.Plans.{IsListChanged}
 use Rattle.summaries.specs.Carrying.{AllFit, AllChanged, changes_of}
-use Rattle.summaries.specs.Planning.{Turn, IsTurn, AreTurns, IsPlannedIn, ArePlanned, ArePlannedTo}
+use Rattle.summaries.specs.Planning.{SummaryTurn, IsSummaryTurn, AreSummaryTurns, IsPlannedIn, ArePlanned, ArePlannedTo}
 use Rattle.summaries.proofs.Differing.{changes_between, metric_of}
 
 -- ---- one more area has its plan
 
 module _ (v : SummaryInputsValue) (dests : List Dest) where
-  turns_more : (turns : List Turn) (x : Turn) → AreTurns v dests turns → IsTurn v dests x → AreTurns v dests (turns ++ x ∷ [])
+  turns_more : (turns : List SummaryTurn) (x : SummaryTurn) → AreSummaryTurns v dests turns → IsSummaryTurn v dests x → AreSummaryTurns v dests (turns ++ x ∷ [])
   turns_more [] x are is = (is, tt)
   turns_more (y ∷ turns) x are is = (are.0, turns_more turns x are.1 is)
 
@@ -40,7 +40,7 @@ module _ (v : SummaryInputsValue) (dests : List Dest) where
     same = refl;
   }
 
-mapped_more : {X : Type 0} (f : Turn → X) (turns : List Turn) (x : Turn) (xs ys : List X) → map f turns ≡ xs → ys ≡ xs ++ f x ∷ [] → map f (turns ++ x ∷ []) ≡ ys
+mapped_more : {X : Type 0} (f : SummaryTurn → X) (turns : List SummaryTurn) (x : SummaryTurn) (xs ys : List X) → map f turns ≡ xs → ys ≡ xs ++ f x ∷ [] → map f (turns ++ x ∷ []) ≡ ys
 mapped_more f turns x xs ys are is = map-append f turns (x ∷ []) ∙ ap (λ zs. zs ++ f x ∷ []) are ∙ sym is
 
 -- a list in its place, with nothing else due in it
@@ -62,17 +62,17 @@ module _ (v : SummaryInputsValue) (dests : List Dest) (areas : List AreaConfig) 
       → ArePlannedTo v dests areas old now plans i → ArePlannedTo v dests areas old (set now i new) (plans ++ plan ∷ []) (i + 1)
   planned_more a was new plan lt now_long old_long area_at was_at same_area same_list is to =
       let first = to.first in
-      let x : Turn = record { area = a; old = was; new = new; plan = plan } in
+      let x : SummaryTurn = record { area = a; old = was; new = new; plan = plan } in
       let lt_now : i < length now = omega (arith, lt, now_long) in
       let lt_old : i < length old = omega (arith, lt, old_long) in
       let here = still_there was lt_now was_at to in
       record {
         first = record {
           turns = first.turns ++ x ∷ [];
-          areas_are = mapped_more (λ (y : Turn). y.area) first.turns x (take i areas) (take (i + 1) areas) first.areas_are (take_more areas i a lt ∙ ap (λ (b : AreaConfig). take i areas ++ b ∷ []) (sym area_at));
-          old_are = mapped_more (λ (y : Turn). y.old) first.turns x (take i old) (take (i + 1) old) first.old_are (take_more old i was lt_old ∙ ap (λ (w : AreaSummariesValue). take i old ++ w ∷ []) here);
-          new_are = mapped_more (λ (y : Turn). y.new) first.turns x (take i now) (take (i + 1) (set now i new)) first.new_are (take_more_set now i new lt_now);
-          plans_are = mapped_more (λ (y : Turn). y.plan) first.turns x plans (plans ++ plan ∷ []) first.plans_are refl;
+          areas_are = mapped_more (λ (y : SummaryTurn). y.area) first.turns x (take i areas) (take (i + 1) areas) first.areas_are (take_more areas i a lt ∙ ap (λ (b : AreaConfig). take i areas ++ b ∷ []) (sym area_at));
+          old_are = mapped_more (λ (y : SummaryTurn). y.old) first.turns x (take i old) (take (i + 1) old) first.old_are (take_more old i was lt_old ∙ ap (λ (w : AreaSummariesValue). take i old ++ w ∷ []) here);
+          new_are = mapped_more (λ (y : SummaryTurn). y.new) first.turns x (take i now) (take (i + 1) (set now i new)) first.new_are (take_more_set now i new lt_now);
+          plans_are = mapped_more (λ (y : SummaryTurn). y.plan) first.turns x plans (plans ++ plan ∷ []) first.plans_are refl;
           each = turns_more v dests first.turns x first.each is;
         };
         rest = drop-set-lt (i + 1) now i new (omega arith) ∙ sym (drop-drop 1 i now) ∙ ap (drop 1) to.rest ∙ drop-drop 1 i old;
@@ -90,7 +90,7 @@ module _ (v : SummaryInputsValue) (dests : List Dest) (areas : List AreaConfig) 
 keys_have : (metrics : Metrics) (d : Dest) (metric : Option ℕ) → Contains metrics (d, metric) → Contains (keys_of metrics) d
 keys_have metrics d metric c = mapped_element (λ (e : Dest × Option ℕ). e.0) metrics (d, metric) c
 
-module _ (v : SummaryInputsValue) (dests : List Dest) (x : Turn) (after : AreaSummariesValue) (is : IsTurn v dests x) (carried : IsChanged x.plan.metrics.items x.new after) where
+module _ (v : SummaryInputsValue) (dests : List Dest) (x : SummaryTurn) (after : AreaSummariesValue) (is : IsSummaryTurn v dests x) (carried : IsListChanged x.plan.metrics.items x.new after) where
   abbrev metrics : Metrics
   metrics = x.plan.metrics.items
 
@@ -146,27 +146,27 @@ module _ (v : SummaryInputsValue) (dests : List Dest) (x : Turn) (after : AreaSu
 -- ---- what the plans make of the lists
 
 module _ (v : SummaryInputsValue) (dests : List Dest) where
-  pub all_fit : (turns : List Turn) → AreTurns v dests turns → AllFit (map (λ (x : Turn). x.plan) turns) (map (λ (x : Turn). x.new) turns)
+  pub all_fit : (turns : List SummaryTurn) → AreSummaryTurns v dests turns → AllFit (map (λ (x : SummaryTurn). x.plan) turns) (map (λ (x : SummaryTurn). x.new) turns)
   all_fit [] are = tt
   all_fit (x ∷ turns) are = (are.0.fits, all_fit turns are.1)
 
-  pub lists_after : (before : SummaryInputsValue) (turns : List Turn) (after : List AreaSummariesValue) → AreTurns v dests turns
-      → ((a : AreaConfig) (d : Dest) → Contains (map (λ (x : Turn). x.area) turns) a → (Contains dests d → ⊥) → (m : ℕ) → IsDueIn before a d m ↔ IsDueIn v a d m)
-      → AreListsOf before (map (λ (x : Turn). x.area) turns) (map (λ (x : Turn). x.old) turns)
-      → AllChanged (changes_of (map (λ (x : Turn). x.plan) turns)) (map (λ (x : Turn). x.new) turns) after
-      → AreListsOf v (map (λ (x : Turn). x.area) turns) after
+  pub lists_after : (before : SummaryInputsValue) (turns : List SummaryTurn) (after : List AreaSummariesValue) → AreSummaryTurns v dests turns
+      → ((a : AreaConfig) (d : Dest) → Contains (map (λ (x : SummaryTurn). x.area) turns) a → (Contains dests d → ⊥) → (m : ℕ) → IsDueIn before a d m ↔ IsDueIn v a d m)
+      → AreListsOf before (map (λ (x : SummaryTurn). x.area) turns) (map (λ (x : SummaryTurn). x.old) turns)
+      → AllChanged (changes_of (map (λ (x : SummaryTurn). x.plan) turns)) (map (λ (x : SummaryTurn). x.new) turns) after
+      → AreListsOf v (map (λ (x : SummaryTurn). x.area) turns) after
   lists_after before [] [] are alike was lead = tt
   lists_after before [] (w ∷ after) are alike was lead = let wrong : w ∷ after ≡ [] = lead in absurd cc
   lists_after before (x ∷ turns) [] are alike was lead = absurd lead
   lists_after before (x ∷ turns) (w ∷ after) are alike was lead =
-      let areas = map (λ (x : Turn). x.area) turns in (
+      let areas = map (λ (x : SummaryTurn). x.area) turns in (
         list_after v dests x w are.0 lead.0 before was.0 (λ d. alike x.area d (first_element x.area areas)),
         lists_after before turns after are.1 (λ a d c. alike a d (later_element x.area a areas c)) was.1 lead.1,
       )
 
-  pub changes_after : (turns : List Turn) (after : List AreaSummariesValue) → AreTurns v dests turns
-      → AllChanged (changes_of (map (λ (x : Turn). x.plan) turns)) (map (λ (x : Turn). x.new) turns) after
-      → AreDueChanges (changes_of (map (λ (x : Turn). x.plan) turns)) (listed (map (λ (x : Turn). x.old) turns)) (listed after)
+  pub changes_after : (turns : List SummaryTurn) (after : List AreaSummariesValue) → AreSummaryTurns v dests turns
+      → AllChanged (changes_of (map (λ (x : SummaryTurn). x.plan) turns)) (map (λ (x : SummaryTurn). x.new) turns) after
+      → AreDueChanges (changes_of (map (λ (x : SummaryTurn). x.plan) turns)) (listed (map (λ (x : SummaryTurn). x.old) turns)) (listed after)
   changes_after [] after are lead = ap listed lead
   changes_after (x ∷ turns) [] are lead = absurd lead
   changes_after (x ∷ turns) (w ∷ after) are lead = ((are.0.of_area, differs v dests x w are.0 lead.0), changes_after turns after are.1 lead.1)
@@ -176,17 +176,17 @@ module _ (v : SummaryInputsValue) (dests : List Dest) where
 module _ (v : SummaryInputsValue) (dests : List Dest) (areas : List AreaConfig) (old new : List AreaSummariesValue) (plans : List AreaPlan) (planned : ArePlanned v dests areas old new plans) where
   -- the plans may be carried out
   pub planned_fit : AllFit plans new
-  planned_fit = subst (λ (ps : List AreaPlan). AllFit ps new) planned.plans_are (subst (AllFit (map (λ (x : Turn). x.plan) planned.turns)) planned.new_are (all_fit v dests planned.turns planned.each))
+  planned_fit = subst (λ (ps : List AreaPlan). AllFit ps new) planned.plans_are (subst (AllFit (map (λ (x : SummaryTurn). x.plan) planned.turns)) planned.new_are (all_fit v dests planned.turns planned.each))
 
   module _ (after : List AreaSummariesValue) (leads : AllChanged (changes_of plans) new after) where
-    led : AllChanged (changes_of (map (λ (x : Turn). x.plan) planned.turns)) (map (λ (x : Turn). x.new) planned.turns) after
-    led = subst (λ (lists : List AreaSummariesValue). AllChanged (changes_of (map (λ (x : Turn). x.plan) planned.turns)) lists after) (sym planned.new_are) (subst (λ (ps : List AreaPlan). AllChanged (changes_of ps) new after) (sym planned.plans_are) leads)
+    led : AllChanged (changes_of (map (λ (x : SummaryTurn). x.plan) planned.turns)) (map (λ (x : SummaryTurn). x.new) planned.turns) after
+    led = subst (λ (lists : List AreaSummariesValue). AllChanged (changes_of (map (λ (x : SummaryTurn). x.plan) planned.turns)) lists after) (sym planned.new_are) (subst (λ (ps : List AreaPlan). AllChanged (changes_of ps) new after) (sym planned.plans_are) leads)
 
     -- the plans change just what differs
     pub planned_changes : AreDueChanges (changes_of plans) (listed old) (listed after)
     planned_changes =
         subst (λ (ps : List AreaPlan). AreDueChanges (changes_of ps) (listed old) (listed after)) planned.plans_are
-        (subst (λ (lists : List AreaSummariesValue). AreDueChanges (changes_of (map (λ (x : Turn). x.plan) planned.turns)) (listed lists) (listed after)) planned.old_are
+        (subst (λ (lists : List AreaSummariesValue). AreDueChanges (changes_of (map (λ (x : SummaryTurn). x.plan) planned.turns)) (listed lists) (listed after)) planned.old_are
         (changes_after v dests planned.turns after planned.each led))
 
     -- the lists belong to the inputs then
@@ -194,7 +194,7 @@ module _ (v : SummaryInputsValue) (dests : List Dest) (areas : List AreaConfig) 
     planned_lists was alike lists =
         subst (λ (bs : List AreaConfig). AreListsOf v bs after) planned.areas_are
         (lists_after v dests was planned.turns after planned.each (λ a d c. alike a d (subst (λ (bs : List AreaConfig). Contains bs a) planned.areas_are c))
-        (subst (λ (bs : List AreaConfig). AreListsOf was bs (map (λ (x : Turn). x.old) planned.turns)) (sym planned.areas_are) (subst (AreListsOf was areas) (sym planned.old_are) lists)) led)
+        (subst (λ (bs : List AreaConfig). AreListsOf was bs (map (λ (x : SummaryTurn). x.old) planned.turns)) (sym planned.areas_are) (subst (AreListsOf was areas) (sym planned.old_are) lists)) led)
 
 -- there is a list for each area
 pub lists_long : (v : SummaryInputsValue) (areas : List AreaConfig) (lists : List AreaSummariesValue) → AreListsOf v areas lists → length lists ≡ length areas

@@ -9,11 +9,11 @@ use Rattle.ospf_types.specs.declared.prefix.Prefix.{Prefix}
 use Rattle.ospf_types.specs.Inter.{LSInfinity}
 use Rattle.ospf_types.specs.Summaries.{IsGreatest}
 use Rattle.external.specs.AsbrRoute.{PreferredValue}
-use Rattle.summaries.specs.declared.giving.Candidate.{Candidate}
+use Rattle.summaries.specs.declared.giving.SummaryCandidate.{SummaryCandidate}
 use Rattle.summaries.specs.declared.giving.Given.{Given}
 use Rattle.summaries.specs.declared.giving.Through.{Through}
 use Rattle.summaries.specs.Inputs.{SummaryInputsValue}
-use Rattle.summaries.specs.Giving.{Advertises, GivesIn, IsComponentIn, IsDueIn, IsMost, IsNetworkDueIn, IsOutside, IsServed, PreferredGives}
+use Rattle.summaries.specs.Giving.{Advertises, GivesIn, IsComponentIn, IsDueIn, IsMost, IsNetworkDueIn, IsOutsideRanges, IsServed, PreferredGives}
 
 -- it is the one that has the property, or `None` if nothing has it
 abbrev pub IsOnly : {A : Type 0} → (A → Type 0) → Option A → Type 0
@@ -25,7 +25,7 @@ LeadsThrough entry t = (e : Entry) × (entry ≡ Some e) × (e.area ≡ Some t.a
 
 -- the network's intra-area entry, outside the ranges of its area
 abbrev pub IsIntraThrough : SummaryInputsValue → Prefix → Through → Type 0
-IsIntraThrough v p t = LeadsThrough (get v.intra.entries p) t × IsOutside v.areas t.area p
+IsIntraThrough v p t = LeadsThrough (get v.intra.entries p) t × IsOutsideRanges v.areas t.area p
 
 -- the preferred entry of a router
 abbrev pub IsPreferredThrough : Option PreferredValue → Through → Type 0
@@ -55,8 +55,8 @@ IsNetworkIn v area p g = (m : ℕ) → (metric_into g area ≡ Some m) ↔ IsGre
 
 -- it gives the metric at which an AS boundary router with this preferred entry is due in each area,
 -- apart from stub areas
-abbrev pub IsRouterIn : Option PreferredValue → Given → Type 0
-IsRouterIn preferred g = (area m : ℕ) → (metric_into g area ≡ Some m) ↔ PreferredGives preferred area m
+abbrev pub IsAsbrDueIn : Option PreferredValue → Given → Type 0
+IsAsbrDueIn preferred g = (area m : ℕ) → (metric_into g area ≡ Some m) ↔ PreferredGives preferred area m
 
 -- in each area its metric is the greatest of the other's and of the metrics given
 abbrev pub HasMostOf : Given → (ℕ → ℕ → Type 0) → Given → Type 0
@@ -65,20 +65,20 @@ HasMostOf own more g = (area : ℕ) → IsMost (λ n. (metric_into own area ≡ 
 -- what gives one for the destination
 abbrev pub AreOf : SummaryInputsValue → Dest → Given → Type 0
 AreOf v (Net p) g = (area : ℕ) → IsNetworkIn v area p g
-AreOf v (Router router) g = IsRouterIn (get v.external.preferred router) g
+AreOf v (Router router) g = IsAsbrDueIn (get v.external.preferred router) g
 
-abbrev pub IsCandidate : SummaryInputsValue → Candidate → Type 0
-IsCandidate v c = AreOf v c.dest c.given
+abbrev pub IsSummaryCandidate : SummaryInputsValue → SummaryCandidate → Type 0
+IsSummaryCandidate v c = AreOf v c.dest c.given
 
 -- with fewer than two active areas nothing is due, and nothing is looked up
-abbrev pub IsCandidateOf : SummaryInputsValue → Candidate → Type 0
-IsCandidateOf v c = 1 < length v.active → IsCandidate v c
+abbrev pub IsCandidateOf : SummaryInputsValue → SummaryCandidate → Type 0
+IsCandidateOf v c = 1 < length v.active → IsSummaryCandidate v c
 
-abbrev pub AreCandidates : SummaryInputsValue → List Candidate → Type 0
-AreCandidates v cs = (c : Candidate) → Contains cs c → IsCandidateOf v c
+abbrev pub AreSummaryCandidates : SummaryInputsValue → List SummaryCandidate → Type 0
+AreSummaryCandidates v cs = (c : SummaryCandidate) → Contains cs c → IsCandidateOf v c
 
-abbrev pub dests_in : List Candidate → List Dest
-dests_in cs = map (λ (c : Candidate). c.dest) cs
+abbrev pub dests_in : List SummaryCandidate → List Dest
+dests_in cs = map (λ (c : SummaryCandidate). c.dest) cs
 
 -- the route leads through another area, at this cost
 abbrev pub CostsInto : Option Through → ℕ → ℕ → Type 0
@@ -88,7 +88,7 @@ CostsInto route area m = (t : Through) × (route ≡ Some t) × (t.area ≢ area
 
 -- by all inputs whose areas are served so, and for which the candidate is right, its destination is
 -- due at this metric
-abbrev pub IsMetricOf : AreaConfig → Bool → Candidate → Option ℕ → Type 0
+abbrev pub IsMetricOf : AreaConfig → Bool → SummaryCandidate → Option ℕ → Type 0
 IsMetricOf a served c metric = (v : SummaryInputsValue) → (IsTrue served ↔ IsServed v.active a.id) → IsCandidateOf v c → (m : ℕ) → (metric ≡ Some m) ↔ IsDueIn v a c.dest m
 
 -- by all inputs for which this is right of the network, it is due at this metric

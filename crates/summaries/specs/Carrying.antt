@@ -4,7 +4,7 @@ use Rattle.summary_lists.specs.declared.plan.AreaPlan.{AreaPlan}
 use Rattle.summary_lists.specs.Lists.{AreaSummariesValue, Metrics}
 use Rattle.summaries.specs.DueSummaries.{AreDueChanges, AreSummariesOf, DueSummariesValue, lists_of}
 use Rattle.summaries.specs.Inputs.{SummaryInputsValue}
-use Rattle.summary_lists.specs.Plans.{Fits, IsChanged}
+use Rattle.summary_lists.specs.Plans.{Fits, IsListChanged}
 
 -- each has its list, from the first on
 abbrev pub AllFit : List AreaPlan → List AreaSummariesValue → Type 0
@@ -19,7 +19,7 @@ changes_of plans = map (λ p. (p.area, p.metrics.items)) plans
 -- the areas became the others by these changes; those that are left are unchanged
 abbrev pub AllChanged : List (ℕ × Metrics) → List AreaSummariesValue → List AreaSummariesValue → Type 0
 AllChanged [] old new = new ≡ old
-AllChanged (c ∷ changes) (w ∷ old) (x ∷ new) = IsChanged c.1 w x × AllChanged changes old new
+AllChanged (c ∷ changes) (w ∷ old) (x ∷ new) = IsListChanged c.1 w x × AllChanged changes old new
 AllChanged (c ∷ changes) [] new = ⊥
 AllChanged (c ∷ changes) (w ∷ old) [] = ⊥
 

@@ -27,20 +27,20 @@ pub record Enters (area through : ℕ) (e : Entry) : Type 0 where
   pub finite : e.cost < LSInfinity
 
 -- no range of that area has the network
-abbrev pub IsOutside : List AreaConfig → ℕ → Prefix → Type 0
-IsOutside areas id p = (a : AreaConfig) → Contains areas a → a.id ≡ id → All (λ r. ¬ Covers r.prefix p) a.ranges
+abbrev pub IsOutsideRanges : List AreaConfig → ℕ → Prefix → Type 0
+IsOutsideRanges areas id p = (a : AreaConfig) → Contains areas a → a.id ≡ id → All (λ r. ¬ Covers r.prefix p) a.ranges
 
 -- an intra-area network outside the ranges of its area
 abbrev pub IntraGives : SummaryInputsValue → ℕ → Prefix → ℕ → Type 0
-IntraGives v area p metric = (e : Entry) × (through : ℕ) × (get v.intra.entries p ≡ Some e) × Enters area through e × IsOutside v.areas through p × (e.cost ≡ metric)
+IntraGives v area p metric = (e : Entry) × (through : ℕ) × (get v.intra.entries p ≡ Some e) × Enters area through e × IsOutsideRanges v.areas through p × (e.cost ≡ metric)
 
 -- an inter-area network
 abbrev pub InterGives : SummaryInputsValue → ℕ → Prefix → ℕ → Type 0
 InterGives v area p metric = (e : Entry) × (through : ℕ) × (get v.inter.entries (Net p) ≡ Some e) × Enters area through e × (e.cost ≡ metric)
 
 -- an advertised range of that area has the prefix
-abbrev pub IsAdvertised : List AreaConfig → ℕ → Prefix → Type 0
-IsAdvertised areas id p = (a : AreaConfig) × (r : Range) × Contains areas a × (a.id ≡ id) × Contains a.ranges r × (r.prefix ≡ p) × IsTrue r.advertise
+abbrev pub IsRangeAdvertised : List AreaConfig → ℕ → Prefix → Type 0
+IsRangeAdvertised areas id p = (a : AreaConfig) × (r : Range) × Contains areas a × (a.id ≡ id) × Contains a.ranges r × (r.prefix ≡ p) × IsTrue r.advertise
 
 -- a network of the range of that other area, at a finite cost
 abbrev pub IsComponentIn : SummaryInputsValue → ℕ → Prefix → ℕ → Type 0
@@ -48,7 +48,7 @@ IsComponentIn v through p cost = HasCost v.ranges p through cost × (cost < LSIn
 
 -- an advertised range of another area, by its costliest component
 abbrev pub RangeGives : SummaryInputsValue → ℕ → Prefix → ℕ → Type 0
-RangeGives v area p metric = (through : ℕ) × IsAdvertised v.areas through p × (through ≢ area) × IsGreatest (IsComponentIn v through p) metric
+RangeGives v area p metric = (through : ℕ) × IsRangeAdvertised v.areas through p × (through ≢ area) × IsGreatest (IsComponentIn v through p) metric
 
 -- an advertised range of this area has the prefix
 abbrev pub Advertises : AreaConfig → Prefix → Type 0

@@ -24,9 +24,9 @@ IsNetIn p (Net network) = Covers p network
 IsNetIn p (Router router) = ⊥
 
 -- the prefix, which has one of the networks
-abbrev pub IsOver : List Dest → Prefix → Dest → Type 0
-IsOver dests p d = (d ≡ Net p) × ((named : Dest) × Contains dests named × IsNetIn p named)
+abbrev pub IsOverNetworks : List Dest → Prefix → Dest → Type 0
+IsOverNetworks dests p d = (d ≡ Net p) × ((named : Dest) × Contains dests named × IsNetIn p named)
 
 -- that of one of these ranges
 abbrev pub IsOverIn : List Range → List Dest → Dest → Type 0
-IsOverIn ranges dests d = (r : Range) × Contains ranges r × IsOver dests r.prefix d
+IsOverIn ranges dests d = (r : Range) × Contains ranges r × IsOverNetworks dests r.prefix d

@@ -5,7 +5,7 @@ ghost use Rattle.ospf_types.specs.declared.key.Dest.{Dest as DestValue};
 ghost use Rattle.ospf_types.specs.Keys.{dest_cmp};
 ghost use Rattle.route_choice.specs.Lists.{GainsAll, HasAll, ListsExactly};
 ghost use Rattle.summaries.specs.Changes.{HasAllDue};
-ghost use Rattle.summaries.specs.Touched.{IsTouchedBy, IsOver, IsOverIn, IsNetIn};
+ghost use Rattle.summaries.specs.Touched.{IsTouchedBy, IsOverNetworks, IsOverIn, IsNetIn};
 
 use crate::giving::default_network;
 use crate::inputs::SummaryInputs;
@@ -57,7 +57,7 @@ fn push_ranges_of(area: &AreaConfig, dests: &[Dest], found: &mut Vec<Dest>) -> R
 
 // Appends the prefix, if it covers one of the networks.
 fn push_range(prefix: Prefix, dests: &[Dest], found: &mut Vec<Dest>) -> Result<(), Memory>
-    ensures { OnOk result (GainsAll (IsOver dests.now prefix) found.old.items found.new.items) }
+    ensures { OnOk result (GainsAll (IsOverNetworks dests.now prefix) found.old.items found.new.items) }
 {
     if !covers_one(prefix, dests) {
         return Ok(());

@@ -10,10 +10,10 @@ ghost use Rattle.std.specs.FinMap as map;
 ghost use Rattle.ospf_types.specs.declared.key.Dest.TheVariants as dest_value;
 ghost use Rattle.ospf_types.specs.Address.{Covers};
 ghost use Rattle.ospf_types.specs.Summaries.{default_route};
-ghost use Rattle.summaries.specs.Giving.{RangeGives, Advertises, IsOutside, IsServed, IsMost};
+ghost use Rattle.summaries.specs.Giving.{RangeGives, Advertises, IsOutsideRanges, IsServed, IsMost};
 ghost use Rattle.summaries.specs.Candidates.{IsCandidateOf, IsNetworkIn, IsOrdered, metric_into};
 ghost use Rattle.summaries.specs.Candidates.{CostsInto, HasMostOf, IsIntraThrough, IsMetricOf};
-ghost use Rattle.summaries.specs.Candidates.{IsNetworkMetricOf, IsOnly, IsRangeThrough, IsRouterIn};
+ghost use Rattle.summaries.specs.Candidates.{IsNetworkMetricOf, IsOnly, IsRangeThrough, IsAsbrDueIn};
 ghost use Rattle.summaries.specs.Candidates.{LeadsThrough, IsPreferredThrough};
 
 use crate::inputs::SummaryInputs;
@@ -43,7 +43,7 @@ pub(crate) struct Given {
 
 /// A destination and the sources of its summary, for all areas.
 #[derive(Clone, Copy, Debug)]
-pub(crate) struct Candidate {
+pub(crate) struct SummaryCandidate {
     pub dest: Dest,
     pub given: Given,
 }
@@ -108,23 +108,23 @@ impl Given {
 
 /// Looks up the sources of a summary for the destination. With fewer than two active areas there
 /// are none, as no summaries are due then.
-pub(crate) fn find_candidate(inputs: &SummaryInputs<'_>, dest: Dest) -> Candidate
+pub(crate) fn find_candidate(inputs: &SummaryInputs<'_>, dest: Dest) -> SummaryCandidate
     ensures dest { result.dest ≡ dest }
     ensures right { IsCandidateOf inputs.now result }
 {
     // 12.4.3: only area border routers originate summary-LSAs.
     if inputs.active.len() < 2 {
-        return Candidate {
+        return SummaryCandidate {
             dest,
             given: Given::none(),
         };
     }
     match dest {
-        Dest::Net(network) => Candidate {
+        Dest::Net(network) => SummaryCandidate {
             dest,
             given: network_given(inputs, network),
         },
-        Dest::Router(router) => Candidate {
+        Dest::Router(router) => SummaryCandidate {
             dest,
             given: router_given(inputs.external.preferred(router)),
         },
@@ -133,7 +133,7 @@ pub(crate) fn find_candidate(inputs: &SummaryInputs<'_>, dest: Dest) -> Candidat
 
 /// Returns the metric at which the destination is due in the area, or `None` if it is not due
 /// there. `served` is the result of `is_served` for the area.
-pub(crate) fn metric(area: &AreaConfig, served: bool, candidate: &Candidate) -> Option<u32>
+pub(crate) fn metric(area: &AreaConfig, served: bool, candidate: &SummaryCandidate) -> Option<u32>
     ensures { IsMetricOf area.now served candidate.now result }
 {
     if !served {
@@ -236,7 +236,7 @@ fn finite(entry: Option<&Entry>) -> Option<Through>
 
 // Returns true if no range of the area covers the network.
 fn is_outside(areas: &[AreaConfig], id: u32, network: Prefix) -> bool
-    ensures { IsTrue result ↔ IsOutside areas.now id network }
+    ensures { IsTrue result ↔ IsOutsideRanges areas.now id network }
 {
     for area in areas {
         if area.id == id && is_in_range(area, network) {
@@ -332,7 +332,7 @@ fn router_metric(stub: Option<Stub>, area: u32, given: Given) -> Option<u32>
 
 // Returns the sources of a summary for an AS boundary router: only its preferred route.
 fn router_given(preferred: Option<&AsbrRoute>) -> Given
-    ensures { IsRouterIn (option_copied preferred.entry) result }
+    ensures { IsAsbrDueIn (option_copied preferred.entry) result }
 {
     Given {
         most: preferred_through(preferred),

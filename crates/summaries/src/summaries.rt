@@ -4,7 +4,7 @@ ghost use Rattle.std.specs.List.{flat_map};
 ghost use Rattle.std.specs.List.Sorted.{IsStrictlySortedBy};
 ghost use Rattle.ospf_types.specs.Keys.{dest_cmp};
 ghost use Rattle.summary_lists.specs.Lists.{AreInOrder, AreOfKind};
-ghost use Rattle.summaries.specs.Candidates.{AreCandidates, dests_in};
+ghost use Rattle.summaries.specs.Candidates.{AreSummaryCandidates, dests_in};
 ghost use Rattle.summaries.specs.DueSummaries.{AreOfInactive, AreSummariesOf, dests_of, list_in};
 ghost use Rattle.summaries.specs.DueSummaries.{listed, lists_of};
 ghost use Rattle.summaries.specs.Changes.{AddsChange, AreChangesIn, AreEnough, AreEnoughForAll};
@@ -16,7 +16,7 @@ ghost use Rattle.summaries.specs.Right.{IsRightWith};
 
 use crate::affected::{affected, all, sorted_unique};
 use crate::due_changes::DueChanges;
-use crate::giving::{Candidate, find_candidate, is_served, metric};
+use crate::giving::{SummaryCandidate, find_candidate, is_served, metric};
 use crate::inputs::SummaryInputs;
 use ospf_types::config::AreaConfig;
 use ospf_types::key::Dest;
@@ -51,7 +51,7 @@ pub struct DueSummaries {
     areas: Vec<AreaSummaries>,
     active: SmallVec<u32, 4>,
     // The affected destinations of the last plan. They are kept for their memory.
-    candidates: Vec<Candidate>,
+    candidates: Vec<SummaryCandidate>,
 }
 
 // proof: a value is dropped by one call, not part by part at each exit of a function.
@@ -235,10 +235,10 @@ fn push_dests(list: &[DueSummary], dests: &mut Vec<Dest>) -> Result<(), Memory>
 fn find_candidates(
     inputs: &SummaryInputs<'_>,
     dests: &[Dest],
-    found: &mut Vec<Candidate>,
+    found: &mut Vec<SummaryCandidate>,
 ) -> Result<(), Memory>
     ensures dests { OnOk result (dests_in found.new.items ≡ dests.now) }
-    ensures right { OnOk result (AreCandidates inputs.now found.new.items) }
+    ensures right { OnOk result (AreSummaryCandidates inputs.now found.new.items) }
 {
     found.clear();
     for dest in dests {
@@ -251,14 +251,14 @@ fn find_candidates(
 #[derive(Clone, Copy)]
 struct Planning<'a> {
     inputs: &'a SummaryInputs<'a>,
-    candidates: &'a [Candidate],
+    candidates: &'a [SummaryCandidate],
 }
 
 impl Planning<'_> {
     // Plans the changes of each list.
     fn plan_areas(self, alloc: Global, lists: &mut [AreaSummaries]) -> Result<Vec<AreaPlan>, Memory>
         requires long { length lists.old ≡ length self.inputs.now.areas }
-        requires right { AreCandidates self.inputs.now self.candidates.now }
+        requires right { AreSummaryCandidates self.inputs.now self.candidates.now }
         requires in_order { IsStrictlySortedBy dest_cmp (dests_in self.candidates.now) }
         ensures same { listed lists.new ≡ listed lists.old }
         ensures planned { IfOk result (λ plans. ArePlanned self.entry.inputs.now
@@ -282,7 +282,7 @@ impl Planning<'_> {
         area: &AreaConfig,
         summaries: &mut AreaSummaries,
     ) -> Result<AreaPlan, Memory>
-        requires right { AreCandidates self.inputs.now self.candidates.now }
+        requires right { AreSummaryCandidates self.inputs.now self.candidates.now }
         requires in_order { IsStrictlySortedBy dest_cmp (dests_in self.candidates.now) }
         ensures area { summaries.new.area ≡ summaries.old.area }
         ensures list { summaries.new.list ≡ summaries.old.list }
@@ -304,7 +304,7 @@ impl Planning<'_> {
     ) -> Result<(Vec<(Dest, Option<u32>)>, bool), Memory>
         requires list { AreInOrder list.now }
         requires kinds { AreOfKind list.now }
-        requires right { AreCandidates self.inputs.now self.candidates.now }
+        requires right { AreSummaryCandidates self.inputs.now self.candidates.now }
         requires in_order { IsStrictlySortedBy dest_cmp (dests_in self.candidates.now) }
         ensures { IfOk result (λ found. AreChangesIn self.entry.inputs.now area.now list.now
             (dests_in self.entry.candidates.now) found.0.items) }

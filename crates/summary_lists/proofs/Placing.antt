@@ -15,7 +15,7 @@ use Rattle.ospf_types.specs.Keys.{dest_cmp}
 use Rattle.ospf_types.proofs.Orders.{dest_total, dest_exact}
 use Rattle.summary_lists.specs.declared.due.DueSummary.{DueSummary}
 use Rattle.summary_lists.specs.Lists.{due_for, kind_of, AreInOrder, AreOfKind}
-use Rattle.summary_lists.specs.Places.{those_before, those_after, with_metric, IsAt, IsGapFor}
+use Rattle.summary_lists.specs.Places.{those_before, those_after, with_metric, IsSummaryAt, IsGapFor}
 use Rattle.summary_lists.proofs.Parts.{turned, turned_back, parted, AreAll}
 
 less_at : (list : List DueSummary) → AreInOrder list → (i j : ℕ) (e : DueSummary) → i < j → j < length list → dest_cmp (get_or list i e).dest (get_or list j e).dest ≡ Less
@@ -29,7 +29,7 @@ module _ (list : List DueSummary) (ordered : AreInOrder list) (d : Dest) where
   searchable : IsNonDecreasingBy (λ due. ordering_index (dest_cmp due.dest d)) list
   searchable = searchable_from_sorted dest_total (λ due. due.dest) list d (λ k e low high. ap is_lt (turned_back (get_or list k e).dest (get_or list (k + 1) e).dest (less_at list ordered k (k + 1) e (omega arith) high)))
 
-  pub is_at : (at : ℕ) → at < length list → ((e : DueSummary) → dest_cmp (get_or list at e).dest d ≡ Equal) → IsAt list d at
+  pub is_at : (at : ℕ) → at < length list → ((e : DueSummary) → dest_cmp (get_or list at e).dest d ≡ Equal) → IsSummaryAt list d at
   is_at at in_range equal =
       let here : (e : DueSummary) → (get_or list at e).dest ≡ d = λ e. dest_exact _ _ (equal e) in
       let some = due_for d 0 in
@@ -75,7 +75,7 @@ module _ (list : List DueSummary) (ordered : AreInOrder list) (d : Dest) where
     read e = get_or_from_slice_get list 0 first e stands
 
     -- the first of the list is the destination
-    pub is_first : dest_cmp first.dest d ≡ Equal → IsAt list d 0
+    pub is_first : dest_cmp first.dest d ≡ Equal → IsSummaryAt list d 0
     is_first equal = is_at 0 (slice_get_within list 0 first stands) (λ e. ap (λ (due : DueSummary). dest_cmp due.dest d) (read e) ∙ equal)
 
     -- or it comes after the destination, and so do the others
@@ -90,11 +90,11 @@ module _ (list : List DueSummary) (ordered : AreInOrder list) (d : Dest) where
             turned_back d other (dest_total.trans d first.dest other (turned first.dest d greater) more)
 
   -- a search by destination ends at it, or where it would go
-  pub searched : (r : Result ℕ ℕ) → IsSearchInRange r (length list) → IsBinarySearchResult (λ due. dest_cmp due.dest d) list r → record { found : IfOk r (IsAt list d); absent : IfErr r (IsGapFor list d) }
+  pub searched : (r : Result ℕ ℕ) → IsSearchInRange r (length list) → IsBinarySearchResult (λ due. dest_cmp due.dest d) list r → record { found : IfOk r (IsSummaryAt list d); absent : IfErr r (IsGapFor list d) }
   searched (Ok at) in_range equal = record { found = is_at at in_range equal; absent = tt }
   searched (Err at) in_range split = record { found = tt; absent = is_gap at in_range (split searchable) }
 
-module _ (list : List DueSummary) (d : Dest) (at : ℕ) (place : IsAt list d at) where
+module _ (list : List DueSummary) (d : Dest) (at : ℕ) (place : IsSummaryAt list d at) where
   after_it : drop (suc at) list ≡ those_after d list
   after_it = subst (λ (n : ℕ). drop n list ≡ those_after d list) (add-one at) place.after
 

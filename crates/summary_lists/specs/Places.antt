@@ -22,7 +22,7 @@ abbrev pub with_metric : Dest → Option ℕ → List DueSummary → List DueSum
 with_metric d metric list = those_before d list ++ (those_at d metric ++ those_after d list)
 
 -- it is at this place
-pub record IsAt (list : List DueSummary) (d : Dest) (at : ℕ) : Type 0 where
+pub record IsSummaryAt (list : List DueSummary) (d : Dest) (at : ℕ) : Type 0 where
   pub in_range : at < length list
   pub before : take at list ≡ those_before d list
   pub here : (due : DueSummary) → (slice_index_or list at due).dest ≡ d

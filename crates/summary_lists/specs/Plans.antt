@@ -15,7 +15,7 @@ abbrev pub Fits : AreaPlan → AreaSummariesValue → Type 0
 Fits plan w = AreMetricsInOrder plan.metrics.items × HasRoom plan.metrics.items w plan.whole
 
 -- the one area became the other by these changes
-pub record IsChanged (metrics : Metrics) (old new : AreaSummariesValue) : Type 0 where
+pub record IsListChanged (metrics : Metrics) (old new : AreaSummariesValue) : Type 0 where
   pub area : new.area ≡ old.area
   pub list : IsChangedBy metrics old.list new.list
   pub in_order : AreInOrder new.list

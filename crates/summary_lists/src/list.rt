@@ -2,7 +2,7 @@
 ghost use Rattle.std.specs.Prelude.{◌≡◌, ◌≤◌, ◌<◌, ◌+◌, ◌++◌, [], length, IfOk, IfErr, OnOk};
 ghost use Rattle.summary_lists.specs.Lists.{AreInOrder, IsMetricIn, IsPut, IsChangedBy};
 ghost use Rattle.summary_lists.specs.Lists.{AreMetricsInOrder, AreOfKind};
-ghost use Rattle.summary_lists.specs.Places.{IsAt, IsGapFor, those_before, those_at, those_after};
+ghost use Rattle.summary_lists.specs.Places.{IsSummaryAt, IsGapFor, those_before, those_at, those_after};
 
 use crate::due::DueSummary;
 use ospf_types::key::Dest;
@@ -164,7 +164,7 @@ impl AreaSummaries {
     // Returns the index of the destination as `Ok`, or the index at which to insert it as `Err`.
     // The index `near` is tried first.
     fn place(&self, near: usize, dest: &Dest) -> Result<usize, usize>
-        ensures found { IfOk result (IsAt self.now.list dest.now) }
+        ensures found { IfOk result (IsSummaryAt self.now.list dest.now) }
         ensures absent { IfErr result (IsGapFor self.now.list dest.now) }
     {
         let list = self.list.as_slice();
@@ -198,7 +198,7 @@ pub fn look_up<'a>(list: &'a [DueSummary], dest: &Dest) -> (Option<u32>, &'a [Du
 // Destinations in order are usually adjacent, so the first summary is tried first.
 fn place_in(list: &[DueSummary], dest: &Dest) -> Result<usize, usize>
     requires { AreInOrder list.now }
-    ensures found { IfOk result (IsAt list.now dest.now) }
+    ensures found { IfOk result (IsSummaryAt list.now dest.now) }
     ensures absent { IfErr result (IsGapFor list.now dest.now) }
 {
     let Some(first) = list.first() else {
@@ -214,7 +214,7 @@ fn place_in(list: &[DueSummary], dest: &Dest) -> Result<usize, usize>
 // Returns the index of the destination as `Ok`, or the index at which to insert it as `Err`.
 fn place_by_search(list: &[DueSummary], dest: &Dest) -> Result<usize, usize>
     requires { AreInOrder list.now }
-    ensures found { IfOk result (IsAt list.now dest.now) }
+    ensures found { IfOk result (IsSummaryAt list.now dest.now) }
     ensures absent { IfErr result (IsGapFor list.now dest.now) }
 {
     list.binary_search_by_key(dest, |due| due.dest)

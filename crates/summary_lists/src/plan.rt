@@ -1,7 +1,7 @@
 //! The changes of one area's list: planned with memory, and carried out without.
 ghost use Rattle.std.specs.Prelude.{◌≡◌, IfOk};
 ghost use Rattle.summary_lists.specs.Lists.{AreMetricsInOrder};
-ghost use Rattle.summary_lists.specs.Plans.{Fits, IsChanged};
+ghost use Rattle.summary_lists.specs.Plans.{Fits, IsListChanged};
 
 use crate::due::DueSummary;
 use crate::list::AreaSummaries;
@@ -66,7 +66,7 @@ impl AreaPlan {
     /// Makes the planned changes in the list. It allocates nothing.
     pub fn carry_out(&mut self, summaries: &mut AreaSummaries)
         requires { Fits self.old summaries.old }
-        ensures list { IsChanged self.old.metrics.items summaries.old summaries.new }
+        ensures list { IsListChanged self.old.metrics.items summaries.old summaries.new }
         ensures area { self.new.area ≡ self.old.area }
         ensures metrics { self.new.metrics ≡ self.old.metrics }
     {

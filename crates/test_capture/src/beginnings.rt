@@ -5,7 +5,7 @@ mod samples;
 mod trial;
 
 use anyhow::Result;
-use bytes::{Fields, Head, router_lsa, summary_lsa};
+use bytes::{Fields, HeaderFields, router_lsa, summary_lsa};
 use many_links::{NEIGHBOUR, links_back, own_links};
 use ospf_types::address::Address;
 use samples::{AREAS, ROUTERS, SUMMARIES};
@@ -43,7 +43,7 @@ fn put_border_router(rt: &HostRuntime) -> Result<()> {
 
 fn note_routers(rt: &HostRuntime, trial: &mut Trial) -> Result<()> {
     for sample in ROUTERS {
-        let head = Head {
+        let head = HeaderFields {
             options: sample.options,
             id: sample.router,
             router: sample.router,
@@ -56,7 +56,7 @@ fn note_routers(rt: &HostRuntime, trial: &mut Trial) -> Result<()> {
 
 fn note_summaries(rt: &HostRuntime, trial: &mut Trial) -> Result<()> {
     for sample in SUMMARIES {
-        let head = Head {
+        let head = HeaderFields {
             options: 2,
             id: sample.id,
             router: sample.router,
@@ -75,7 +75,7 @@ fn put_many_networks(rt: &HostRuntime) -> Result<()> {
     for number in 0..300u32 {
         links.push((0x0a01_0000 + 256 * number, 0xffff_ff00, 3))?;
     }
-    let head = Head {
+    let head = HeaderFields {
         options: 2,
         id: ROUTER,
         router: ROUTER,
@@ -103,7 +103,7 @@ fn put_many_links(rt: &HostRuntime) -> Result<()> {
 }
 
 fn note_links(alloc: Global, trial: &mut Trial, router: u32, links: &[Fields]) -> Result<()> {
-    let head = Head {
+    let head = HeaderFields {
         options: 2,
         id: router,
         router,

@@ -4,7 +4,7 @@ pub mod samples;
 
 use anyhow::Result;
 use capture_recording::{Capturing, Options, Preamble, record_capture};
-use device::{Input, Output};
+use device::{InputDevice, OutputDevice};
 use samples::{CAPTURE, FIRST, FRONT, HEADER};
 use std::hash::RandomState;
 use std::io;
@@ -97,9 +97,9 @@ impl Trial<'_> {
     fn run(self, rt: &HostRuntime, hashing: RandomState) -> Result<()> {
         let alloc = rt.alloc();
         let bytes = CAPTURE.get(..self.length).unwrap_or(&CAPTURE);
-        let mut input = Input::new(bytes, self.fails);
-        let mut out = Output::new(alloc, self.room, self.failure);
-        let mut faults = Output::new(alloc, self.told, self.failure);
+        let mut input = InputDevice::new(bytes, self.fails);
+        let mut out = OutputDevice::new(alloc, self.room, self.failure);
+        let mut faults = OutputDevice::new(alloc, self.told, self.failure);
         let capturing = Capturing {
             options: OPTIONS,
             beginning: self.beginning,

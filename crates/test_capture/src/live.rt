@@ -16,14 +16,14 @@ const OPTIONS: Options = Options {
 
 /// An input that gives the header, and then one packet at each read.
 #[derive(Drop)]
-struct Input<'a> {
+struct PacketInput<'a> {
     reads: usize,
     written: &'a Cell<usize>,
     /// The number of bytes written before each of the first reads.
     seen: [usize; 4],
 }
 
-impl io::Read for Input<'_> {
+impl io::Read for PacketInput<'_> {
     fn read(&mut self, buf: &mut [u8]) -> io::Result<usize> {
         if let Some(seen) = self.seen.get_mut(self.reads) {
             *seen = self.written.get();
@@ -41,11 +41,11 @@ impl io::Read for Input<'_> {
 
 /// An output that counts the bytes written.
 #[derive(Drop)]
-struct Output<'a> {
+struct CountingOutput<'a> {
     written: &'a Cell<usize>,
 }
 
-impl io::Write for Output<'_> {
+impl io::Write for CountingOutput<'_> {
     fn write(&mut self, buf: &[u8]) -> io::Result<usize> {
         self.written
             .set(self.written.get().saturating_add(buf.len()));
@@ -65,12 +65,12 @@ impl io::Write for Output<'_> {
 /// Returns an error if the capture is not recorded, or if memory runs out.
 pub fn run(rt: &HostRuntime) -> Result<()> {
     let written = Cell::new(0);
-    let mut input = Input {
+    let mut input = PacketInput {
         reads: 0,
         written: &written,
         seen: [0; 4],
     };
-    let mut out = Output { written: &written };
+    let mut out = CountingOutput { written: &written };
     let mut said = Vec::new(rt.alloc());
     let capturing = Capturing {
         options: OPTIONS,

@@ -12,7 +12,7 @@ use captures::Capture;
 use many::ensure_known_again;
 use reading::put_capture;
 use samples::{FLUSHED_TWICE, PACKETS, captured};
-use session::Session;
+use session::SessionLines;
 use std::fs;
 use std::hash::RandomState;
 
@@ -38,7 +38,7 @@ fn put_file(rt: &HostRuntime, name: &str, is_bare: bool) -> Result<()> {
     };
     let bytes = fs::read(rt, name)?;
     let mut capture = Capture::new(rt.alloc());
-    let mut session = Session::new(rt.alloc(), RandomState::new(rt)?, options);
+    let mut session = SessionLines::new(rt.alloc(), RandomState::new(rt)?, options);
     put_capture(rt.alloc(), &mut capture, &mut session, &bytes)?;
     print!(rt; "{}", session.text())?;
     Ok(())
@@ -50,7 +50,7 @@ fn put_packets(rt: &HostRuntime, packets: &[&[u8]], keeps_all: bool) -> Result<(
         keeps_all,
         without_seconds: false,
     };
-    let mut session = Session::new(rt.alloc(), RandomState::new(rt)?, options);
+    let mut session = SessionLines::new(rt.alloc(), RandomState::new(rt)?, options);
     for bytes in packets {
         session.put(rt.alloc(), &captured(bytes))?;
     }

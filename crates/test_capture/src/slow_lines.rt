@@ -12,7 +12,7 @@ use input_reading::ReadFault;
 use long::long_lines;
 use std::alloc::Global;
 use std::io;
-use trial::{STEPS, Trial, Wanted, do_come};
+use trial::{ExpectedResult, STEPS, Trial, do_come};
 
 pub fn run(rt: &HostRuntime) -> Result<()> {
     for trial in short_lines() {
@@ -35,22 +35,26 @@ fn short_lines() -> [Trial<'static>; 3] {
         Trial {
             name: "nothing",
             text: b"",
-            wanted: &[Wanted::End, Wanted::End],
+            wanted: &[ExpectedResult::End, ExpectedResult::End],
         },
         Trial {
             name: "empty lines",
             text: b"\n\n",
-            wanted: &[Wanted::Line(b""), Wanted::Line(b""), Wanted::End],
+            wanted: &[
+                ExpectedResult::Line(b""),
+                ExpectedResult::Line(b""),
+                ExpectedResult::End,
+            ],
         },
         Trial {
             name: "short lines",
             text: b"1 up\n\r\n\xff\0 2",
             wanted: &[
-                Wanted::Line(b"1 up"),
-                Wanted::Line(b"\r"),
-                Wanted::Cut(b"\xff\0 2"),
-                Wanted::End,
-                Wanted::End,
+                ExpectedResult::Line(b"1 up"),
+                ExpectedResult::Line(b"\r"),
+                ExpectedResult::Cut(b"\xff\0 2"),
+                ExpectedResult::End,
+                ExpectedResult::End,
             ],
         },
     ]
@@ -59,11 +63,11 @@ fn short_lines() -> [Trial<'static>; 3] {
 // A read that fails: the bytes of the line are lost, and the rest of the line comes next.
 fn try_fault(alloc: Global, kind: io::ErrorKind, fault: ReadFault) -> Result<()> {
     let wanted = [
-        Wanted::Line(b"ab"),
-        Wanted::Fault(fault),
-        Wanted::Line(b"ef"),
-        Wanted::Line(b"gh"),
-        Wanted::End,
+        ExpectedResult::Line(b"ab"),
+        ExpectedResult::Fault(fault),
+        ExpectedResult::Line(b"ef"),
+        ExpectedResult::Line(b"gh"),
+        ExpectedResult::End,
     ];
     for step in STEPS {
         let mut input = SlowInput::new(b"ab\ncd", step)

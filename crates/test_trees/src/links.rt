@@ -5,7 +5,7 @@ use ospf_types::entry::Vertex;
 use std::alloc::Global;
 use std::hash::RandomState;
 use std::test::Fail;
-use vertex_graph::{Graph, Link, Up};
+use vertex_graph::{Graph, GraphLink, Up};
 
 const ROUTER: u32 = 0x0a00_0001;
 
@@ -18,7 +18,7 @@ const ROOT: Vertex = Vertex::Router(ROUTER);
 const N: Vertex = Vertex::Network(ADDRESS);
 
 // Returns true if there is one link, over this interface or to these addresses.
-fn is_one(links: &[Link], interface: u8, addresses: &[u32]) -> bool {
+fn is_one(links: &[GraphLink], interface: u8, addresses: &[u32]) -> bool {
     match links {
         [link] => match link.label.interface() {
             Some(id) => id == interface,

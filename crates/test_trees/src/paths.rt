@@ -7,10 +7,10 @@ use ospf_types::hop::NextHop;
 use std::alloc::Global;
 use std::hash::RandomState;
 use std::test::Fail;
-use vertex_graph::{Link, Up};
+use vertex_graph::{GraphLink, Up};
 
 /// Returns true if the links lead to these vertices in this order, at these metrics.
-pub(crate) fn leads(links: &[&Link], to: &[(Vertex, u16)]) -> bool {
+pub(crate) fn leads(links: &[&GraphLink], to: &[(Vertex, u16)]) -> bool {
     let mut all = links.len() == to.len();
     for (link, (vertex, cost)) in links.iter().zip(to) {
         all &= link.to.vertex() == *vertex && link.cost == *cost;
@@ -61,7 +61,7 @@ fn through_line(alloc: Global, trial: &mut Trial) -> Result<(usize, u32), Fail> 
     Ok((links.len(), cost_of(&links)))
 }
 
-fn cost_of(links: &[&Link]) -> u32 {
+fn cost_of(links: &[&GraphLink]) -> u32 {
     let mut cost = 0u32;
     for link in links {
         cost = cost.wrapping_add(u32::from(link.cost));

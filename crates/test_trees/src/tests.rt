@@ -108,7 +108,7 @@ fn is_within(touched: Touched, (vertices, links): (usize, usize)) -> bool {
 // New links of a router in the network, some vertices as they are reached then, the vertices that
 // differ, and the bound of the work.
 #[derive(Drop)]
-struct Change<'a> {
+struct LinkChange<'a> {
     router: u32,
     ways: &'a [Way],
     reached: &'a [Reached],
@@ -118,19 +118,23 @@ struct Change<'a> {
 
 // Returns the number of next-hop sets that the change writes, or `None` if the tree or the work is
 // not right.
-fn hop_sets(rt: &HostRuntime, change: &Change<'_>) -> Result<Option<usize>, Fail> {
+fn hop_sets(rt: &HostRuntime, change: &LinkChange<'_>) -> Result<Option<usize>, Fail> {
     let mut trial = Trial::new(rt.alloc(), 1, RandomState::new(rt)?)?;
     written(rt.alloc(), &mut trial, change)
 }
 
-fn written(alloc: Global, trial: &mut Trial, change: &Change<'_>) -> Result<Option<usize>, Fail> {
+fn written(
+    alloc: Global,
+    trial: &mut Trial,
+    change: &LinkChange<'_>,
+) -> Result<Option<usize>, Fail> {
     connect(alloc, trial)?;
     let touched = put(alloc, trial, change.router, change.ways)?;
     let right = is_right(trial.tree(), change) && is_within(touched, change.bound);
     Ok(right.then_some(touched.hop_sets))
 }
 
-fn is_right(tree: &Tree, change: &Change<'_>) -> bool {
+fn is_right(tree: &Tree, change: &LinkChange<'_>) -> bool {
     has_all(tree, change.reached) && tree.changed() == change.differ
 }
 
@@ -160,7 +164,7 @@ fn equal_cost_paths_unite(rt: HostRuntime) -> Result<(), Fail> {
 
 // N and the leaf lose next hops with the peer's old link to N, and the new link changes nothing
 // more. N is the head of both links, and four links lead out of N and the leaf.
-const DEARER: Change<'static> = Change {
+const DEARER: LinkChange<'static> = LinkChange {
     router: 3,
     ways: &[(ROOT, 0xc633_6402, 5), (N, 0xc000_0203, 6)],
     reached: &[
@@ -180,7 +184,7 @@ fn a_dearer_link_takes_a_path_away(rt: HostRuntime) -> Result<(), Fail> {
 
 // The leaf is the head of the link with its old address and of the link with the new one. Without
 // them it is not reached. One link leads out of it, before and after.
-const MOVED: Change<'static> = Change {
+const MOVED: LinkChange<'static> = LinkChange {
     router: 2,
     ways: &[(N, 0xc000_0204, 1)],
     reached: &[(LEAF, 10, &[BY_PEER, NextHop::Router(1, 0xc000_0204)])],
@@ -196,7 +200,7 @@ fn another_address_is_another_hop(rt: HostRuntime) -> Result<(), Fail> {
 
 // The links between the root and the peer are removed, in both directions. N, the leaf and the peer
 // differ, and five links lead out of them.
-const CUT: Change<'static> = Change {
+const CUT: LinkChange<'static> = LinkChange {
     router: 3,
     ways: &[(N, 0xc000_0203, 5)],
     reached: &[
@@ -216,7 +220,7 @@ fn a_link_that_goes_leaves_the_longer_way(rt: HostRuntime) -> Result<(), Fail> {
 
 // N and the leaf differ without the peer's link to N, and again with the new link. N is the head of
 // both links. Four links lead out of N and the leaf, before and after.
-const CHEAPER: Change<'static> = Change {
+const CHEAPER: LinkChange<'static> = LinkChange {
     router: 3,
     ways: &[(ROOT, 0xc633_6402, 5), (N, 0xc000_0203, 4)],
     reached: &[

@@ -13,7 +13,7 @@ use spf::{Touched, Tree};
 use std::alloc::Global;
 use std::hash::RandomState;
 use std::marker::Model;
-use vertex_graph::{Graph, Link, LinkChanges, Up};
+use vertex_graph::{Graph, GraphLink, LinkChanges, Up};
 
 /// A graph, and the shortest-path tree of its links.
 #[derive(Drop)]
@@ -75,7 +75,7 @@ impl Trial {
         alloc: Global,
         to: Vertex,
         hop: NextHop,
-    ) -> Result<Vec<&Link>, Memory> {
+    ) -> Result<Vec<&GraphLink>, Memory> {
         if self.tree.spent() {
             return Err(Memory);
         }

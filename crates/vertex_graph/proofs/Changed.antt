@@ -13,14 +13,14 @@ use Rattle.ospf_types.specs.declared.label.Label.{Label}
 use Rattle.ospf_types.specs.Distances.{Links}
 use Rattle.ospf_types.specs.Vertices.{vertex_cmp}
 use Rattle.graph_links.specs.declared.link_end.LinkEnd.{LinkEnd}
-use Rattle.graph_links.specs.declared.link.Link.{Link}
+use Rattle.graph_links.specs.declared.link.GraphLink.{GraphLink}
 use Rattle.graph_links.specs.declared.link.Up.{Up}
 use Rattle.graph_links.specs.declared.row.Row.{Row}
 use Rattle.vertex_graph.specs.Graphs.{GraphValue, link_of, LinksOf, HasRoot, AreLinksFrom, AreLinksTo, HasEnds, HasFewRouters, AreExact, max_routers}
 use Rattle.graph_links.specs.Pairs.{AreApart, Names}
 use Rattle.vertex_graph.specs.Rows.{graph_of, AreRows}
 use Rattle.graph_links.specs.Sides.{Leading, RowList, row_ends, ends_or, LinksBy, AreOut, AreInto, IsRow, IsFreshRow, AreMissing, AreRowsBy}
-use Rattle.graph_links.specs.Sides.{IsChanged}
+use Rattle.graph_links.specs.Sides.{AreRowsChanged}
 use Rattle.vertex_graph.specs.Stagings.{AreTouched}
 use Rattle.graph_links.proofs.EndOrders.{vertex_total, vertex_exact}
 use Rattle.vertex_graph.proofs.PairLinks.{links_by}
@@ -67,13 +67,13 @@ AreSame Here There = (v w : Vertex) (cost : ℕ) (label : Label) → Here v w co
 same_alike : (Here There : Links) → AreSame Here There → (v : Vertex) → IsAlike Here There v
 same_alike Here There same v = record { out = same v; into = λ w. same w v }
 
-out_alike : (Here There : Links) (v : Vertex) → IsAlike Here There v → (links : List Link) → AreOut Here v links → AreOut There v links
+out_alike : (Here There : Links) (v : Vertex) → IsAlike Here There v → (links : List GraphLink) → AreOut Here v links → AreOut There v links
 out_alike Here There v alike links are l = (
   λ c. let here = (are l).0 c in (here.0, subst (λ u. There u l.to l.cost l.label) (sym here.0) ((alike.out l.to l.cost l.label).0 (subst (λ u. Here u l.to l.cost l.label) here.0 here.1))),
   λ there. (are l).1 (there.0, subst (λ u. Here u l.to l.cost l.label) (sym there.0) ((alike.out l.to l.cost l.label).1 (subst (λ u. There u l.to l.cost l.label) there.0 there.1))),
 )
 
-into_alike : (Here There : Links) (v : Vertex) → IsAlike Here There v → (links : List Link) → AreInto Here v links → AreInto There v links
+into_alike : (Here There : Links) (v : Vertex) → IsAlike Here There v → (links : List GraphLink) → AreInto Here v links → AreInto There v links
 into_alike Here There v alike links are l = (
   λ c. let here = (are l).0 c in (here.0, subst (λ u. There l.from u l.cost l.label) (sym here.0) ((alike.into l.from l.cost l.label).0 (subst (λ u. Here l.from u l.cost l.label) here.0 here.1))),
   λ there. (are l).1 (there.0, subst (λ u. Here l.from u l.cost l.label) (sym there.0) ((alike.into l.from l.cost l.label).1 (subst (λ u. There l.from u l.cost l.label) there.0 there.1))),
@@ -103,7 +103,7 @@ module _ (root : ℕ) (rows rows_new : RowList) (ups ups_new : List Up) (after :
   abbrev Is : Links
   Is = LinksBy root ups_new after
 
-  module _ (untouched : IsUntouched (row_ends rows) after Was Is touched) (changed : IsChanged after Is touched rows rows_new) where
+  module _ (untouched : IsUntouched (row_ends rows) after Was Is touched) (changed : AreRowsChanged after Is touched rows rows_new) where
     fresh_leads : (v : Vertex) (o : Option Row) → IsFreshRow after Is v o → option_map (λ (row : Row). row.ends.items) o ≡ after v
     fresh_leads v None is = sym is
     fresh_leads v (Some row) is = sym is.0
@@ -151,7 +151,7 @@ module _ (root : ℕ) (rows rows_new : RowList) (ups ups_new : List Up) (after :
           (λ (u : (Contains touched v → ⊥) × (find vertex_cmp v rows_new ≡ find vertex_cmp v rows)). inr u.0) (changed v)
 
       -- the links that are missing of the touched vertices are all that are
-      pub changed_exact : (gone came : List Link) → AreMissing touched Was Is gone → AreMissing touched Is Was came → AreApart gone → AreApart came → AreExact Old New gone came
+      pub changed_exact : (gone came : List GraphLink) → AreMissing touched Was Is gone → AreMissing touched Is Was came → AreApart gone → AreApart came → AreExact Old New gone came
       changed_exact gone came went brought went_once came_once = record {
         went_once = went_once;
         came_once = came_once;

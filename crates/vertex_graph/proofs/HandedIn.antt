@@ -22,7 +22,7 @@ use Rattle.vertex_graph.specs.Ends.{AreEnds}
 use Rattle.vertex_graph.specs.Graphs.{GraphValue, Handed, handed_of, AreApartHanded, AreFewAfter, HasFewRouters, HasEnds, IsThereAfter, IsReplaced}
 use Rattle.ospf_types.specs.Vertices.{vertex_cmp}
 use Rattle.graph_links.specs.Sides.{Leading, RowList, StagedList, row_ends, staged_or, ends_after, ends_or, IsInOrder}
-use Rattle.vertex_graph.specs.Stagings.{IsHandedIn, IsGivenEnds, IsStaged, AreTouched, IsWithin, TouchesOthers}
+use Rattle.vertex_graph.specs.Stagings.{IsHandedIn, IsGivenEnds, IsStaged, AreTouched, AreVerticesWithin, TouchesOthers}
 use Rattle.graph_links.proofs.EndOrders.{end_exact, end_tied}
 use Rattle.graph_links.proofs.Growing.{more, more_at}
 use Rattle.graph_links.proofs.VertexTests.{equals, one_or_other, found_after, found_own, found_other}
@@ -163,7 +163,7 @@ not_before handed i p apart within at other c =
 -- ---- what is touched
 
 module _ (rows : RowList) (v : Vertex) (ends : Option (List LinkEnd)) (old new : StagedList) (touched touched_new : List Vertex) (staged : IsStaged rows v ends old new) (before : AreTouched (row_ends rows) (ends_after rows old) touched)
-    (own : Contains touched_new v) (within : IsWithin touched touched_new) (gone : TouchesOthers (ends_or (row_ends rows v)) (ends_or ends) touched_new) (came : TouchesOthers (ends_or ends) (ends_or (row_ends rows v)) touched_new) where
+    (own : Contains touched_new v) (within : AreVerticesWithin touched touched_new) (gone : TouchesOthers (ends_or (row_ends rows v)) (ends_or ends) touched_new) (came : TouchesOthers (ends_or ends) (ends_or (row_ends rows v)) touched_new) where
   other_ends : (w : Vertex) → w ≢ v → ends_after rows new w ≡ ends_after rows old w
   other_ends w apart = ap (λ o. staged_or o (row_ends rows w)) (staged.others w apart)
 
@@ -199,14 +199,14 @@ touched_none rows touched = record {
 pub touches_none : (others : List LinkEnd) (touched : List Vertex) → TouchesOthers [] others touched
 touches_none others touched e there = absurd (no_element e there)
 
-pub touches_more : (ends others : List LinkEnd) (i : ℕ) (d : LinkEnd) (touched touched_new : List Vertex) → i < length ends → TouchesOthers (take i ends) others touched → IsWithin touched touched_new
+pub touches_more : (ends others : List LinkEnd) (i : ℕ) (d : LinkEnd) (touched touched_new : List Vertex) → i < length ends → TouchesOthers (take i ends) others touched → AreVerticesWithin touched touched_new
     → Contains others (get_or ends i d) ⊎ Contains touched_new (get_or ends i d).to → TouchesOthers (take (i + 1) ends) others touched_new
 touches_more ends others i d touched touched_new inside before within one e there =
     ⊎_elim (λ (early : Contains (take i ends) e). ⊎_elim (λ (c : Contains others e). inl c) (λ (t : Contains touched e.to). inr (within e.to t)) (before e early))
     (λ (same : e ≡ get_or ends i d). subst (λ (end : LinkEnd). Contains others end ⊎ Contains touched_new end.to) (sym same) one) ((more_at ends i d inside e).0 there)
 
 -- what is touched stays touched
-pub touches_within : (ends others : List LinkEnd) (touched touched_new : List Vertex) → IsWithin touched touched_new → TouchesOthers ends others touched → TouchesOthers ends others touched_new
+pub touches_within : (ends others : List LinkEnd) (touched touched_new : List Vertex) → AreVerticesWithin touched touched_new → TouchesOthers ends others touched → TouchesOthers ends others touched_new
 touches_within ends others touched touched_new within before e there = ⊎_elim (λ (c : Contains others e). inl c) (λ (t : Contains touched e.to). inr (within e.to t)) (before e there)
 
 pub touches_as : (ends ends_new others others_new : List LinkEnd) (touched : List Vertex) → ends ≡ ends_new → others ≡ others_new → TouchesOthers ends others touched → TouchesOthers ends_new others_new touched

@@ -6,7 +6,7 @@ use Rattle.std.proofs.lemmas.List.Elements.{All-contains}
 use Rattle.ospf_types.specs.declared.entry.Vertex.{Vertex}
 use Rattle.ospf_types.specs.Vertices.{vertex_cmp}
 use Rattle.graph_links.specs.declared.link_end.LinkEnd.{LinkEnd}
-use Rattle.graph_links.specs.declared.link.Link.{Link}
+use Rattle.graph_links.specs.declared.link.GraphLink.{GraphLink}
 use Rattle.graph_links.specs.declared.link.Up.{Up}
 use Rattle.graph_links.specs.declared.row.Row.{Row}
 use Rattle.vertex_graph.specs.Graphs.{HasCheapLinks}
@@ -23,6 +23,6 @@ pub cheap_links : (root : ℕ) (rows : List (Vertex × Row)) (ups : List Up) →
 cheap_links root rows ups are from to cost label taken =
     let pair = pair_of_link (graph_of root rows ups) are.ends from to cost label taken in
     let row = row_of (find vertex_cmp from rows) pair.0 (sym (get_graph root rows ups from) ∙ pair.2) in
-    let l : Link = record { from = from; to = to; cost = cost; label = label } in
+    let l : GraphLink = record { from = from; to = to; cost = cost; label = label } in
     let is = are.right from row.0 row.1 in
-    All-contains (λ (m : Link). m.cost < 65536) row.0.out.items l is.out_cheap ((is.out l).1 (refl, taken))
+    All-contains (λ (m : GraphLink). m.cost < 65536) row.0.out.items l is.out_cheap ((is.out l).1 (refl, taken))

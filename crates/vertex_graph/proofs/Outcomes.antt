@@ -4,13 +4,13 @@ use Rattle.std.specs.Prelude.{Contains}
 use Rattle.std.specs.FinMap.{get}
 use Rattle.ospf_types.specs.declared.entry.Vertex.{Vertex}
 use Rattle.ospf_types.specs.declared.entry.Vertex.TheVariants.{Router}
-use Rattle.graph_links.specs.declared.link.Link.{Link}
+use Rattle.graph_links.specs.declared.link.GraphLink.{GraphLink}
 use Rattle.graph_links.specs.declared.link.Up.{Up}
 use Rattle.vertex_graph.specs.Graphs.{GraphValue, Handed, HasEnds, AreFewAfter, IsReplaced, AreExact}
 use Rattle.graph_links.specs.Pairs.{AreApart, Names}
 use Rattle.vertex_graph.specs.Rows.{graph_of, AreRows}
 use Rattle.graph_links.specs.Sides.{RowList, StagedList, row_ends, ends_after, ends_or, LinksBy, AreMissing, IsInOrder}
-use Rattle.graph_links.specs.Sides.{IsChanged}
+use Rattle.graph_links.specs.Sides.{AreRowsChanged}
 use Rattle.vertex_graph.specs.Stagings.{IsHandedIn, AreTouched}
 use Rattle.vertex_graph.proofs.Changed.{get_graph, IsUntouched, leads_new, changed_rows, changed_exact, ends_untouched, ups_untouched, ends_alike, few_alike, map_alike}
 use Rattle.vertex_graph.proofs.HandedIn.{graph_in_order, handed_in_order, handed_ends, handed_few, handed_replaced}
@@ -28,7 +28,7 @@ unstaged_in_order root rows ups staged old none = subst (λ (s : StagedList). Is
 -- ---- other interfaces
 
 module _ (root : ℕ) (rows rows_new : RowList) (ups ups_new was is : List Up) (staged : StagedList) (touched : List Vertex) (old : AreRows root rows ups) (was_are : was ≡ ups) (is_are : is ≡ ups_new) (none : staged ≡ [])
-    (own : Contains touched (Router root)) (named : (v : Vertex) → Names (ends_or (row_ends rows (Router root))) v → Contains touched v) (changed : IsChanged (ends_after rows staged) (LinksBy root is (ends_after rows staged)) touched rows rows_new) where
+    (own : Contains touched (Router root)) (named : (v : Vertex) → Names (ends_or (row_ends rows (Router root))) v → Contains touched v) (changed : AreRowsChanged (ends_after rows staged) (LinksBy root is (ends_after rows staged)) touched rows rows_new) where
   abbrev Old : GraphValue
   Old = graph_of root rows ups
 
@@ -38,8 +38,8 @@ module _ (root : ℕ) (rows rows_new : RowList) (ups ups_new was is : List Up) (
   ups_stay : IsUntouched (row_ends rows) (row_ends rows) (LinksBy root ups (row_ends rows)) (LinksBy root ups_new (row_ends rows)) touched
   ups_stay = ups_untouched root rows ups ups_new touched own named
 
-  ups_change : IsChanged (row_ends rows) (LinksBy root ups_new (row_ends rows)) touched rows rows_new
-  ups_change = subst (λ (t : StagedList × List Up). IsChanged (ends_after rows t.0) (LinksBy root t.1 (ends_after rows t.0)) touched rows rows_new) (λ i. (none i, is_are i)) changed
+  ups_change : AreRowsChanged (row_ends rows) (LinksBy root ups_new (row_ends rows)) touched rows rows_new
+  ups_change = subst (λ (t : StagedList × List Up). AreRowsChanged (ends_after rows t.0) (LinksBy root t.1 (ends_after rows t.0)) touched rows rows_new) (λ i. (none i, is_are i)) changed
 
   ups_lead : (v : Vertex) → get New.ends v ≡ get Old.ends v
   ups_lead v = leads_new root rows rows_new ups ups_new (row_ends rows) touched ups_stay ups_change v ∙ sym (get_graph root rows ups v)
@@ -53,7 +53,7 @@ module _ (root : ℕ) (rows rows_new : RowList) (ups ups_new was is : List Up) (
   pub ups_map : New.ends ≡ Old.ends
   ups_map = map_alike Old New ups_lead
 
-  pub ups_exact : (gone came : List Link) → AreMissing touched (LinksBy root was (row_ends rows)) (LinksBy root is (ends_after rows staged)) gone
+  pub ups_exact : (gone came : List GraphLink) → AreMissing touched (LinksBy root was (row_ends rows)) (LinksBy root is (ends_after rows staged)) gone
       → AreMissing touched (LinksBy root is (ends_after rows staged)) (LinksBy root was (row_ends rows)) came → AreApart gone → AreApart came → AreExact Old New gone came
   ups_exact gone came went brought went_once came_once =
       let Both : StagedList × (List Up × List Up) → Type 0 = λ t.
@@ -64,7 +64,7 @@ module _ (root : ℕ) (rows rows_new : RowList) (ups ups_new was is : List Up) (
 -- ---- other LSAs
 
 module _ (root : ℕ) (rows rows_new : RowList) (ups was : List Up) (staged : StagedList) (touched : List Vertex) (handed : List Handed) (old : AreRows root rows ups) (was_are : was ≡ ups)
-    (h : IsHandedIn (row_ends rows) (ends_after rows staged) handed) (touches : AreTouched (row_ends rows) (ends_after rows staged) touched) (changed : IsChanged (ends_after rows staged) (LinksBy root was (ends_after rows staged)) touched rows rows_new)
+    (h : IsHandedIn (row_ends rows) (ends_after rows staged) handed) (touches : AreTouched (row_ends rows) (ends_after rows staged) touched) (changed : AreRowsChanged (ends_after rows staged) (LinksBy root was (ends_after rows staged)) touched rows rows_new)
     (few : AreFewAfter (graph_of root rows ups) handed) where
   abbrev Before : GraphValue
   Before = graph_of root rows ups
@@ -75,8 +75,8 @@ module _ (root : ℕ) (rows rows_new : RowList) (ups was : List Up) (staged : St
   ends_stay : IsUntouched (row_ends rows) (ends_after rows staged) (LinksBy root ups (row_ends rows)) (LinksBy root ups (ends_after rows staged)) touched
   ends_stay = ends_untouched root rows ups (ends_after rows staged) touched touches
 
-  ends_change : IsChanged (ends_after rows staged) (LinksBy root ups (ends_after rows staged)) touched rows rows_new
-  ends_change = subst (λ (us : List Up). IsChanged (ends_after rows staged) (LinksBy root us (ends_after rows staged)) touched rows rows_new) was_are changed
+  ends_change : AreRowsChanged (ends_after rows staged) (LinksBy root ups (ends_after rows staged)) touched rows rows_new
+  ends_change = subst (λ (us : List Up). AreRowsChanged (ends_after rows staged) (LinksBy root us (ends_after rows staged)) touched rows rows_new) was_are changed
 
   ends_lead : (v : Vertex) → get After.ends v ≡ ends_after rows staged v
   ends_lead = leads_new root rows rows_new ups ups (ends_after rows staged) touched ends_stay ends_change
@@ -92,7 +92,7 @@ module _ (root : ℕ) (rows rows_new : RowList) (ups was : List Up) (staged : St
   pub ends_replaced : IsReplaced Before After handed
   ends_replaced = handed_replaced Before (row_ends rows) (ends_after rows staged) handed old.ends (get_graph root rows ups) h After ends_lead refl refl
 
-  pub ends_exact : (gone came : List Link) → AreMissing touched (LinksBy root was (row_ends rows)) (LinksBy root was (ends_after rows staged)) gone
+  pub ends_exact : (gone came : List GraphLink) → AreMissing touched (LinksBy root was (row_ends rows)) (LinksBy root was (ends_after rows staged)) gone
       → AreMissing touched (LinksBy root was (ends_after rows staged)) (LinksBy root was (row_ends rows)) came → AreApart gone → AreApart came → AreExact Before After gone came
   ends_exact gone came went brought went_once came_once =
       let Both : List Up → Type 0 = λ us.

@@ -13,7 +13,7 @@ use Rattle.ospf_types.specs.Distances.{Links}
 use Rattle.ospf_types.specs.Links.{View, IsLinkOf, IsVertexOf}
 use Rattle.ospf_types.specs.Lsa.{Body, RouterLink}
 use Rattle.ospf_types.specs.Vertices.{vertex_cmp}
-use Rattle.graph_links.specs.declared.link.Link.{Link}
+use Rattle.graph_links.specs.declared.link.GraphLink.{GraphLink}
 use Rattle.graph_links.specs.declared.link.LinkChanges.{LinkChanges}
 use Rattle.graph_links.specs.declared.link.Up.{Up}
 use Rattle.graph_links.specs.declared.link_end.LinkEnd.{LinkEnd}
@@ -59,12 +59,12 @@ abbrev pub HasRoot : GraphValue → Type 0
 HasRoot g = IsVertexOf (graph_view g) (Router g.root)
 
 -- the links out of a vertex
-abbrev pub AreLinksFrom : GraphValue → Vertex → List Link → Type 0
-AreLinksFrom g v links = (l : Link) → Contains links l ↔ ((l.from ≡ v) × LinksOf g l.from l.to l.cost l.label)
+abbrev pub AreLinksFrom : GraphValue → Vertex → List GraphLink → Type 0
+AreLinksFrom g v links = (l : GraphLink) → Contains links l ↔ ((l.from ≡ v) × LinksOf g l.from l.to l.cost l.label)
 
 -- the links into a vertex
-abbrev pub AreLinksTo : GraphValue → Vertex → List Link → Type 0
-AreLinksTo g v links = (l : Link) → Contains links l ↔ ((l.to ≡ v) × LinksOf g l.from l.to l.cost l.label)
+abbrev pub AreLinksTo : GraphValue → Vertex → List GraphLink → Type 0
+AreLinksTo g v links = (l : GraphLink) → Contains links l ↔ ((l.to ≡ v) × LinksOf g l.from l.to l.cost l.label)
 
 -- metrics of a graph's links have 16 bits
 abbrev pub HasCheapLinks : GraphValue → Type 0
@@ -120,9 +120,9 @@ pub record IsReplaced (old new : GraphValue) (handed : List Handed) : Type 0 whe
 
 -- exactly the links that were removed and added, without duplicates; one with another cost or label
 -- is one of each
-pub record AreExact (old new : GraphValue) (gone come : List Link) : Type 0 where
-  pub went : (l : Link) → Contains gone l ↔ (LinksOf old l.from l.to l.cost l.label × (LinksOf new l.from l.to l.cost l.label → ⊥))
-  pub came : (l : Link) → Contains come l ↔ (LinksOf new l.from l.to l.cost l.label × (LinksOf old l.from l.to l.cost l.label → ⊥))
+pub record AreExact (old new : GraphValue) (gone come : List GraphLink) : Type 0 where
+  pub went : (l : GraphLink) → Contains gone l ↔ (LinksOf old l.from l.to l.cost l.label × (LinksOf new l.from l.to l.cost l.label → ⊥))
+  pub came : (l : GraphLink) → Contains come l ↔ (LinksOf new l.from l.to l.cost l.label × (LinksOf old l.from l.to l.cost l.label → ⊥))
   pub went_once : AllPairs (λ k l. k ≢ l) gone
   pub came_once : AllPairs (λ k l. k ≢ l) come
 

@@ -7,5 +7,5 @@ pub use Rattle.graph_links.specs.EndOrder
 pub use Rattle.graph_links.specs.Labels
 pub use Rattle.graph_links.specs.Pairs
 pub use Rattle.graph_links.specs.declared.link_end.LinkEnd
-pub use Rattle.graph_links.specs.declared.link.Link
+pub use Rattle.graph_links.specs.declared.link.GraphLink
 pub use Rattle.graph_links.specs.declared.link.Up

@@ -58,8 +58,8 @@ pub record AreTouched (before after : Leading) (touched : List Vertex) : Type 0 
 abbrev pub HasTouched : RowList → Staging → Type 0
 HasTouched rows staging = AreTouched (row_ends rows) (ends_after rows staging.ends.entries) staging.touched.items
 
-abbrev pub IsWithin : List Vertex → List Vertex → Type 0
-IsWithin some all = (v : Vertex) → Contains some v → Contains all v
+abbrev pub AreVerticesWithin : List Vertex → List Vertex → Type 0
+AreVerticesWithin some all = (v : Vertex) → Contains some v → Contains all v
 
 -- the vertex at the end is touched, unless the end is among the others
 abbrev pub TouchesUnless : LinkEnd → List LinkEnd → List Vertex → Type 0

@@ -2,7 +2,7 @@
 ghost use Rattle.std.specs.Prelude.{◌≡◌, ◌≢◌, ℕ, List, OnOk, OnErr, IfOk};
 ghost use Rattle.std.specs.List.{AllPairs};
 ghost use Rattle.graph_links.specs.Pairs.{AreApart};
-ghost use Rattle.graph_links.specs.Sides.{AreRowsBy, IsInOrder, IsPlaced, ends_after};
+ghost use Rattle.graph_links.specs.Sides.{AreRowsBy, IsInOrder, AreRowsPlaced, ends_after};
 ghost use Rattle.graph_links.specs.declared.link.Up.{Up as UpValue};
 ghost use Rattle.vertex_graph.specs.Changes.{ChangesRows, NamesCome, NamesGone};
 
@@ -15,12 +15,12 @@ use std::alloc::Global;
 
 /// A change of rows: the root and its interfaces after the change, and the staged ends.
 #[derive(Clone, Copy)]
-pub(crate) struct Change<'a> {
+pub(crate) struct GraphChange<'a> {
     pub(crate) local: RootInterfaces<'a>,
     pub(crate) staging: &'a Staging,
 }
 
-impl<'a> Change<'a> {
+impl<'a> GraphChange<'a> {
     /// Updates the rows of the touched vertices, and returns the links that were removed and added.
     ///
     /// All memory is allocated before the first row changes.
@@ -55,7 +55,7 @@ impl<'a> Change<'a> {
 
 // Reserves room for all new rows, and then places them.
 fn commit(rows: &mut Rows, room: &mut RowPool) -> Result<(), Memory>
-    ensures placed { OnOk result (IsPlaced room.old.fresh.items rows.old.entries rows.new.entries) }
+    ensures placed { OnOk result (AreRowsPlaced room.old.fresh.items rows.old.entries rows.new.entries) }
     ensures unchanged { OnErr result (rows.new.entries ≡ rows.old.entries) }
 {
     rows.reserve(room.fresh.len())?;

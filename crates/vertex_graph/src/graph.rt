@@ -9,9 +9,9 @@ ghost use Rattle.vertex_graph.specs.Graphs.{HasFewRouters, HasRoot, IsReplaced, 
 ghost use Rattle.vertex_graph.specs.Graphs.{handed_in};
 ghost use Rattle.graph_links.specs.Pairs.{AreCheap};
 
-use crate::change::Change;
+use crate::change::GraphChange;
 use crate::staging::{Staging, stage, stage_root};
-use graph_links::{Link, LinkChanges, RootInterfaces, Row, RowPool, Rows, Up};
+use graph_links::{GraphLink, LinkChanges, RootInterfaces, Row, RowPool, Rows, Up};
 use indexmap::IndexMap;
 use lsa_codec::Checked;
 use ospf_types::WordHash;
@@ -106,7 +106,7 @@ impl Graph {
 
     /// Returns the links from the vertex, without duplicates. The slice is empty if the graph does
     /// not have the vertex.
-    pub fn links_from(&self, vertex: Vertex) -> &[Link]
+    pub fn links_from(&self, vertex: Vertex) -> &[GraphLink]
         ensures exact { AreLinksFrom self.now vertex result.now }
         ensures each_once { AllPairs (λ k l. k ≢ l) result.now }
         ensures cheap { AreCheap result.now }
@@ -116,7 +116,7 @@ impl Graph {
 
     /// Returns the links to the vertex, without duplicates. The slice is empty if the graph does
     /// not have the vertex.
-    pub fn links_to(&self, vertex: Vertex) -> &[Link]
+    pub fn links_to(&self, vertex: Vertex) -> &[GraphLink]
         ensures exact { AreLinksTo self.now vertex result.now }
         ensures each_once { AllPairs (λ k l. k ≢ l) result.now }
         ensures cheap { AreCheap result.now }
@@ -126,7 +126,7 @@ impl Graph {
 
     /// Returns the links from the vertex, as `links_from` does. The vertex is hashed only if its
     /// hint is wrong.
-    pub fn links_from_at(&self, vertex: &HintedVertex) -> &[Link]
+    pub fn links_from_at(&self, vertex: &HintedVertex) -> &[GraphLink]
         ensures exact { AreLinksFrom self.now vertex.now result.now }
         ensures each_once { AllPairs (λ k l. k ≢ l) result.now }
         ensures cheap { AreCheap result.now }
@@ -139,7 +139,7 @@ impl Graph {
 
     /// Returns the links to the vertex, as `links_to` does. The vertex is hashed only if its hint
     /// is wrong.
-    pub fn links_to_at(&self, vertex: &HintedVertex) -> &[Link]
+    pub fn links_to_at(&self, vertex: &HintedVertex) -> &[GraphLink]
         ensures exact { AreLinksTo self.now vertex.now result.now }
         ensures each_once { AllPairs (λ k l. k ≢ l) result.now }
         ensures cheap { AreCheap result.now }
@@ -181,7 +181,7 @@ impl Graph {
     {
         let alloc = *self.interfaces.allocator();
         stage(alloc, &self.rows, lsas, &mut self.staging)?;
-        let change = Change {
+        let change = GraphChange {
             local: RootInterfaces {
                 root: self.root,
                 interfaces: &self.interfaces,
@@ -223,7 +223,7 @@ impl Graph {
         let alloc = *self.interfaces.allocator();
         let ups = Vec::from_slice(alloc, interfaces)?;
         stage_root(alloc, &self.rows, self.root, &mut self.staging)?;
-        let change = Change {
+        let change = GraphChange {
             local: RootInterfaces {
                 root: self.root,
                 interfaces: &ups,

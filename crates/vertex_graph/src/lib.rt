@@ -19,4 +19,4 @@ mod graph;
 mod staging;
 
 pub use graph::Graph;
-pub use graph_links::{Link, LinkChanges, LinkEnd, LinkLabel, Up};
+pub use graph_links::{GraphLink, LinkChanges, LinkEnd, LinkLabel, Up};

@@ -6,13 +6,13 @@ ghost use Rattle.ospf_types.specs.declared.entry.Vertex.{Vertex as VertexValue};
 ghost use Rattle.ospf_types.specs.declared.entry.Vertex.TheVariants.{Router};
 ghost use Rattle.ospf_types.specs.Vertices.{vertex_cmp};
 ghost use Rattle.vertex_graph.specs.Graphs.{handed_of, AreApartHanded};
-ghost use Rattle.vertex_graph.specs.Stagings.{HasTouched, IsGivenBy, IsWithin, LeadsAlike};
+ghost use Rattle.vertex_graph.specs.Stagings.{HasTouched, IsGivenBy, AreVerticesWithin, LeadsAlike};
 ghost use Rattle.vertex_graph.specs.Stagings.{StagesAll, StagesOne, TouchesCome, TouchesGone};
 ghost use Rattle.vertex_graph.specs.Stagings.{TouchesNeighbours, TouchesOthers, TouchesUnless};
 
 use crate::ends::ends_of;
 use graph_links::{
-    Link, LinkEnd, Row, Rows, StagedEnds, ends_of_row, ends_or_empty, find_row, hinted_by,
+    GraphLink, LinkEnd, Row, Rows, StagedEnds, ends_of_row, ends_or_empty, find_row, hinted_by,
     out_links, staged_ends,
 };
 use indexmap::IndexMap;
@@ -161,7 +161,7 @@ fn is_same(before: Option<&[LinkEnd]>, after: Option<&[LinkEnd]>) -> bool
 #[derive(Clone, Copy)]
 struct Others<'a> {
     ends: &'a [LinkEnd],
-    links: &'a [Link],
+    links: &'a [GraphLink],
 }
 
 // Touches the vertex, and the vertices at ends that are only in its row or only in `after`.
@@ -172,7 +172,7 @@ fn touch_both(
     touched: &mut Vec<HintedVertex>,
 ) -> Result<(), Memory>
     ensures own { OnOk result (Contains touched.new.items vertex.now) }
-    ensures kept { OnOk result (IsWithin touched.old.items touched.new.items) }
+    ensures kept { OnOk result (AreVerticesWithin touched.old.items touched.new.items) }
     ensures gone { OnOk result (TouchesGone before.entry after.now touched.new.items) }
     ensures came { OnOk result (TouchesCome before.entry after.now touched.new.items) }
 {
@@ -190,7 +190,7 @@ fn touch(
     others: Others<'_>,
     touched: &mut Vec<HintedVertex>,
 ) -> Result<(), Memory>
-    ensures kept { OnOk result (IsWithin touched.old.items touched.new.items) }
+    ensures kept { OnOk result (AreVerticesWithin touched.old.items touched.new.items) }
     ensures others { OnOk result (TouchesOthers ends.now others.entry.ends.now touched.new.items) }
 {
     for (place, end) in ends.iter().enumerate() {
@@ -207,7 +207,7 @@ fn touch_end(
     others: Others<'_>,
     touched: &mut Vec<HintedVertex>,
 ) -> Result<(), Memory>
-    ensures kept { OnOk result (IsWithin touched.old.items touched.new.items) }
+    ensures kept { OnOk result (AreVerticesWithin touched.old.items touched.new.items) }
     ensures other { OnOk result (TouchesUnless end others.entry.ends.now touched.new.items) }
 {
     if has_at(others.ends, place, end) || has_end(others.ends, end) {
@@ -219,7 +219,7 @@ fn touch_end(
 // Touches the vertex. If there are many, duplicates are left to `keep_once`.
 fn touch_vertex(vertex: &HintedVertex, touched: &mut Vec<HintedVertex>) -> Result<(), Memory>
     ensures own { OnOk result (Contains touched.new.items vertex.now) }
-    ensures kept { OnOk result (IsWithin touched.old.items touched.new.items) }
+    ensures kept { OnOk result (AreVerticesWithin touched.old.items touched.new.items) }
 {
     if touched.len() <= FEW && is_touched(vertex, touched) {
         return Ok(());

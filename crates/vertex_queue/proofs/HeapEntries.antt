@@ -18,8 +18,8 @@ use Rattle.ospf_types.specs.declared.entry.Vertex.{Vertex}
 use Rattle.ospf_types.specs.declared.entry.Vertex.TheVariants.{Router, Network}
 use Rattle.ospf_types.specs.Vertices.{vertex_cmp}
 use Rattle.vertex_queue.specs.declared.waiting.Waiting.{Waiting}
-use Rattle.vertex_queue.specs.Queues.{Queue, kind_and_number, queue_cmp, rank, IsFirst}
-use Rattle.vertex_queue.specs.Heaps.{IsAt, vertex_of_kind, waiting_vertex, heap_cmp, Has, AreQueue, IsStale, HoldsOthers}
+use Rattle.vertex_queue.specs.Queues.{Queue, kind_and_number, queue_cmp, rank, IsFirstWaiting}
+use Rattle.vertex_queue.specs.Heaps.{IsHeapEntryAt, vertex_of_kind, waiting_vertex, heap_cmp, Has, AreQueue, IsStale, HoldsOthers}
 use Rattle.ospf_types.proofs.VertexOrder.{vertex_total, vertex_exact}
 use Rattle.vertex_queue.proofs.QueueOrder.{queue_total}
 
@@ -37,7 +37,7 @@ even r d is = let none : r % 2 ≡ 0 = omega (arith, is) in eq-eqb (r % 2) 0 non
 odd : (r d : ℕ) → r ≡ 2 * d + 1 → nat_eq (r % 2) 0 ≡ false
 odd r d is = let one : r % 2 ≡ 1 = omega (arith, is) in ap (λ n. nat_eq n 0) one
 
-pub vertex_is : (w : Waiting) (v : Vertex) (d : ℕ) → IsAt w v d → v ≡ waiting_vertex w
+pub vertex_is : (w : Waiting) (v : Vertex) (d : ℕ) → IsHeapEntryAt w v d → v ≡ waiting_vertex w
 vertex_is w (Network n) d here = ap Network (sym here.1) ∙ ap (λ b. vertex_of_kind b w.number) (sym (even w.rank d here.0))
 vertex_is w (Router r) d here = ap Router (sym here.1) ∙ ap (λ b. vertex_of_kind b w.number) (sym (odd w.rank d here.0))
 
@@ -54,7 +54,7 @@ pub grown : (q : Queue) (hs ks : Heap) (x : Reverse Waiting) → AreQueue q hs �
 grown q hs ks x before moved ordered = record { in_order = ordered; held = λ v d waits. pushed hs ks x v d moved (before.held v d waits) }
 
 -- where a vertex also waits at another distance
-pub put_there : (q r : Queue) (hs ks : Heap) (x : Waiting) (v : Vertex) (d : ℕ) → AreQueue q hs → IsAt x v d → IsPermutation (held_at x ∷ hs) ks → IsHeap heap_cmp ks
+pub put_there : (q r : Queue) (hs ks : Heap) (x : Waiting) (v : Vertex) (d : ℕ) → AreQueue q hs → IsHeapEntryAt x v d → IsPermutation (held_at x ∷ hs) ks → IsHeap heap_cmp ks
     → ((u : Vertex) → get r u ≡ cond (eq_by_cmp vertex_cmp u v) (Some d) (get q u)) → AreQueue r ks
 put_there q r hs ks x v d before here moved ordered after = record {
   in_order = ordered;
@@ -74,10 +74,10 @@ only : (x w : Reverse Waiting) → Contains (x ∷ []) w → x.0 ≡ w.0
 only x w (zero, lt, is) = ap (λ (r : Reverse Waiting). r.0) is
 only x w (suc k, lt, is) = absurd (omega arith)
 
-popped : (hs ks : Heap) (x : Waiting) (v : Vertex) (d : ℕ) → IsPermutation hs (held_at x ∷ ks) → Has hs v d → IsAt x v d ⊎ Has ks v d
+popped : (hs ks : Heap) (x : Waiting) (v : Vertex) (d : ℕ) → IsPermutation hs (held_at x ∷ ks) → Has hs v d → IsHeapEntryAt x v d ⊎ Has ks v d
 popped hs ks x v d moved has =
-    elim (Contains-append_cases (held_at x ∷ []) ks (held_at has.0) (Contains-permutation hs (held_at x ∷ ks) (held_at has.0) moved has.2)) as (λ _. IsAt x v d ⊎ Has ks v d) [
-      | inl here ↦ inl (subst (λ (w : Waiting). IsAt w v d) (sym (only (held_at x) (held_at has.0) here)) has.1)
+    elim (Contains-append_cases (held_at x ∷ []) ks (held_at has.0) (Contains-permutation hs (held_at x ∷ ks) (held_at has.0) moved has.2)) as (λ _. IsHeapEntryAt x v d ⊎ Has ks v d) [
+      | inl here ↦ inl (subst (λ (w : Waiting). IsHeapEntryAt w v d) (sym (only (held_at x) (held_at has.0) here)) has.1)
       | inr there ↦ inr (has.0, has.1, there)
     ]
 
@@ -89,7 +89,7 @@ dropped q hs ks x before moved ordered stale = record {
 }
 
 -- what is left when one comes out
-pub others : (q : Queue) (hs ks : Heap) (x : Waiting) (v : Vertex) (d : ℕ) → AreQueue q hs → IsPermutation hs (held_at x ∷ ks) → IsHeap heap_cmp ks → IsAt x v d → HoldsOthers q v ks
+pub others : (q : Queue) (hs ks : Heap) (x : Waiting) (v : Vertex) (d : ℕ) → AreQueue q hs → IsPermutation hs (held_at x ∷ ks) → IsHeap heap_cmp ks → IsHeapEntryAt x v d → HoldsOthers q v ks
 others q hs ks x v d before moved ordered at = record {
   in_order = ordered;
   held = λ u e waits other. elim (popped hs ks x u e moved (before.held u e waits)) [
@@ -146,14 +146,14 @@ less_before_places Equal Equal c is = absurd cc
 less_before_places Equal Greater c is = absurd cc
 less_before_places Greater b c is = absurd cc
 
-comes_after : (x y : Waiting) (v w : Vertex) (d e : ℕ) → IsAt x v d → IsAt y w e → queue_cmp (d, v) (e, w) ≡ Greater → is_lt (heap_cmp (held_at x) (held_at y)) ≡ true
+comes_after : (x y : Waiting) (v w : Vertex) (d e : ℕ) → IsHeapEntryAt x v d → IsHeapEntryAt y w e → queue_cmp (d, v) (e, w) ≡ Greater → is_lt (heap_cmp (held_at x) (held_at y)) ≡ true
 comes_after x y v w d e here there after =
     less_before_places (nat_cmp y.rank x.rank) (nat_cmp y.number x.number) (nat_cmp y.place x.place)
     ((λ i. ordering_then (nat_cmp (there.0 i) (here.0 i)) (nat_cmp (there.1 i) (here.1 i)))
     ∙ by_rank w v e d ∙ queue_total.antisymm (e, w) (d, v) ∙ ap ordering_reverse after)
 
 -- the greatest of the heap is first, if it waits
-pub first_of : (q : Queue) (hs : Heap) (x : Waiting) (v : Vertex) (d : ℕ) → AreQueue q hs → IsUpperBound heap_cmp (held_at x) hs → IsAt x v d → get q v ≡ Some d → IsFirst q v d
+pub first_of : (q : Queue) (hs : Heap) (x : Waiting) (v : Vertex) (d : ℕ) → AreQueue q hs → IsUpperBound heap_cmp (held_at x) hs → IsHeapEntryAt x v d → get q v ≡ Some d → IsFirstWaiting q v d
 first_of q hs x v d before greatest here waits = record {
   waits = waits;
   none_before = λ w e there after.

@@ -11,7 +11,7 @@ use Rattle.std.proofs.lemmas.Map.Views.{tells_apart}
 use Rattle.ospf_types.specs.declared.entry.Vertex.{Vertex}
 use Rattle.ospf_types.specs.declared.entry.Vertex.TheVariants.{Router, Network}
 use Rattle.ospf_types.specs.Vertices.{vertex_cmp}
-use Rattle.vertex_queue.specs.Queues.{Queue, queue_cmp, IsFirst, waits_within, lessened, rank}
+use Rattle.vertex_queue.specs.Queues.{Queue, queue_cmp, IsFirstWaiting, waits_within, lessened, rank}
 use Rattle.ospf_types.proofs.VertexOrder.{vertex_total, vertex_exact}
 
 no_farther : (k e : ℕ) (rest : Ordering) → ordering_then (nat_cmp k e) rest ≢ Greater → k ≤ e
@@ -37,7 +37,7 @@ rank_upto (Network n) (Router r) k e upto = omega (arith, no_farther k e Less up
 rank_upto (Network m) (Network n) k e upto = omega (arith, no_farther k e (nat_cmp m n) upto)
 
 -- nothing that waits has a lower rank than the first
-pub first_has_least_rank : (q : Queue) (v w : Vertex) (k e : ℕ) → IsFirst q v k → get q w ≡ Some e → rank v k ≤ rank w e
+pub first_has_least_rank : (q : Queue) (v w : Vertex) (k e : ℕ) → IsFirstWaiting q v k → get q w ≡ Some e → rank v k ≤ rank w e
 first_has_least_rank q v w k e first there = rank_upto v w k e (first.none_before w e there)
 
 -- ---- a lessened queue

@@ -13,8 +13,8 @@ use Rattle.vertex_queue.specs.declared.waiting.Waiting.{Waiting}
 use Rattle.vertex_queue.specs.Queues.{Queue, kind_and_number, rank}
 
 -- an entry of the heap is of the vertex at the distance, whatever its place
-abbrev pub IsAt : Waiting → Vertex → ℕ → Type 0
-IsAt w v d = (w.rank ≡ rank v d) × (w.number ≡ (kind_and_number v).1)
+abbrev pub IsHeapEntryAt : Waiting → Vertex → ℕ → Type 0
+IsHeapEntryAt w v d = (w.rank ≡ rank v d) × (w.number ≡ (kind_and_number v).1)
 
 -- networks have even ranks
 abbrev pub vertex_of_kind : Bool → ℕ → Vertex
@@ -31,7 +31,7 @@ heap_cmp x y = ordering_then (nat_cmp y.0.rank x.0.rank) (ordering_then (nat_cmp
 
 -- the heap has the vertex at the distance
 abbrev pub Has : List (Reverse Waiting) → Vertex → ℕ → Type 0
-Has heap v d = (w : Waiting) × IsAt w v d × Contains heap (record { 0 = w })
+Has heap v d = (w : Waiting) × IsHeapEntryAt w v d × Contains heap (record { 0 = w })
 
 -- what the distances and the heap have to do with each other
 pub record AreQueue (q : Queue) (heap : List (Reverse Waiting)) : Type 0 where
@@ -40,7 +40,7 @@ pub record AreQueue (q : Queue) (heap : List (Reverse Waiting)) : Type 0 where
 
 -- the vertex of the entry does not wait at the distance of the entry
 abbrev pub IsStale : Queue → Waiting → Type 0
-IsStale q w = (v : Vertex) (d : ℕ) → IsAt w v d → get q v ≢ Some d
+IsStale q w = (v : Vertex) (d : ℕ) → IsHeapEntryAt w v d → get q v ≢ Some d
 
 -- the heap is in order, and has what waits but for one vertex
 pub record HoldsOthers (q : Queue) (first : Vertex) (heap : List (Reverse Waiting)) : Type 0 where

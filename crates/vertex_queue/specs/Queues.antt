@@ -25,7 +25,7 @@ queue_cmp x y =
     ordering_then (nat_cmp x.0 y.0) (ordering_then (nat_cmp (kind_and_number x.1).0 (kind_and_number y.1).0) (nat_cmp (kind_and_number x.1).1 (kind_and_number y.1).1))
 
 -- v waits at d, and nothing that waits comes before it
-pub record IsFirst (q : Queue) (v : Vertex) (d : ℕ) : Type 0 where
+pub record IsFirstWaiting (q : Queue) (v : Vertex) (d : ℕ) : Type 0 where
   pub waits : get q v ≡ Some d
   pub none_before : (w : Vertex) (e : ℕ) → get q w ≡ Some e → queue_cmp (d, v) (e, w) ≢ Greater
 

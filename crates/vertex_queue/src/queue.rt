@@ -3,8 +3,8 @@ ghost use Rattle.std.specs.Prelude.{◌≡◌, ◌↔◌, Some, IfNone, IfSome, 
 ghost use Rattle.std.specs.Prelude.{option_copied};
 ghost use Rattle.std.specs.FinMap as map;
 ghost use Rattle.std.specs.BinaryHeap.{heap_items};
-ghost use Rattle.vertex_queue.specs.Heaps.{AreQueue, HoldsOthers, IsAt, IsStale};
-ghost use Rattle.vertex_queue.specs.Queues.{lessened, waits_within, IsFirst};
+ghost use Rattle.vertex_queue.specs.Heaps.{AreQueue, HoldsOthers, IsHeapEntryAt, IsStale};
+ghost use Rattle.vertex_queue.specs.Queues.{lessened, waits_within, IsFirstWaiting};
 
 use crate::waiting::Waiting;
 use ospf_types::WordHash;
@@ -108,7 +108,7 @@ impl Queue {
     /// is in the order of its numbers (Link State IDs or Router IDs).
     pub fn take(&mut self) -> Option<(HintedVertex, u32)>
         ensures none { IfNone result (self.old ≡ map.empty) }
-        ensures first { IfSome result (λ p. IsFirst self.old p.0 p.1) }
+        ensures first { IfSome result (λ p. IsFirstWaiting self.old p.0 p.1) }
         ensures rest { IfSome result (λ p. self.new ≡ map.remove self.old p.0) }
         ensures still_none { IfNone result (self.new ≡ map.empty) }
     {
@@ -156,7 +156,7 @@ fn pop_waiting(
 ) -> Option<(HintedVertex, u32)>
     requires { AreQueue distances.now (heap_items order.old) }
     ensures none { IfNone result (distances.now ≡ map.empty) }
-    ensures first { IfSome result (λ p. IsFirst distances.now p.0 p.1) }
+    ensures first { IfSome result (λ p. IsFirstWaiting distances.now p.0 p.1) }
     ensures others { IfSome result (λ p. HoldsOthers distances.now p.0 (heap_items order.new)) }
     ensures none_kept { IfNone result (AreQueue distances.now (heap_items order.new)) }
 {
@@ -174,7 +174,7 @@ fn pop_waiting(
 
 // Returns the vertex and distance of the entry, or `None` if the entry is stale.
 fn waits(distances: &VertexMap<u32>, entry: Waiting) -> Option<(HintedVertex, u32)>
-    ensures at { IfSome result (λ p. IsAt entry p.0 p.1) }
+    ensures at { IfSome result (λ p. IsHeapEntryAt entry p.0 p.1) }
     ensures waits { IfSome result (λ p. map.get distances.now p.0 ≡ Some p.1) }
     ensures none { IfNone result (IsStale distances.now entry) }
 {

@@ -3,7 +3,7 @@ ghost use Rattle.std.specs.Prelude.{◌≡◌, ◌+◌, ◌^◌, ◌<◌, IfSome
 ghost use Rattle.std.specs.FinMap as map;
 ghost use Rattle.vertex_queue.specs.Counts.{no_work, with_hop_sets, with_taken};
 ghost use Rattle.vertex_queue.specs.Maps.{with_hops};
-ghost use Rattle.vertex_queue.specs.Queues.{IsFirst};
+ghost use Rattle.vertex_queue.specs.Queues.{IsFirstWaiting};
 
 use crate::Queue;
 use crate::next_hop_map::NextHopMap;
@@ -38,7 +38,7 @@ impl Touched {
         ensures none { IfNone result (queue.old ≡ map.empty) }
         ensures still_none { IfNone result (queue.new ≡ map.empty) }
         ensures uncounted { IfNone result (self.new ≡ self.old) }
-        ensures first { IfSome result (λ p. IsFirst queue.old p.0 p.1) }
+        ensures first { IfSome result (λ p. IsFirstWaiting queue.old p.0 p.1) }
         ensures rest { IfSome result (λ p. queue.new ≡ map.remove queue.old p.0) }
         ensures counted { IfSome result (λ p. self.new ≡ with_taken self.old (self.old.taken + 1)) }
     {

@@ -1,6 +1,6 @@
 //! Entries of the queue's heap.
 ghost use Rattle.std.specs.Prelude.{◌≡◌, ◌↔◌, IsTrue};
-ghost use Rattle.vertex_queue.specs.Heaps.{IsAt, waiting_vertex};
+ghost use Rattle.vertex_queue.specs.Heaps.{IsHeapEntryAt, waiting_vertex};
 ghost use Rattle.vertex_queue.specs.Queues.{rank};
 
 use ospf_types::entry::Vertex;
@@ -19,7 +19,7 @@ pub(crate) struct Waiting {
 
 impl Waiting {
     pub(crate) fn new(vertex: &HintedVertex, distance: u32) -> Waiting
-        ensures { IsAt result vertex.now distance }
+        ensures { IsHeapEntryAt result vertex.now distance }
     {
         let place = vertex.number();
         let (rank, number) = match vertex.vertex() {

@@ -22,7 +22,7 @@ use Rattle.replay.specs.Lines.{first_number}
 use Rattle.worker_replay.specs.declared.asking.Ask.{Ask}
 use Rattle.worker_replay.specs.Runs.{Answers, IsAfter, IsNotRolled, IsPrinted, IsRollAnswer, events_of, has_roll, reply_of}
 use Rattle.worker_replay.specs.Dealing.{IsDealt, AreAnsweredDealt}
-use Rattle.worker_replay.specs.Parts.{HasAllReplies, PrintsAll, AppendsAll, Looks, HasPrinted, HasRun, IsOf, asks_of}
+use Rattle.worker_replay.specs.Parts.{HasAllReplies, PrintsAll, AppendsAll, LooksOnce, HasPrinted, HasRun, IsTokenOf, asks_of}
 use Rattle.worker_replay.proofs.Tokens.{all_longer, all_own}
 use Rattle.worker_replay.proofs.Printed.{has_replies, prints_lines}
 
@@ -42,7 +42,7 @@ answered_dealt name items answers events xs ys dealt all = record { lists = map 
 -- ---- one look
 
 pub looked : (format : Format) (f : ForwarderValue) (s : SeenValue) (number : ℕ) (asks : List Ask) (given replies : List (Result Reply Refusal)) (roll : Option (Result ℕ Refusal)) (old new : List ℕ) → IsLookup f 0 s
-    → AppendsAll format s.table s.table.serial number asks given roll old new → old ≡ [] → given ≡ replies → Looks format f number asks replies roll new
+    → AppendsAll format s.table s.table.serial number asks given roll old new → old ≡ [] → given ≡ replies → LooksOnce format f number asks replies roll new
 looked format f s number asks given replies roll old new sights h none same =
     let whole : new ≡ h.text = h.appended ∙ ap (λ w. w ++ h.text) none in
     record {
@@ -56,8 +56,8 @@ looked format f s number asks given replies roll old new sights h none same =
 -- ---- the lines
 
 -- the tokens of the answers may be learned
-pub own : (name : Name) (f : ForwarderValue) (events : List Event) (answers : Answers) → f.name ≡ name → AreAnswered name events answers → All (IsOf f.name) answers
-own name f events answers named answered = subst (λ (n : Name). All (IsOf n) answers) (sym named) (all_own name events answers answered)
+pub own : (name : Name) (f : ForwarderValue) (events : List Event) (answers : Answers) → f.name ≡ name → AreAnswered name events answers → All (IsTokenOf f.name) answers
+own name f events answers named answered = subst (λ (n : Name). All (IsTokenOf n) answers) (sym named) (all_own name events answers answered)
 
 pub enough : (name : Name) (lines : List Line) (events : List Event) (asks : List Ask) (answers : Answers) (replies : List (Result Reply Refusal)) → events ≡ events_of lines → asks ≡ asks_of lines
     → AreAnswered name events answers → replies ≡ map reply_of answers → HasAllReplies asks replies
@@ -84,7 +84,7 @@ module _ (format : Format) (name : Name) (lines : List Line) (events : List Even
   of_lines : AreAnswered name (events_of lines) answers
   of_lines = subst (λ (es : List Event). AreAnswered name es answers) events_are answered
 
-  pub has_printed : Looks format g first asks replies roll text → HasPrinted format name lines first text
+  pub has_printed : LooksOnce format g first asks replies roll text → HasPrinted format name lines first text
   has_printed looks = record {
     answers = answers;
     is = record {

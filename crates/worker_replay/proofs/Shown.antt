@@ -7,28 +7,28 @@ use Rattle.output_lines.specs.declared.format.Format.{Format}
 use Rattle.recording.specs.declared.version.Version.{Version}
 use Rattle.replay.specs.declared.buffer.PrintError.{PrintError}
 use Rattle.replay.specs.declared.buffer.PrintError.TheVariants as stop
-use Rattle.replay.specs.Stops.{AreWhole}
+use Rattle.replay.specs.Stops.{AreWholeLines}
 use Rattle.replay.specs.Outputs.{IsShown}
-use Rattle.replay.specs.Pages.{Adds, AddsPart}
+use Rattle.replay.specs.Pages.{AddsLines, AddsPart}
 use Rattle.replay.proofs.Written.{appends_none}
 use Rattle.replay.proofs.Paging.{adds_moved, part_moved}
 use Rattle.worker_replay.specs.Parts.{Writes, WritesPart}
 
 module _ (v : Version) (s : Show) (format : Format) (printed : List ℕ) (c : CoreValue) (a b : Option (List ℕ)) (front put tail : List ℕ) (same : put ≡ front) (shown : IsShown v s format printed c (front ++ tail)) where
   -- only a beginning of it
-  pub shown_cut : (why : PrintError) → AreWhole front → (AreWhole put → AddsPart why a b (put ++ tail)) → WritesPart why v s format printed c a b
-  shown_cut why whole stopped = record { whole = front ++ tail; shown = shown; part = subst (λ w. AddsPart why a b (w ++ tail)) same (stopped (subst AreWhole (sym same) whole)) }
+  pub shown_cut : (why : PrintError) → AreWholeLines front → (AreWholeLines put → AddsPart why a b (put ++ tail)) → WritesPart why v s format printed c a b
+  shown_cut why whole stopped = record { whole = front ++ tail; shown = shown; part = subst (λ w. AddsPart why a b (w ++ tail)) same (stopped (subst AreWholeLines (sym same) whole)) }
 
   -- the end of it was in the buffer, which was written in part
-  pub end_cut : (why : PrintError) → AreWhole front → (d : Option (List ℕ)) (moved : List ℕ) → Adds a b put moved tail → AddsPart why b d moved → WritesPart why v s format printed c a d
+  pub end_cut : (why : PrintError) → AreWholeLines front → (d : Option (List ℕ)) (moved : List ℕ) → AddsLines a b put moved tail → AddsPart why b d moved → WritesPart why v s format printed c a d
   end_cut why whole d moved added stopped = record {
     whole = front ++ tail;
     shown = shown;
-    part = subst (λ w. AddsPart why a d (w ++ tail)) same (part_moved why a b d put moved tail (subst AreWhole (sym same) whole) added stopped);
+    part = subst (λ w. AddsPart why a d (w ++ tail)) same (part_moved why a b d put moved tail (subst AreWholeLines (sym same) whole) added stopped);
   }
 
   -- the buffer was written
-  pub shown_whole : (d : Option (List ℕ)) (moved last : List ℕ) → Adds a b put moved tail → Adds b d moved last [] → last ≡ [] → Writes v s format printed c a d
+  pub shown_whole : (d : Option (List ℕ)) (moved last : List ℕ) → AddsLines a b put moved tail → AddsLines b d moved last [] → last ≡ [] → Writes v s format printed c a d
   shown_whole d moved last added written none =
       let all = adds_moved a b d put moved last tail added written in
       let whole : all.written ≡ front ++ tail = sym (append-nil all.written) ∙ ap (λ l. all.written ++ l) (sym none) ∙ sym all.joined ∙ ap (λ w. w ++ tail) same in

@@ -10,14 +10,14 @@ use Rattle.engine.specs.Reply.{Reply}
 use Rattle.engine.specs.Status.TheVariants.{Current, Behind}
 use Rattle.publication.specs.Forwarders.{ForwarderValue}
 use Rattle.publication.specs.Names.{Name}
-use Rattle.publication.specs.Published.{IsLegal}
+use Rattle.publication.specs.Published.{IsLegalHistory}
 use Rattle.publication.specs.Told.{TokenValue}
 use Rattle.publication.proofs.Prefixes.{prefix_trans}
 use Rattle.engine.specs.Answers.{AreAnswered, IsAnswered}
 use Rattle.engine.specs.declared.answer.Answer.{Answer}
 use Rattle.engine.specs.declared.answer.Refused.{Refused}
 use Rattle.worker_replay.specs.Runs.{Answers, IsAfter, told_of, reply_of}
-use Rattle.worker_replay.specs.Parts.{IsOf}
+use Rattle.worker_replay.specs.Parts.{IsTokenOf}
 
 at_seam : {X : Type 0} (P : X → Type 0) (done more : List X) (x : X) → All P (done ++ x ∷ more) → P x
 at_seam P [] more x all = All-head P x more all
@@ -42,10 +42,10 @@ pub learning_none : (all rest : Answers) (f : ForwarderValue) (replies : List (R
 learning_none all rest f replies is none = record { done = []; whole = is; named = refl; after = All-nil (IsAfter f.known); replied = none }
 
 -- the token of the next answer may be learned
-pub next_is_of : (name : Name) (all rest more : Answers) (f : ForwarderValue) (replies : List (Result Reply Refusal)) (a : Result Answer Refused) (told : Option TokenValue) → All (IsOf name) all → Learning name all rest f replies → rest ≡ a ∷ more
+pub next_is_of : (name : Name) (all rest more : Answers) (f : ForwarderValue) (replies : List (Result Reply Refusal)) (a : Result Answer Refused) (told : Option TokenValue) → All (IsTokenOf name) all → Learning name all rest f replies → rest ≡ a ∷ more
     → told ≡ told_of a → IfSome told (λ t. t.name ≡ f.name)
 next_is_of name all rest more f replies a told own h next is =
-    let here : IsOf name a = at_seam (IsOf name) h.done more a (subst (All (IsOf name)) (h.whole ∙ ap (λ w. h.done ++ w) next) own) in
+    let here : IsTokenOf name a = at_seam (IsTokenOf name) h.done more a (subst (All (IsTokenOf name)) (h.whole ∙ ap (λ w. h.done ++ w) next) own) in
     subst (λ (n : Name). IfSome told (λ t. t.name ≡ n)) (sym h.named) (subst (λ (o : Option TokenValue). IfSome o (λ t. t.name ≡ name)) (sym is) here)
 
 pub learning_more : (name : Name) (all rest more : Answers) (f g : ForwarderValue) (replies put : List (Result Reply Refusal)) (a : Result Answer Refused) (told : Option TokenValue) (reply : Result Reply Refusal) → Learning name all rest f replies
@@ -69,13 +69,13 @@ if_weaker : (P : Type 0) (Q R : TokenValue → Type 0) (told : Option TokenValue
 if_weaker P Q R None weaker h = tt
 if_weaker P Q R (Some t) weaker h = weaker t h
 
-own_told : (name : Name) (e : Event) (a : Result Answer Refused) → IsAnswered name e a → IsOf name a
+own_told : (name : Name) (e : Event) (a : Result Answer Refused) → IsAnswered name e a → IsTokenOf name a
 own_told name e (Ok a) h =
-    if_weaker (a.reply.state ≡ Behind) (λ t. (a.reply.state ≡ Current) × (t.name ≡ name) × (t.list ≡ h.0 ++ e ∷ []) × IsLegal name.base t.list) (λ t. t.name ≡ name) a.told (λ t is. is.1) h.2
+    if_weaker (a.reply.state ≡ Behind) (λ t. (a.reply.state ≡ Current) × (t.name ≡ name) × (t.list ≡ h.0 ++ e ∷ []) × IsLegalHistory name.base t.list) (λ t. t.name ≡ name) a.told (λ t is. is.1) h.2
 own_told name e (Err r) h = if_weaker (h.0 ≢ []) (λ t. (t.name ≡ name) × (t.list ≡ h.0)) (λ t. t.name ≡ name) r.told (λ t is. is.0) h.3
 
-pub all_own : (name : Name) (events : List Event) (answers : Answers) → AreAnswered name events answers → All (IsOf name) answers
-all_own name [] [] h = All-nil (IsOf name)
+pub all_own : (name : Name) (events : List Event) (answers : Answers) → AreAnswered name events answers → All (IsTokenOf name) answers
+all_own name [] [] h = All-nil (IsTokenOf name)
 all_own name [] (a ∷ answers) h = absurd h
 all_own name (e ∷ events) [] h = absurd h
-all_own name (e ∷ events) (a ∷ answers) h = All-cons (IsOf name) a answers (own_told name e a h.0) (all_own name events answers h.1)
+all_own name (e ∷ events) (a ∷ answers) h = All-cons (IsTokenOf name) a answers (own_told name e a h.0) (all_own name events answers h.1)

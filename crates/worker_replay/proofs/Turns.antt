@@ -10,7 +10,7 @@ use Rattle.engine.specs.Answers.{AreAnswered}
 use Rattle.engine.specs.declared.answer.Answer.{Answer}
 use Rattle.engine.specs.declared.answer.Refused.{Refused}
 use Rattle.worker_replay.specs.Runs.{Answers}
-use Rattle.worker_replay.specs.Dealing.{IsDealt, AreAnsweredDealt, AreTaken}
+use Rattle.worker_replay.specs.Dealing.{IsDealt, AreAnsweredDealt, AreAnswersTaken}
 
 -- the rest after all but one
 pub last_one : {A : Type 0} (n : ℕ) (xs : List A) → length xs ≡ n + 1 → (last : A) × (drop n xs ≡ last ∷ [])
@@ -68,7 +68,7 @@ zip_more R (a ∷ xs) [] x y all one = absurd all
 zip_more R (a ∷ xs) (b ∷ ys) x y all one = (all.0, zip_more R xs ys x y all.1 one)
 
 -- the first list has nothing left
-nothing_left : (name : Name) (events : List Event) (others : List Answers) → AreAnsweredDealt name events ([] ∷ others) → AreTaken name events None (others ++ [] ∷ [])
+nothing_left : (name : Name) (events : List Event) (others : List Answers) → AreAnsweredDealt name events ([] ∷ others) → AreAnswersTaken name events None (others ++ [] ∷ [])
 nothing_left name [] others h = refl
 nothing_left name (e ∷ events) others h =
     let (first, rest, is, dealt) = h.dealt in
@@ -82,7 +82,7 @@ none_dealt name answer left others (list ∷ lists) dealt answered =
 
 -- an answer is taken from the first list
 one_taken : (name : Name) (events : List Event) (answer : Result Answer Refused) (left : Answers) (others : List Answers) → AreAnsweredDealt name events ((answer ∷ left) ∷ others)
-    → AreTaken name events (Some answer) (others ++ left ∷ [])
+    → AreAnswersTaken name events (Some answer) (others ++ left ∷ [])
 one_taken name [] answer left others h = absurd (none_dealt name answer left others h.lists h.dealt h.answered)
 one_taken name (e ∷ events) answer left others h =
     let (first, rest, is, dealt) = h.dealt in
@@ -100,26 +100,26 @@ module _ {X : Type 0} (items : X → Answers) (name : Name) (events : List Event
   turned x = reverse (items x)
 
   taken_first : (l left : X) (ls : List X) (answer : Option (Result Answer Refused)) → items l ≡ items left ++ option_to_list answer → (0 < length (items l) → IsSome answer)
-      → AreAnsweredDealt name events (map turned (l ∷ ls)) → AreTaken name events answer (map turned (ls ++ left ∷ []))
+      → AreAnsweredDealt name events (map turned (l ∷ ls)) → AreAnswersTaken name events answer (map turned (ls ++ left ∷ []))
   taken_first l left ls None is some h =
       let none : items l ≡ [] = none_there (items l) some in
       let same : items left ≡ [] = sym (append-nil (items left)) ∙ sym is ∙ none in
-      subst (AreTaken name events None) (ap (λ w. map turned ls ++ reverse w ∷ []) (sym same) ∙ sym (map-append turned ls (left ∷ [])))
+      subst (AreAnswersTaken name events None) (ap (λ w. map turned ls ++ reverse w ∷ []) (sym same) ∙ sym (map-append turned ls (left ∷ [])))
       (nothing_left name events (map turned ls) (subst (λ (w : Answers). AreAnsweredDealt name events (reverse w ∷ map turned ls)) none h))
   taken_first l left ls (Some answer) is some h =
       let first : turned l ≡ answer ∷ turned left = ap reverse is ∙ backwards_more (items left) answer in
-      subst (AreTaken name events (Some answer)) (sym (map-append turned ls (left ∷ [])))
+      subst (AreAnswersTaken name events (Some answer)) (sym (map-append turned ls (left ∷ [])))
       (one_taken name events answer (turned left) (map turned ls) (subst (λ (w : Answers). AreAnsweredDealt name events (w ∷ map turned ls)) first h))
 
   pub taken_and_turned : (lists : List X) (was left : X) (answer : Option (Result Answer Refused)) → 0 < length lists → was ≡ slice_index_or lists 0 was → items was ≡ items left ++ option_to_list answer
       → (0 < length (items was) → IsSome answer) → AreAnsweredDealt name events (map turned lists)
-      → AreTaken name events answer (map turned (drop 1 (slice_set lists 0 left) ++ take 1 (slice_set lists 0 left)))
+      → AreAnswersTaken name events answer (map turned (drop 1 (slice_set lists 0 left) ++ take 1 (slice_set lists 0 left)))
   taken_and_turned [] was left answer some here is found h = absurd (omega arith)
   taken_and_turned (l ∷ ls) was left answer some here is found h =
       taken_first l left ls answer (ap items (sym here) ∙ is) (subst (λ x. 0 < length (items x) → IsSome answer) here found) h
 
 -- no lists, so no events
-pub none_taken : (name : Name) (events : List Event) → AreAnsweredDealt name events [] → AreTaken name events None []
+pub none_taken : (name : Name) (events : List Event) → AreAnsweredDealt name events [] → AreAnswersTaken name events None []
 none_taken name [] h = refl
 none_taken name (e ∷ events) h =
     let (first, rest, is, dealt) = h.dealt in
@@ -138,7 +138,7 @@ taking_none name events left dealt = record { rest = events; counted = omega ari
 
 -- the answer of the first event that is left is taken
 taking_next : (name : Name) (events rest : List Event) (answers : Answers) (left : List Answers) (count : ℕ) (answer : Result Answer Refused) → length rest + count ≡ length events
-    → ((more : Answers) → AreAnswered name rest more → AreAnswered name events (answers ++ more)) → AreTaken name rest (Some answer) left → Taking name events (answers ++ answer ∷ []) left (count + 1)
+    → ((more : Answers) → AreAnswered name rest more → AreAnswered name events (answers ++ more)) → AreAnswersTaken name rest (Some answer) left → Taking name events (answers ++ answer ∷ []) left (count + 1)
 taking_next name events [] answers left count answer counted goes taken = absurd cc
 taking_next name events (e ∷ rest) answers left count answer counted goes taken = record {
   rest = rest;
@@ -148,19 +148,19 @@ taking_next name events (e ∷ rest) answers left count answer counted goes take
 }
 
 pub taking_more : (name : Name) (events : List Event) (answers : Answers) (before left : List Answers) (count : ℕ) (answer : Result Answer Refused) → Taking name events answers before count
-    → ((rest : List Event) → AreAnsweredDealt name rest before → AreTaken name rest (Some answer) left) → Taking name events (answers ++ answer ∷ []) left (count + 1)
+    → ((rest : List Event) → AreAnsweredDealt name rest before → AreAnswersTaken name rest (Some answer) left) → Taking name events (answers ++ answer ∷ []) left (count + 1)
 taking_more name events answers before left count answer h taken = taking_next name events h.rest answers left count answer h.counted h.goes (taken h.rest h.dealt)
 
 all_of : (name : Name) (events rest : List Event) (answers : Answers) → rest ≡ [] → ((more : Answers) → AreAnswered name rest more → AreAnswered name events (answers ++ more)) → AreAnswered name events answers
 all_of name events rest answers none goes = subst (AreAnswered name events) (append-nil answers) (goes [] (subst (λ w. AreAnswered name w []) (sym none) tt))
 
-none_left : (name : Name) (rest : List Event) (left : List Answers) → AreTaken name rest None left → rest ≡ []
+none_left : (name : Name) (rest : List Event) (left : List Answers) → AreAnswersTaken name rest None left → rest ≡ []
 none_left name [] left taken = refl
 none_left name (e ∷ rest) left taken = absurd taken
 
 -- there is none to take
 pub taking_stopped : (name : Name) (events : List Event) (answers : Answers) (before left : List Answers) (count : ℕ) → Taking name events answers before count
-    → ((rest : List Event) → AreAnsweredDealt name rest before → AreTaken name rest None left) → AreAnswered name events answers
+    → ((rest : List Event) → AreAnsweredDealt name rest before → AreAnswersTaken name rest None left) → AreAnswered name events answers
 taking_stopped name events answers before left count h taken = all_of name events h.rest answers (none_left name h.rest left (taken h.rest h.dealt)) h.goes
 
 -- as many were taken as there are events

@@ -12,15 +12,15 @@ use Rattle.recording.specs.declared.line.Line.TheVariants as line
 use Rattle.route_table.specs.Tables.{TableValue}
 use Rattle.replay.specs.declared.buffer.PrintError.{PrintError}
 use Rattle.replay.specs.Lines.{first_number, lookup_line, answer_line}
-use Rattle.replay.specs.Stops.{AreWhole}
+use Rattle.replay.specs.Stops.{AreWholeLines}
 use Rattle.replay.specs.Outputs.{IsShown}
-use Rattle.replay.specs.Parts.{IsRead}
+use Rattle.replay.specs.Parts.{IsRecordingRead}
 use Rattle.replay.proofs.Wholes.{none_whole, append_whole, lookup_whole, answer_whole, roll_whole}
 use Rattle.worker_replay.specs.Runs.{Answers, Prints, has_roll, reply_of, rolled_line}
 use Rattle.worker_replay.specs.Outputs.{Replays, ReplaysPart}
 use Rattle.worker_replay.specs.Parts.{HasRun, Writes, WritesPart}
 
-module _ (p : PrintOptions) (before after old new : Option (List ℕ)) (r : RecordingValue) (v : Version) (same : v ≡ r.version) (printed : List ℕ) (c : CoreValue) (read : IsRead before after r) (run : HasRun p.format r printed c) where
+module _ (p : PrintOptions) (before after old new : Option (List ℕ)) (r : RecordingValue) (v : Version) (same : v ≡ r.version) (printed : List ℕ) (c : CoreValue) (read : IsRecordingRead before after r) (run : HasRun p.format r printed c) where
   pub replays : Writes v p.show p.format printed c old new → Replays p before after old new
   replays h = record {
     bytes = read.bytes;
@@ -44,25 +44,25 @@ module _ (p : PrintOptions) (before after old new : Option (List ℕ)) (r : Reco
     written = h.part.appended;
   }
 
-rolled_whole : (format : Format) (last : Bool) (number : ℕ) (roll : Option (Result ℕ Refusal)) → AreWhole (rolled_line format last number roll)
+rolled_whole : (format : Format) (last : Bool) (number : ℕ) (roll : Option (Result ℕ Refusal)) → AreWholeLines (rolled_line format last number roll)
 rolled_whole format false number roll = none_whole
 rolled_whole format true number None = none_whole
 rolled_whole format true number (Some answer) = roll_whole format number answer
 
 -- the output of a run's lines is whole lines
-prints_whole : (format : Format) (table : TableValue) (serial number : ℕ) (lines : List Line) (answers : Answers) (roll : Option (Result ℕ Refusal)) (text : List ℕ) → Prints format table serial number lines answers roll text → AreWhole text
+prints_whole : (format : Format) (table : TableValue) (serial number : ℕ) (lines : List Line) (answers : Answers) (roll : Option (Result ℕ Refusal)) (text : List ℕ) → Prints format table serial number lines answers roll text → AreWholeLines text
 prints_whole format table serial number [] [] roll text none = inl none
 prints_whole format table serial number [] (answer ∷ answers) roll text h = absurd h
 prints_whole format table serial number (line.Lookup address ∷ lines) answers roll text (found, rest, matched, is, more) =
-    subst AreWhole (sym is) (append_whole (lookup_line format number address serial found) rest (lookup_whole format number address serial found) (prints_whole format table serial (number + 1) lines answers roll rest more))
+    subst AreWholeLines (sym is) (append_whole (lookup_line format number address serial found) rest (lookup_whole format number address serial found) (prints_whole format table serial (number + 1) lines answers roll rest more))
 prints_whole format table serial number (line.Roll ∷ lines) answers roll text (rest, is, more) =
     let last = not (has_roll lines) in
-    subst AreWhole (sym is) (append_whole (rolled_line format last number roll) rest (rolled_whole format last number roll) (prints_whole format table serial (number + 1) lines answers roll rest more))
+    subst AreWholeLines (sym is) (append_whole (rolled_line format last number roll) rest (rolled_whole format last number roll) (prints_whole format table serial (number + 1) lines answers roll rest more))
 prints_whole format table serial number (line.Event e ∷ lines) [] roll text h = absurd h
 prints_whole format table serial number (line.Event e ∷ lines) (answer ∷ answers) roll text (rest, is, more) =
-    subst AreWhole (sym is) (append_whole (answer_line format number (reply_of answer)) rest (answer_whole format number (reply_of answer)) (prints_whole format table serial (number + 1) lines answers roll rest more))
+    subst AreWholeLines (sym is) (append_whole (answer_line format number (reply_of answer)) rest (answer_whole format number (reply_of answer)) (prints_whole format table serial (number + 1) lines answers roll rest more))
 
-pub run_whole : (format : Format) (r : RecordingValue) (printed : List ℕ) (c : CoreValue) → HasRun format r printed c → AreWhole printed
+pub run_whole : (format : Format) (r : RecordingValue) (printed : List ℕ) (c : CoreValue) → HasRun format r printed c → AreWholeLines printed
 run_whole format r printed c h =
     let lines = h.is.lines in prints_whole format lines.table lines.table.serial (first_number r.version r.base) r.lines h.answers lines.roll printed lines.prints
 

@@ -21,7 +21,7 @@ pub record AreAnsweredDealt (name : Name) (events : List Event) (answers : List 
   pub answered : AllZip (AreAnswered name) lists answers
 
 -- the answer of the first event was taken, and those of the others are left
-abbrev pub AreTaken : Name → List Event → Option (Result Answer Refused) → List Answers → Type 0
-AreTaken name [] answer left = answer ≡ None
-AreTaken name (e ∷ events) None left = ⊥
-AreTaken name (e ∷ events) (Some answer) left = IsAnswered name e answer × AreAnsweredDealt name events left
+abbrev pub AreAnswersTaken : Name → List Event → Option (Result Answer Refused) → List Answers → Type 0
+AreAnswersTaken name [] answer left = answer ≡ None
+AreAnswersTaken name (e ∷ events) None left = ⊥
+AreAnswersTaken name (e ∷ events) (Some answer) left = IsAnswered name e answer × AreAnsweredDealt name events left

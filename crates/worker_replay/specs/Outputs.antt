@@ -8,7 +8,7 @@ use Rattle.replay.specs.declared.buffer.PrintError.{PrintError}
 use Rattle.replay.specs.Inputs.{ReadsAll}
 use Rattle.replay.specs.Stops.{IsBeginning}
 use Rattle.replay.specs.Outputs.{IsShown}
-use Rattle.worker_replay.specs.Runs.{Answers, IsRun}
+use Rattle.worker_replay.specs.Runs.{Answers, IsWorkerRun}
 
 -- The output of a recording for a show, if its events had these answers. They may have been taken
 -- in any order that keeps the order of each worker. Some may have been refused because memory ran
@@ -17,7 +17,7 @@ use Rattle.worker_replay.specs.Runs.{Answers, IsRun}
 pub record IsOutput (r : RecordingValue) (p : PrintOptions) (answers : Answers) (text : List ℕ) : Type 0 where
   pub printed : List ℕ
   pub closed : CoreValue
-  pub run : IsRun p.format r answers printed closed
+  pub run : IsWorkerRun p.format r answers printed closed
   pub shown : IsShown r.version p.show p.format printed closed text
 
 -- the text is the beginning of an output that such a stop leaves

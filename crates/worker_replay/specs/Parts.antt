@@ -29,7 +29,7 @@ use Rattle.worker_replay.specs.declared.fault.WorkerReplayFault.{WorkerReplayFau
 use Rattle.worker_replay.specs.declared.fault.WorkerReplayFault.TheVariants as fault
 use Rattle.worker_replay.specs.declared.asking.Ask.{Ask}
 use Rattle.worker_replay.specs.declared.asking.Ask.TheVariants as ask
-use Rattle.worker_replay.specs.Runs.{Answers, IsPrinted, IsRun, has_roll, rolled_line, told_of}
+use Rattle.worker_replay.specs.Runs.{Answers, IsPrinted, IsWorkerRun, has_roll, rolled_line, told_of}
 
 -- as many workers as there may be
 abbrev pub AreWorkers : ℕ → Type 0
@@ -43,8 +43,8 @@ IsRunFault fault.Place = Unit {0}
 IsRunFault fault.NoEntry = Unit {0}
 
 -- the token of an answer is one of the engine of this name
-abbrev pub IsOf : Name → Result Answer Refused → Type 0
-IsOf name answer = IfSome (told_of answer) (λ t. t.name ≡ name)
+abbrev pub IsTokenOf : Name → Result Answer Refused → Type 0
+IsTokenOf name answer = IfSome (told_of answer) (λ t. t.name ≡ name)
 
 -- ---- what lines ask
 
@@ -97,7 +97,7 @@ AppendsLine format table serial number ask.Event replies left roll old new =
     (reply : Result Reply Refusal) × (replies ≡ reply ∷ left) × (new ≡ old ++ answer_line format number reply)
 
 -- the forwarder looked once, and they printed this
-pub record Looks (format : Format) (f : ForwarderValue) (number : ℕ) (asks : List Ask) (replies : List (Result Reply Refusal)) (roll : Option (Result ℕ Refusal)) (text : List ℕ) : Type 0 where
+pub record LooksOnce (format : Format) (f : ForwarderValue) (number : ℕ) (asks : List Ask) (replies : List (Result Reply Refusal)) (roll : Option (Result ℕ Refusal)) (text : List ℕ) : Type 0 where
   pub seen : List Event
   pub table : TableValue
   pub after : IsPrefix f.known seen
@@ -114,7 +114,7 @@ pub record HasPrinted (format : Format) (name : Name) (lines : List Line) (numbe
 -- the recording was run
 pub record HasRun (format : Format) (r : RecordingValue) (printed : List ℕ) (closed : CoreValue) : Type 0 where
   pub answers : Answers
-  pub is : IsRun format r answers printed closed
+  pub is : IsWorkerRun format r answers printed closed
 
 -- a writer's known bytes grew by what is shown, a journal in this version
 pub record Writes (v : Version) (s : Show) (format : Format) (printed : List ℕ) (c : CoreValue) (old new : Option (List ℕ)) : Type 0 where

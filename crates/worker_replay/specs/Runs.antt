@@ -119,7 +119,7 @@ pub record IsClosed (base : Base) (c : CoreValue) : Type 0 where
 
 -- the recording was run with these answers to its events, its lines printed this, and a core was
 -- left
-pub record IsRun (format : Format) (r : RecordingValue) (answers : Answers) (printed : List ℕ) (closed : CoreValue) : Type 0 where
+pub record IsWorkerRun (format : Format) (r : RecordingValue) (answers : Answers) (printed : List ℕ) (closed : CoreValue) : Type 0 where
   pub name : Name
   pub named : name.base ≡ r.base
   pub lines : IsPrinted format name r.lines (first_number r.version r.base) answers printed

@@ -3,7 +3,7 @@ ghost use Rattle.std.specs.Prelude.{◌≡◌, ◌<◌, List, [], ◌∷◌, len
 ghost use Rattle.event_state.specs.declared.event.Event.{Event as EventValue};
 ghost use Rattle.publication.specs.Names.{Name};
 ghost use Rattle.engine.specs.Answers.{AreAnswered};
-ghost use Rattle.worker_replay.specs.Dealing.{IsDealt, AreAnsweredDealt, AreTaken};
+ghost use Rattle.worker_replay.specs.Dealing.{IsDealt, AreAnsweredDealt, AreAnswersTaken};
 
 use engine::{Answer, Event, Refused};
 use ospf_types::memory::Memory;
@@ -81,7 +81,7 @@ pub(crate) fn collect(alloc: Global, lists: Vec<Answers>, count: usize) -> Resul
 fn take_next(lists: &mut Vec<Answers>) -> Option<Result<Answer, Refused>>
     ensures { (name : Name) (events : List EventValue)
         → AreAnsweredDealt name events (map (λ list. reverse list.items) lists.old.items)
-        → AreTaken name events result (map (λ list. reverse list.items) lists.new.items) }
+        → AreAnswersTaken name events result (map (λ list. reverse list.items) lists.new.items) }
 {
     if lists.is_empty() {
         return None;

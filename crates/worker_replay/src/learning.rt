@@ -2,7 +2,7 @@
 ghost use Rattle.std.specs.Prelude.{◌≡◌, All, IfOk, IfSome, map};
 ghost use mathlib.Core.List.{IsPrefix};
 ghost use Rattle.worker_replay.specs.Runs.{IsAfter, reply_of, told_of};
-ghost use Rattle.worker_replay.specs.Parts.{IsOf};
+ghost use Rattle.worker_replay.specs.Parts.{IsTokenOf};
 
 use crate::dealing::Answers;
 use engine::{Answer, Forwarder, Refusal, Refused, Reply, Told};
@@ -18,7 +18,7 @@ pub(crate) fn learn_all(
     mut forwarder: Forwarder,
     answers: Answers,
 ) -> Result<(Forwarder, Replies), Memory>
-    requires { All (IsOf forwarder.name) answers.items }
+    requires { All (IsTokenOf forwarder.name) answers.items }
     ensures name { IfOk result (λ r. r.0.name ≡ forwarder.name) }
     ensures learned { IfOk result (λ r. All (IsAfter r.0.known) answers.items) }
     ensures replies { IfOk result (λ r. r.1.items ≡ map reply_of answers.items) }

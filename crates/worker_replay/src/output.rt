@@ -5,7 +5,7 @@ ghost use Rattle.engine.specs.Listings.{AreLsas};
 ghost use Rattle.replay.specs.declared.buffer.PrintError.TheVariants as stop;
 ghost use Rattle.output_lines.specs.declared.format.Show.TheVariants as show_value;
 ghost use Rattle.recording.specs.declared.version.Version.{Version as VersionValue};
-ghost use Rattle.replay.specs.Stops.{AreWhole};
+ghost use Rattle.replay.specs.Stops.{AreWholeLines};
 ghost use Rattle.worker_replay.specs.Parts.{Writes, WritesPart};
 
 use engine::Core;
@@ -38,13 +38,13 @@ impl RunEnd<'_> {
     ) -> Result<(), PrintError>
         ensures ok { OnOk result (Writes self.entry.version printing.show printing.format (string_bytes printed)
             self.entry.core.now (W.contents out.old) (W.contents out.new)) }
-        ensures write { AreWhole (string_bytes printed) → result ≡ Err stop.Write
+        ensures write { AreWholeLines (string_bytes printed) → result ≡ Err stop.Write
             → WritesPart stop.Write self.entry.version printing.show printing.format (string_bytes printed)
             self.entry.core.now (W.contents out.old) (W.contents out.new) }
-        ensures closed { AreWhole (string_bytes printed) → result ≡ Err stop.Closed
+        ensures closed { AreWholeLines (string_bytes printed) → result ≡ Err stop.Closed
             → WritesPart stop.Closed self.entry.version printing.show printing.format (string_bytes printed)
             self.entry.core.now (W.contents out.old) (W.contents out.new) }
-        ensures memory { AreWhole (string_bytes printed) → result ≡ Err stop.Memory
+        ensures memory { AreWholeLines (string_bytes printed) → result ≡ Err stop.Memory
             → (out.new ≡ out.old) ⊎ WritesPart stop.Memory self.entry.version
             printing.show printing.format (string_bytes printed) self.entry.core.now (W.contents out.old) (W.contents out.new) }
     {
@@ -75,7 +75,7 @@ fn write_routes<W: io::Write>(
     ensures ok { OnOk result ((v : VersionValue)
         → Writes v show_value.Routes format (string_bytes buffer.old) core.now (W.contents out.old)
         (W.contents out.new)) }
-    ensures err { AreWhole (string_bytes buffer.old)
+    ensures err { AreWholeLines (string_bytes buffer.old)
         → IfErr result (λ why. (v : VersionValue)
         → WritesPart why v show_value.Routes format (string_bytes buffer.old) core.now (W.contents out.old)
         (W.contents out.new)) }
@@ -95,7 +95,7 @@ fn write_due<W: io::Write>(
     ensures ok { OnOk result ((v : VersionValue)
         → Writes v show_value.Due format (string_bytes buffer.old) core.now (W.contents out.old)
         (W.contents out.new)) }
-    ensures err { AreWhole (string_bytes buffer.old)
+    ensures err { AreWholeLines (string_bytes buffer.old)
         → IfErr result (λ why. (v : VersionValue)
         → WritesPart why v show_value.Due format (string_bytes buffer.old) core.now (W.contents out.old)
         (W.contents out.new)) }
@@ -116,7 +116,7 @@ fn write_lsdb<W: io::Write>(
     requires { AreLsas (state_of core.now) lsas.items }
     ensures ok { OnOk result ((v : VersionValue) → Writes v show_value.Lsdb format (string_bytes buffer.old)
         core.now (W.contents out.old) (W.contents out.new)) }
-    ensures err { AreWhole (string_bytes buffer.old)
+    ensures err { AreWholeLines (string_bytes buffer.old)
         → IfErr result (λ why. (v : VersionValue)
         → WritesPart why v show_value.Lsdb format (string_bytes buffer.old) core.now (W.contents out.old)
         (W.contents out.new)) }

@@ -7,7 +7,7 @@ ghost use Rattle.engine.specs.Answers.{AreAnswered};
 ghost use Rattle.engine.specs.Opens.{IsRolledSerial};
 ghost use Rattle.replay.specs.Lines.{first_number};
 ghost use Rattle.worker_replay.specs.Runs.{IsNotRolled};
-ghost use Rattle.worker_replay.specs.Parts.{AreWorkers, HasRun, HasPrinted, HasAllReplies, Looks};
+ghost use Rattle.worker_replay.specs.Parts.{AreWorkers, HasRun, HasPrinted, HasAllReplies, LooksOnce};
 ghost use Rattle.worker_replay.specs.Parts.{IsRunFault};
 
 use crate::asking::{Apart, Ask, set_all_apart};
@@ -183,7 +183,7 @@ impl AnsweredLines {
     fn look(self, alloc: Global, forwarder: Forwarder) -> Result<String, WorkerReplayFault>
         requires replies { HasAllReplies self.asks.items self.replies.items }
         requires few { self.first + length self.asks.items < 2 ^ 64 }
-        ensures looks { IfOk result (λ text. Looks self.format forwarder self.first self.asks.items
+        ensures looks { IfOk result (λ text. LooksOnce self.format forwarder self.first self.asks.items
             self.replies.items self.rolled (string_bytes text)) }
         ensures fault { IfErr result IsRunFault }
     {

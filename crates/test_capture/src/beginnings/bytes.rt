@@ -6,7 +6,7 @@ use std::alloc::Global;
 
 /// Fields of the header of an LSA.
 #[derive(Clone, Copy)]
-pub struct Head {
+pub struct HeaderFields {
     pub options: u8,
     pub id: u32,
     pub router: u32,
@@ -20,7 +20,7 @@ pub type Fields = (u32, u32, u8);
 /// # Errors
 ///
 /// Returns an error if there are too many links, or if memory runs out.
-pub fn router_lsa(alloc: Global, head: Head, links: &[Fields]) -> Result<Checked> {
+pub fn router_lsa(alloc: Global, head: HeaderFields, links: &[Fields]) -> Result<Checked> {
     let [high, low] = u16::try_from(links.len())?.to_be_bytes();
     let mut body = Vec::from_slice(alloc, &[0, 0, high, low])?;
     for fields in links {
@@ -34,13 +34,13 @@ pub fn router_lsa(alloc: Global, head: Head, links: &[Fields]) -> Result<Checked
 /// # Errors
 ///
 /// Returns an error if the LSA has a fault, or if memory runs out.
-pub fn summary_lsa(alloc: Global, head: Head, mask: u32, metric: u32) -> Result<Checked> {
+pub fn summary_lsa(alloc: Global, head: HeaderFields, mask: u32, metric: u32) -> Result<Checked> {
     let [a, b, c, d] = mask.to_be_bytes();
     let [_, e, f, g] = metric.to_be_bytes();
     lsa(alloc, 3, head, &[a, b, c, d, 0, e, f, g])
 }
 
-fn lsa(alloc: Global, kind: u8, head: Head, body: &[u8]) -> Result<Checked> {
+fn lsa(alloc: Global, kind: u8, head: HeaderFields, body: &[u8]) -> Result<Checked> {
     let length = u16::try_from(body.len())?.wrapping_add(20);
     let mut bytes = Vec::from_slice(alloc, &header(kind, head, length))?;
     bytes.extend_from_slice(body)?;
@@ -55,7 +55,7 @@ fn lsa(alloc: Global, kind: u8, head: Head, body: &[u8]) -> Result<Checked> {
 }
 
 // Returns the bytes of the header, with checksum 0.
-fn header(kind: u8, head: Head, length: u16) -> [u8; 20] {
+fn header(kind: u8, head: HeaderFields, length: u16) -> [u8; 20] {
     let [a, b, c, d] = head.id.to_be_bytes();
     let [e, f, g, h] = head.router.to_be_bytes();
     let [high, low] = length.to_be_bytes();

@@ -1,7 +1,7 @@
 //! A capture that is read to its end, and its text.
 
 use anyhow::Result;
-use captures::{Capture, FaultKind, Packet, Part};
+use captures::{Capture, CapturedPacket, FaultKind, Part};
 use std::alloc::Global;
 use std::fmt::Write;
 
@@ -58,7 +58,12 @@ fn put_end(text: &mut String, capture: &Capture, rest: &[u8]) -> Result<()> {
     Ok(())
 }
 
-fn put_packet(alloc: Global, text: &mut String, packet: Packet<'_>, length: usize) -> Result<()> {
+fn put_packet(
+    alloc: Global,
+    text: &mut String,
+    packet: CapturedPacket<'_>,
+    length: usize,
+) -> Result<()> {
     write!(
         text,
         "  {length} bytes with a packet of {} ",

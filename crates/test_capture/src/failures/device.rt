@@ -5,18 +5,18 @@ use std::io;
 
 /// An input that gives its bytes, and then the end or an error.
 #[derive(Drop)]
-pub struct Input<'a> {
+pub struct InputDevice<'a> {
     left: &'a [u8],
     fails: bool,
 }
 
-impl<'a> Input<'a> {
-    pub fn new(bytes: &'a [u8], fails: bool) -> Input<'a> {
-        Input { left: bytes, fails }
+impl<'a> InputDevice<'a> {
+    pub fn new(bytes: &'a [u8], fails: bool) -> InputDevice<'a> {
+        InputDevice { left: bytes, fails }
     }
 }
 
-impl io::Read for Input<'_> {
+impl io::Read for InputDevice<'_> {
     fn read(&mut self, buf: &mut [u8]) -> io::Result<usize> {
         if self.left.is_empty() && self.fails {
             return Err(io::Error::from(io::ErrorKind::ConnectionReset));
@@ -27,15 +27,15 @@ impl io::Read for Input<'_> {
 
 /// An output that takes `room` bytes, after which a write fails.
 #[derive(Drop)]
-pub struct Output {
+pub struct OutputDevice {
     taken: Vec<u8>,
     room: usize,
     failure: io::ErrorKind,
 }
 
-impl Output {
-    pub fn new(alloc: Global, room: usize, failure: io::ErrorKind) -> Output {
-        Output {
+impl OutputDevice {
+    pub fn new(alloc: Global, room: usize, failure: io::ErrorKind) -> OutputDevice {
+        OutputDevice {
             taken: Vec::new(alloc),
             room,
             failure,
@@ -48,7 +48,7 @@ impl Output {
     }
 }
 
-impl io::Write for Output {
+impl io::Write for OutputDevice {
     fn write(&mut self, buf: &[u8]) -> io::Result<usize> {
         if self.room == 0 {
             return Err(io::Error::from(self.failure));

@@ -6,59 +6,59 @@ use std::alloc::Global;
 
 /// A fragment: its offset in bytes, if it is the last one, and its bytes.
 #[derive(Clone, Copy)]
-struct Part<'a> {
+struct FragmentBytes<'a> {
     offset: u8,
     is_last: bool,
     payload: &'a [u8],
 }
 
-const A: Part<'static> = Part {
+const A: FragmentBytes<'static> = FragmentBytes {
     offset: 0,
     is_last: false,
     payload: &[1, 2, 3, 4, 5, 6, 7, 8],
 };
 
-const B: Part<'static> = Part {
+const B: FragmentBytes<'static> = FragmentBytes {
     offset: 8,
     is_last: false,
     payload: &[9, 10, 11, 12, 13, 14, 15, 16],
 };
 
-const C: Part<'static> = Part {
+const C: FragmentBytes<'static> = FragmentBytes {
     offset: 16,
     is_last: true,
     payload: &[17, 18],
 };
 
 /// A fragment that covers the second half of `A` and the first half of `B`.
-const OVER: Part<'static> = Part {
+const OVER: FragmentBytes<'static> = FragmentBytes {
     offset: 4,
     is_last: false,
     payload: &[50, 60, 70, 80, 90, 100, 110, 120],
 };
 
 /// A last fragment whose end is not that of `C`.
-const OTHER_END: Part<'static> = Part {
+const OTHER_END: FragmentBytes<'static> = FragmentBytes {
     offset: 16,
     is_last: true,
     payload: &[17],
 };
 
 /// A fragment that extends past the end of `C`.
-const PAST: Part<'static> = Part {
+const PAST: FragmentBytes<'static> = FragmentBytes {
     offset: 16,
     is_last: false,
     payload: &[17, 18, 19, 20, 21, 22, 23, 24],
 };
 
-const WHOLE: Part<'static> = Part {
+const WHOLE: FragmentBytes<'static> = FragmentBytes {
     offset: 0,
     is_last: true,
     payload: &[1, 2, 3],
 };
 
 /// A last fragment right after `A`.
-const END: Part<'static> = Part {
+const END: FragmentBytes<'static> = FragmentBytes {
     offset: 8,
     is_last: true,
     payload: &[17, 18],
@@ -75,7 +75,7 @@ const ALL: [u8; 18] = [
 #[derive(Clone, Copy)]
 pub struct PartsTrial<'a> {
     pub name: &'a str,
-    parts: &'a [Part<'a>],
+    parts: &'a [FragmentBytes<'a>],
     wanted: Option<&'a [u8]>,
     kept: usize,
 }
@@ -168,7 +168,7 @@ fn makes(
     alloc: Global,
     fragments: &mut Fragments,
     identification: u16,
-    part: &Part<'_>,
+    part: &FragmentBytes<'_>,
     wanted: Option<&[u8]>,
 ) -> Result<bool, Memory> {
     let answer = fragments.take(alloc, &datagram(identification, part))?;
@@ -180,7 +180,7 @@ fn makes(
 }
 
 // Returns a fragment of the datagram with this identification, of at most 64 bytes.
-fn datagram<'a>(identification: u16, part: &Part<'a>) -> Datagram<'a> {
+fn datagram<'a>(identification: u16, part: &FragmentBytes<'a>) -> Datagram<'a> {
     Datagram {
         source: 0x0a00_0001,
         destination: 0xe000_0005,

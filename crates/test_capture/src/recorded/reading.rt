@@ -1,8 +1,8 @@
 //! A capture that is read to its end and recorded.
 
-use crate::recorded::session::Session;
+use crate::recorded::session::SessionLines;
 use anyhow::Result;
-use captures::{Capture, Packet, Part};
+use captures::{Capture, CapturedPacket, Part};
 use std::alloc::Global;
 
 /// Records a capture, with a line for each event.
@@ -13,7 +13,7 @@ use std::alloc::Global;
 pub fn put_capture(
     alloc: Global,
     capture: &mut Capture,
-    session: &mut Session,
+    session: &mut SessionLines,
     bytes: &[u8],
 ) -> Result<()> {
     let mut rest = bytes;
@@ -37,7 +37,7 @@ pub fn put_capture(
 fn next_part<'a>(
     capture: &mut Capture,
     rest: &'a [u8],
-) -> Result<Option<(Option<Packet<'a>>, usize)>> {
+) -> Result<Option<(Option<CapturedPacket<'a>>, usize)>> {
     match capture.read_part(rest)? {
         Part::More(_) => Ok(None),
         Part::Skip(length) => Ok(Some((None, length))),

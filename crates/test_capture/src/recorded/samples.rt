@@ -1,7 +1,7 @@
 //! A datagram in two fragments with the second one first, packets without OSPF, and an LSA that is
 //! flushed.
 
-use captures::Packet;
+use captures::CapturedPacket;
 
 /// The second fragment of an update with one network-LSA, which is at MaxAge.
 const SECOND: [u8; 44] = [
@@ -86,8 +86,8 @@ pub const PACKETS: [&[u8]; 6] = [&SECOND, &FIRST, &OTHER, &WHOLE, &CUT, &BARE];
 const RAW: u16 = 101;
 
 /// Returns a captured packet without a time.
-pub fn captured(bytes: &[u8]) -> Packet<'_> {
-    Packet {
+pub fn captured(bytes: &[u8]) -> CapturedPacket<'_> {
+    CapturedPacket {
         time: None,
         link: RAW,
         wire_length: 84,

@@ -3,22 +3,22 @@
 use crate::recorded::texts::put_taken;
 use anyhow::Result;
 use captured_lsas::{Heard, Listener, Options, Recorder};
-use captures::Packet;
+use captures::CapturedPacket;
 use std::alloc::Global;
 use std::fmt::Write;
 use std::hash::RandomState;
 
 /// The lines so far: one for each event, and one for each packet without an event.
-pub struct Session {
+pub struct SessionLines {
     listener: Listener,
     recorder: Recorder,
     text: String,
 }
 
 // proof: a value is dropped by one call, not part by part at each exit of a function.
-impl Drop for Session {
+impl Drop for SessionLines {
     fn drop(self) {
-        let Session {
+        let SessionLines {
             listener: _listener,
             recorder: _recorder,
             text: _text,
@@ -26,9 +26,9 @@ impl Drop for Session {
     }
 }
 
-impl Session {
-    pub fn new(alloc: Global, hashing: RandomState, options: Options) -> Session {
-        Session {
+impl SessionLines {
+    pub fn new(alloc: Global, hashing: RandomState, options: Options) -> SessionLines {
+        SessionLines {
             listener: Listener::new(alloc),
             recorder: Recorder::new(alloc, hashing, options, None),
             text: String::new(alloc),
@@ -49,7 +49,7 @@ impl Session {
     /// # Errors
     ///
     /// Returns an error if memory runs out.
-    pub fn put(&mut self, alloc: Global, packet: &Packet<'_>) -> Result<()> {
+    pub fn put(&mut self, alloc: Global, packet: &CapturedPacket<'_>) -> Result<()> {
         match self.listener.hear(alloc, packet)? {
             Heard::Other => self.note("no OSPF"),
             Heard::Fault(fault) => self.note(&format!(in alloc; "{fault}")?),

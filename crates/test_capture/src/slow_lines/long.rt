@@ -1,6 +1,6 @@
 //! Lines about as long as the longest line that is kept whole, and far longer ones.
 
-use crate::slow_lines::trial::{STEPS, Trial, Wanted};
+use crate::slow_lines::trial::{ExpectedResult, STEPS, Trial};
 use anyhow::Result;
 use input_reading::LONGEST;
 use std::alloc::{AllocError, Global};
@@ -85,14 +85,18 @@ impl LongLine {
         let last = Trial {
             name: self.name,
             text: &text,
-            wanted: &[Wanted::Cut(&line), Wanted::End],
+            wanted: &[ExpectedResult::Cut(&line), ExpectedResult::End],
         };
         last.run(alloc, &STEPS[4..])?;
         text.extend_from_slice(b"\n2 up\n")?;
         let inside = Trial {
             name: self.name,
             text: &text,
-            wanted: &[Wanted::Line(&line), Wanted::Line(b"2 up"), Wanted::End],
+            wanted: &[
+                ExpectedResult::Line(&line),
+                ExpectedResult::Line(b"2 up"),
+                ExpectedResult::End,
+            ],
         };
         let first = if self.length > MEGABYTE { 3 } else { 0 };
         inside.run(alloc, &STEPS[first..])

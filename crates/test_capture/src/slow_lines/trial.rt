@@ -10,20 +10,20 @@ pub const STEPS: [usize; 5] = [1, 2, 3, 7, 1 << 30];
 
 /// The expected result of a call.
 #[derive(Clone, Copy)]
-pub enum Wanted<'a> {
+pub enum ExpectedResult<'a> {
     Line(&'a [u8]),
     Cut(&'a [u8]),
     End,
     Fault(ReadFault),
 }
 
-impl Wanted<'_> {
+impl ExpectedResult<'_> {
     fn has_come(&self, answer: Result<Next, ReadFault>, line: &[u8]) -> bool {
         match (self, answer) {
-            (Wanted::Line(text), Ok(Next::Line)) => line == *text,
-            (Wanted::Cut(text), Ok(Next::Cut)) => line == *text,
-            (Wanted::End, Ok(Next::End)) => line.is_empty(),
-            (Wanted::Fault(fault), Err(found)) => *fault == found,
+            (ExpectedResult::Line(text), Ok(Next::Line)) => line == *text,
+            (ExpectedResult::Cut(text), Ok(Next::Cut)) => line == *text,
+            (ExpectedResult::End, Ok(Next::End)) => line.is_empty(),
+            (ExpectedResult::Fault(fault), Err(found)) => *fault == found,
             _ => false,
         }
     }
@@ -34,7 +34,7 @@ impl Wanted<'_> {
 pub struct Trial<'a> {
     pub name: &'a str,
     pub text: &'a [u8],
-    pub wanted: &'a [Wanted<'a>],
+    pub wanted: &'a [ExpectedResult<'a>],
 }
 
 impl Trial<'_> {
@@ -58,7 +58,7 @@ impl Trial<'_> {
 pub fn do_come(
     alloc: Global,
     input: &mut SlowInput<'_>,
-    wanted: &[Wanted<'_>],
+    wanted: &[ExpectedResult<'_>],
 ) -> Result<bool, AllocError> {
     let mut reader = LineReader::new(alloc)?;
     let mut line = Vec::new(alloc);

@@ -20,7 +20,7 @@ const SHOWN: usize = 16;
 /// Returns an error if a further call gives another end, or if memory runs out.
 pub fn read_all(alloc: Global, input: &mut SlowInput<'_>) -> Result<String> {
     let mut text = String::new(alloc);
-    Reading::new(alloc)?.put_all(alloc, input, &mut text)?;
+    PacketReading::new(alloc)?.put_all(alloc, input, &mut text)?;
     Ok(text)
 }
 
@@ -31,7 +31,7 @@ pub fn read_all(alloc: Global, input: &mut SlowInput<'_>) -> Result<String> {
 ///
 /// Returns an error if the capture has a fault or cannot be read, or if memory runs out.
 pub fn count_all(alloc: Global, input: &mut SlowInput<'_>) -> Result<String> {
-    let counts = Reading::new(alloc)?.counts(input)?;
+    let counts = PacketReading::new(alloc)?.counts(input)?;
     let mut text = String::new(alloc);
     counts.put(&mut text)?;
     Ok(text)
@@ -44,20 +44,20 @@ pub fn count_all(alloc: Global, input: &mut SlowInput<'_>) -> Result<String> {
 /// Returns an error if the capture has a fault or cannot be read, or if memory runs out.
 pub fn pending_of(alloc: Global, input: &mut SlowInput<'_>) -> Result<String> {
     let mut text = String::new(alloc);
-    Reading::new(alloc)?.put_pending(input, &mut text)?;
+    PacketReading::new(alloc)?.put_pending(input, &mut text)?;
     Ok(text)
 }
 
 // A reader, and the bytes of its last packet.
 #[derive(Drop)]
-struct Reading {
+struct PacketReading {
     reader: PacketReader,
     bytes: Vec<u8>,
 }
 
-impl Reading {
-    fn new(alloc: Global) -> Result<Reading> {
-        Ok(Reading {
+impl PacketReading {
+    fn new(alloc: Global) -> Result<PacketReading> {
+        Ok(PacketReading {
             reader: PacketReader::new(alloc)?,
             bytes: Vec::new(alloc),
         })
@@ -91,8 +91,8 @@ impl Reading {
         put_last(text, last)
     }
 
-    fn counts(&mut self, input: &mut SlowInput<'_>) -> Result<Counts> {
-        let mut counts = Counts::default();
+    fn counts(&mut self, input: &mut SlowInput<'_>) -> Result<ReadCounts> {
+        let mut counts = ReadCounts::default();
         for _ in 0..MOST {
             let Some(head) = self.read_one(input)? else {
                 break;
@@ -125,7 +125,7 @@ impl Reading {
 
 // Counts of packets and bytes.
 #[derive(Clone, Copy, Default)]
-struct Counts {
+struct ReadCounts {
     packets: u32,
     bytes: usize,
     sum: u64,
@@ -133,7 +133,7 @@ struct Counts {
     time: u64,
 }
 
-impl Counts {
+impl ReadCounts {
     fn count(&mut self, head: &PacketHead, bytes: &[u8]) {
         self.packets = self.packets.saturating_add(1);
         self.bytes = self.bytes.saturating_add(bytes.len());

@@ -8,7 +8,7 @@ use Rattle.area_drawings.specs.declared.reached.ReachedVertex.{ReachedVertex}
 use Rattle.area_drawings.specs.declared.stands.Stand.{Stand}
 use Rattle.area_drawings.specs.Columns.{AreColumnsOf}
 use Rattle.area_drawings.specs.Drawings.{reached_of, stands_of}
-use Rattle.area_drawings.specs.Links.{AreApart, AreLinksBetween}
+use Rattle.area_drawings.specs.Links.{AreStandsApart, AreLinksBetween}
 use Rattle.area_drawings.specs.Places.{IsInColumn}
 use Rattle.area_drawings.proofs.Drawn.{columns_moved, is_drawing, reached_moved, stands_apart}
 use Rattle.area_drawings.proofs.area.draw_area.Goals as goal
@@ -26,7 +26,7 @@ draw_links-requires c =
     let reached = c.in_ok-reached.reached.items in
     let stands = c.in_ok-arranged.arranged.stands.items in
     let same : IsPermutation reached (reached_of stands) = subst (λ (rs : List ReachedVertex). IsPermutation rs (reached_of stands)) c.deref-3.ensures.value c.in_ok-arranged.ensures.vertices in
-    subst AreApart (sym c.deref-5.ensures.value) (stands_apart d t stands (reached_moved d t reached (reached_of stands) same c.in_ok-reached.ensures))
+    subst AreStandsApart (sym c.deref-5.ensures.value) (stands_apart d t stands (reached_moved d t reached (reached_of stands) same c.in_ok-reached.ensures))
 
 pub returns : goal.returns
 returns c =

@@ -5,7 +5,7 @@ use Rattle.ospf_types.specs.declared.entry.Vertex.TheVariants.{Router}
 use Rattle.area_drawings.specs.declared.reached.ReachedVertex.{ReachedVertex}
 use Rattle.area_drawings.specs.declared.stands.Stand.{Stand}
 use Rattle.area_drawings.specs.Columns.{column_of}
-use Rattle.area_drawings.specs.Places.{IsInColumn, IsRun}
+use Rattle.area_drawings.specs.Places.{IsInColumn, IsStandChain}
 use Rattle.area_drawings.proofs.Runs.{run_push, in_places, has_rows, reached_push}
 use Rattle.area_drawings.proofs.stands.place_all.Goals as goal
 
@@ -22,7 +22,7 @@ loop-reached-preserved c =
     let s = c.in_ok-stand.stand in
     let columns = c.args.columns.now in
     subst
-    (λ (ss : List Stand). (map (λ t. t.reached) ss ≡ take (c.loop-reached.reached-index + 1) c.args.ordered.now) × All (IsInColumn columns) ss × IsRun None ss (Some s))
+    (λ (ss : List Stand). (map (λ t. t.reached) ss ≡ take (c.loop-reached.reached-index + 1) c.args.ordered.now) × All (IsInColumn columns) ss × IsStandChain None ss (Some s))
     (sym c.in_ok-push.ensures.items) (
       reached_push before s c.args.ordered.now c.loop-reached.reached-index blank c.loop-reached-test.true c.loop-reached.invariant.0 c.in_ok-stand.ensures.vertex,
       All-push (IsInColumn columns) before s c.loop-reached.invariant.1 c.in_ok-stand.ensures.column,

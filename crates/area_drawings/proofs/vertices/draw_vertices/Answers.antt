@@ -4,14 +4,14 @@ use Rattle.std.proofs.lemmas.List.Elements.{All-push}
 use Rattle.ospf_types.specs.declared.entry.Vertex.TheVariants.{Router}
 use Rattle.area_drawings.specs.declared.drawing.DrawnVertex.{DrawnVertex}
 use Rattle.area_drawings.specs.declared.stands.Stand.{Stand}
-use Rattle.area_drawings.specs.Drawings.{IsTold, stand_of}
+use Rattle.area_drawings.specs.Drawings.{IsTreeDrawn, stand_of}
 use Rattle.area_drawings.proofs.Drawn.{stand_push}
 use Rattle.area_drawings.proofs.vertices.draw_vertices.Goals as goal
 
 pub loop-stand-preserved : goal.loop-stand-preserved
 loop-stand-preserved c =
     let blank : Stand = record { reached = record { vertex = Router 0; distance = 0 }; place = record { column = 0; row = 0 } } in
-    let told = IsTold c.args.database.now.lsas c.args.tree.now in
+    let told = IsTreeDrawn c.args.database.now.lsas c.args.tree.now in
     let stands = c.args.stands.now in
     let i = c.loop-stand.stand-index in
     let before = c.loop-stand.vertices in

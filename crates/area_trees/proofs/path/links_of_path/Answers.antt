@@ -1,7 +1,7 @@
 use Rattle.std.proofs.Common.{subst, sym}
 use Rattle.ospf_types.specs.declared.entry.Vertex.{Vertex}
 use Rattle.area_trees.specs.declared.last_link.Before.TheVariants as comes
-use Rattle.area_trees.specs.LeastPaths.{IsFound, left_of}
+use Rattle.area_trees.specs.LeastPaths.{IsPathFound, left_of}
 use Rattle.area_trees.proofs.LeastPaths.{all_found, nothing_found, one_found}
 use Rattle.area_trees.proofs.path.links_of_path.Goals as goal
 
@@ -15,7 +15,7 @@ loop-left-preserved-in-Root c =
 
 pub loop-left-preserved : goal.loop-left-preserved
 loop-left-preserved c =
-    subst (λ (at : Vertex). IsFound c.args.graph.now c.args.to c.args.hop at (left_of (comes.Path c.in-Path.hop)) c.push.new.self.items) (sym c.vertex-at.ensures)
+    subst (λ (at : Vertex). IsPathFound c.args.graph.now c.args.to c.args.hop at (left_of (comes.Path c.in-Path.hop)) c.push.new.self.items) (sym c.vertex-at.ensures)
     (one_found c.requires c.args.to c.args.hop c.loop-left.at c.in-Some.hop c.loop-left.left c.loop-left.links.items c.push.new.self.items c.last_link-last.result (comes.Path c.in-Path.hop)
     c.in-Some.is c.loop-left.invariant c.last_link-last.ensures c.in_ok-push.ensures.items c.in-Path.is)
 

@@ -3,7 +3,7 @@ use Rattle.std.specs.Prelude.{Contains}
 use Rattle.std.proofs.lemmas.List.{take_all}
 use Rattle.std.proofs.lemmas.Bool.{false≢true}
 use Rattle.ospf_types.proofs.Elements.{no_element}
-use Rattle.graph_links.specs.declared.link.Link.{Link}
+use Rattle.graph_links.specs.declared.link.GraphLink.{GraphLink}
 use Rattle.graph_links.proofs.ByCost.{none_behind}
 use Rattle.graph_links.proofs.Growing.{more}
 use Rattle.graph_links.proofs.changes.is_among_first.Goals as goal
@@ -25,5 +25,5 @@ returns-then-link-other c = (
 pub returns : goal.returns
 returns c = (
   λ t. absurd (false≢true t),
-  λ h. absurd (c.loop-other.invariant (subst (λ (ls : List Link). Contains ls c.args.link.now) (sym (take_all c.loop-other.other-index c.args.others.now c.loop-other-test.false)) h)),
+  λ h. absurd (c.loop-other.invariant (subst (λ (ls : List GraphLink). Contains ls c.args.link.now) (sym (take_all c.loop-other.other-index c.args.others.now c.loop-other-test.false)) h)),
 )

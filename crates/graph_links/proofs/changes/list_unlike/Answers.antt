@@ -2,7 +2,7 @@ use Rattle.std.proofs.Common.{◌≡◌, ◌++◌, List, [], sym, subst, ◌∙�
 use Rattle.std.specs.Prelude.{◌↔◌, ◌⊎◌, Contains}
 use Rattle.std.specs.Vec.Iter.{into_iter_items}
 use Rattle.std.proofs.lemmas.List.{nil_from_length}
-use Rattle.graph_links.specs.declared.link.Link.{Link}
+use Rattle.graph_links.specs.declared.link.GraphLink.{GraphLink}
 use Rattle.graph_links.specs.Pairs.{AreApart}
 use Rattle.graph_links.proofs.Apart.{apart_given, apart_end}
 use Rattle.graph_links.proofs.Linking.{unlike_more, unlike_all}
@@ -14,9 +14,9 @@ loop-link-init c =
     let old = c.args.links.now.items in
     record {
       unlike = subst
-          (λ (ls : List Link). (k : Link) → (Contains old k ⊎ (Contains ls k × (Contains c.args.others.now k → ⊥))) ↔ (Contains old k ⊎ (Contains c.args.has.items k × (Contains c.args.others.now k → ⊥))))
+          (λ (ls : List GraphLink). (k : GraphLink) → (Contains old k ⊎ (Contains ls k × (Contains c.args.others.now k → ⊥))) ↔ (Contains old k ⊎ (Contains c.args.has.items k × (Contains c.args.others.now k → ⊥))))
           (sym gives) (λ k. (λ h. h, λ h. h));
-      apart = λ apart. subst (λ (ls : List Link). AreApart (old ++ ls)) (sym gives) apart;
+      apart = λ apart. subst (λ (ls : List GraphLink). AreApart (old ++ ls)) (sym gives) apart;
     }
 
 pub loop-link-preserved : goal.loop-link-preserved

@@ -6,9 +6,9 @@ use Rattle.std.specs.List.Sorted.{IsStrictlySortedBy}
 use Rattle.std.proofs.lemmas.List.Elements.{All-nil}
 use Rattle.ospf_types.specs.declared.entry.Vertex.{Vertex}
 use Rattle.graph_links.specs.declared.link_end.LinkEnd.{LinkEnd}
-use Rattle.graph_links.specs.declared.link.Link.{Link}
+use Rattle.graph_links.specs.declared.link.GraphLink.{GraphLink}
 use Rattle.graph_links.specs.EndOrder.{end_cmp, listed_end}
-use Rattle.graph_links.specs.Pairs.{AreAllAt, AreApart, AreCheap, KeepsApart}
+use Rattle.graph_links.specs.Pairs.{AreAllAt, AreApart, AreCheap, KeepsLinksApart}
 use Rattle.graph_links.specs.Sides.{ends_in, LinksIn, IsOutTo, IsIntoFrom}
 use Rattle.graph_links.proofs.Apart.{apart_nil}
 use Rattle.graph_links.proofs.AtVertex.{IsFirst}
@@ -23,10 +23,10 @@ loop-first-init c =
       ends = c.in_ok-copy_ends.ensures;
       within = omega arith;
       cut = cut_none c.args.all.ends.now;
-      out = walked_none (IsLinkOut L v) (λ (k : Link). k.to) c.args.all.ends.now c.empty.new.list.items c.in_ok-empty.ensures.items;
-      into = walked_none (IsLinkInto L v) (λ (k : Link). k.from) c.args.all.ends.now c.empty-2.new.list.items c.in_ok-empty-2.ensures.items;
-      out_cheap = subst AreCheap (sym c.in_ok-empty.ensures.items) (All-nil (λ (l : Link). l.cost < 65536));
-      into_cheap = subst AreCheap (sym c.in_ok-empty-2.ensures.items) (All-nil (λ (l : Link). l.cost < 65536));
+      out = walked_none (IsLinkOut L v) (λ (k : GraphLink). k.to) c.args.all.ends.now c.empty.new.list.items c.in_ok-empty.ensures.items;
+      into = walked_none (IsLinkInto L v) (λ (k : GraphLink). k.from) c.args.all.ends.now c.empty-2.new.list.items c.in_ok-empty-2.ensures.items;
+      out_cheap = subst AreCheap (sym c.in_ok-empty.ensures.items) (All-nil (λ (l : GraphLink). l.cost < 65536));
+      into_cheap = subst AreCheap (sym c.in_ok-empty-2.ensures.items) (All-nil (λ (l : GraphLink). l.cost < 65536));
       out_once = subst AreApart (sym c.in_ok-empty.ensures.items) apart_nil;
       into_once = subst AreApart (sym c.in_ok-empty-2.ensures.items) apart_nil;
     }
@@ -76,26 +76,26 @@ loop-first-preserved c =
     let low : IsFirst to ends i = cut_first ends i (listed_end 0) to sorted c.loop-first.invariant.cut c.loop-first-test.true refl in
     let within = c.past_from-past.ensures.within in
     let names = names_more to ends i past (listed_end 0) c.loop-first-test.true refl within low c.past_from-past.ensures.split in
-    let out : List Link = c.loop-first.row.out.items in
-    let into : List Link = c.loop-first.row.into.items in
+    let out : List GraphLink = c.loop-first.row.out.items in
+    let into : List GraphLink = c.loop-first.row.into.items in
     let listed = c.in_ok-list_both.ensures in
     let is : c.next_placed-other.result ≡ to = c.next_placed-other.ensures in
-    let out_new : List Link = c.list_both.new.row.out.items in
-    let into_new : List Link = c.list_both.new.row.into.items in
-    let more_out = subst (λ (w : Vertex). (l : Link) → Contains out_new l ↔ (Contains out l ⊎ IsOutTo L v l w)) is listed.out in
-    let more_into = subst (λ (w : Vertex). (l : Link) → Contains into_new l ↔ (Contains into l ⊎ IsIntoFrom L v l w)) is listed.into in
-    let out_apart = subst (λ (w : Vertex). KeepsApart v w out out_new) is listed.out_apart in
-    let into_apart = subst (λ (w : Vertex). KeepsApart w v into into_new) is listed.into_apart in
+    let out_new : List GraphLink = c.list_both.new.row.out.items in
+    let into_new : List GraphLink = c.list_both.new.row.into.items in
+    let more_out = subst (λ (w : Vertex). (l : GraphLink) → Contains out_new l ↔ (Contains out l ⊎ IsOutTo L v l w)) is listed.out in
+    let more_into = subst (λ (w : Vertex). (l : GraphLink) → Contains into_new l ↔ (Contains into l ⊎ IsIntoFrom L v l w)) is listed.into in
+    let out_apart = subst (λ (w : Vertex). KeepsLinksApart v w out out_new) is listed.out_apart in
+    let into_apart = subst (λ (w : Vertex). KeepsLinksApart w v into into_new) is listed.into_apart in
     record {
       ends = ap (λ (es : Vec LinkEnd). es.items) c.list_both.ensures.ends ∙ c.loop-first.invariant.ends;
       within = within;
       cut = cut_past to ends past c.past_from-past.ensures.split;
-      out = walked_more (IsLinkOut L v) (λ (k : Link). k.to) ends to i past out out_new (λ (l : Link). IsOutTo L v l to) names (λ l. (λ h. ((h.0, h.2), h.1), λ h. (h.0.0, h.1, h.0.1))) more_out c.loop-first.invariant.out;
-      into = walked_more (IsLinkInto L v) (λ (k : Link). k.from) ends to i past into into_new (λ (l : Link). IsIntoFrom L v l to) names (λ l. (λ h. ((h.1, h.2), h.0), λ h. (h.1, h.0.0, h.0.1))) more_into c.loop-first.invariant.into;
+      out = walked_more (IsLinkOut L v) (λ (k : GraphLink). k.to) ends to i past out out_new (λ (l : GraphLink). IsOutTo L v l to) names (λ l. (λ h. ((h.0, h.2), h.1), λ h. (h.0.0, h.1, h.0.1))) more_out c.loop-first.invariant.out;
+      into = walked_more (IsLinkInto L v) (λ (k : GraphLink). k.from) ends to i past into into_new (λ (l : GraphLink). IsIntoFrom L v l to) names (λ l. (λ h. ((h.1, h.2), h.0), λ h. (h.1, h.0.0, h.0.1))) more_into c.loop-first.invariant.into;
       out_cheap = listed.cheap.0 c.loop-first.invariant.out_cheap;
       into_cheap = listed.cheap.1 c.loop-first.invariant.into_cheap;
-      out_once = out_apart c.loop-first.invariant.out_once (λ l early from at. walked_others (IsLinkOut L v) (λ (k : Link). k.to) ends to i out c.loop-first.invariant.within low c.loop-first.invariant.out l early at);
-      into_once = into_apart c.loop-first.invariant.into_once (λ l early from at. walked_others (IsLinkInto L v) (λ (k : Link). k.from) ends to i into c.loop-first.invariant.within low c.loop-first.invariant.into l early from);
+      out_once = out_apart c.loop-first.invariant.out_once (λ l early from at. walked_others (IsLinkOut L v) (λ (k : GraphLink). k.to) ends to i out c.loop-first.invariant.within low c.loop-first.invariant.out l early at);
+      into_once = into_apart c.loop-first.invariant.into_once (λ l early from at. walked_others (IsLinkInto L v) (λ (k : GraphLink). k.from) ends to i into c.loop-first.invariant.within low c.loop-first.invariant.into l early from);
     }
 
 pub returns-clause-links : goal.returns-clause-links
@@ -107,8 +107,8 @@ returns-clause-links c =
     let i = c.loop-first.first in
     let past = c.loop-first-test.false in
     record {
-      out = walked_all (IsLinkOut L v) (λ (k : Link). k.to) ends i c.loop-first.row.out.items past (out_named side.local.root side.local.interfaces.now (ends_in side) v ends c.requires.ends) c.loop-first.invariant.out;
-      into = walked_all (IsLinkInto L v) (λ (k : Link). k.from) ends i c.loop-first.row.into.items past (into_named side.local.root side.local.interfaces.now (ends_in side) v ends c.requires.ends) c.loop-first.invariant.into;
+      out = walked_all (IsLinkOut L v) (λ (k : GraphLink). k.to) ends i c.loop-first.row.out.items past (out_named side.local.root side.local.interfaces.now (ends_in side) v ends c.requires.ends) c.loop-first.invariant.out;
+      into = walked_all (IsLinkInto L v) (λ (k : GraphLink). k.from) ends i c.loop-first.row.into.items past (into_named side.local.root side.local.interfaces.now (ends_in side) v ends c.requires.ends) c.loop-first.invariant.into;
       out_cheap = c.loop-first.invariant.out_cheap;
       into_cheap = c.loop-first.invariant.into_cheap;
       out_once = c.loop-first.invariant.out_once;

@@ -6,7 +6,7 @@ use Rattle.std.specs.List.{Contains}
 use Rattle.spf.proofs.OfSome.{contains_at}
 use Rattle.intra.specs.Inputs.{AreaValue, InputsValue}
 use Rattle.intra.specs.Intras.{AreaIntraValue}
-use Rattle.intra.specs.Following.{IsGathered, AreRoutersUpdated, IsRouterNamed, with_index_of}
+use Rattle.intra.specs.Following.{IsIndexFollowed, AreRoutersUpdated, IsRouterNamed, with_index_of}
 use Rattle.intra.specs.Updating.{IsBroughtTo, IsKeptBefore, HasOtherAmong}
 use Rattle.intra.proofs.Placing.{first_more, first_weaker, brought_grown, followed_from, settled_from, kept_before, other_more}
 use Rattle.intra.proofs.intra.follow_areas.Goals as goal
@@ -54,7 +54,7 @@ loop-place-preserved c =
     let there : place < length v.areas = subst (λ (areas : List AreaValue). place < length areas) same c.loop-place-test.true in
     let within : place < length now = omega (arith, there, c.requires.before.as_many, so_far.brought.as_many) in
     let here = get_or_default now place c.index-areas-place.result _ within in
-    let gathered = subst (λ (root : ℕ). IsGathered root vertices interfaces i (with_index_of i j) before.prefixes.items after.prefixes.items) root c.in_ok-follow.ensures.gathered in
+    let gathered = subst (λ (root : ℕ). IsIndexFollowed root vertices interfaces i (with_index_of i j) before.prefixes.items after.prefixes.items) root c.in_ok-follow.ensures.gathered in
     let updated = subst (λ (root : ℕ). AreRoutersUpdated root a (IsRouterNamed keys vertices i.id) (with_index_of i j) j before.routers.items after.routers.items) root c.in_ok-follow.ensures.updated in
     let P = IsBroughtTo v.root keys vertices interfaces in
     let step : P after.prefixes.items a i j = record {

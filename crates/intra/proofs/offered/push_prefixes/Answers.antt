@@ -5,7 +5,7 @@ use Rattle.std.proofs.lemmas.List.{take_all}
 use Rattle.std.proofs.lemmas.List.Elements.{Contains-append_left, Contains-push}
 use Rattle.ospf_types.specs.declared.prefix.Prefix.{Prefix}
 use Rattle.spf.proofs.OfSome.{contains_more}
-use Rattle.intra.specs.declared.offered.Offer.{Offer}
+use Rattle.intra.specs.declared.offered.OfferedPrefix.{OfferedPrefix}
 use Rattle.intra.proofs.offered.push_prefixes.Goals as goal
 
 pub loop-offer-preserved : goal.loop-offer-preserved
@@ -17,9 +17,9 @@ loop-offer-preserved c =
       kept = λ p d. there p (Contains-append_left was (offer.prefix ∷ []) p (c.loop-offer.invariant.kept p d));
       offered = λ p metric d. there p (elim ((contains_more c.args.offers.now c.loop-offer.offer-index offer (record { prefix = p; metric = metric }) c.loop-offer-test.true c.offer-item.is).0 d) [
         | inl early ↦ Contains-append_left was (offer.prefix ∷ []) p (c.loop-offer.invariant.offered p metric early)
-        | inr same ↦ subst (λ (o : Offer). Contains (was ++ offer.prefix ∷ []) o.prefix) (sym same) (Contains-push was offer.prefix)
+        | inr same ↦ subst (λ (o : OfferedPrefix). Contains (was ++ offer.prefix ∷ []) o.prefix) (sym same) (Contains-push was offer.prefix)
       ]);
     }
 
 pub returns-clause-offered : goal.returns-clause-offered
-returns-clause-offered c = λ p metric d. c.loop-offer.invariant.offered p metric (subst (λ (os : List Offer). Contains os (record { prefix = p; metric = metric })) (sym (take_all c.loop-offer.offer-index c.args.offers.now c.loop-offer-test.false)) d)
+returns-clause-offered c = λ p metric d. c.loop-offer.invariant.offered p metric (subst (λ (os : List OfferedPrefix). Contains os (record { prefix = p; metric = metric })) (sym (take_all c.loop-offer.offer-index c.args.offers.now c.loop-offer-test.false)) d)

@@ -1,11 +1,11 @@
 use Rattle.std.proofs.Common.{ℕ, ◌≢◌, ◌<◌, ◌≤◌, ◌-◌, length, slice_index}
-use Rattle.prefix_index.specs.Slots.{IsPlaced}
+use Rattle.prefix_index.specs.Slots.{IsSlotPlaced}
 use Rattle.prefix_index.proofs.slots.slot_of.Given as goal
 
 abbrev pub invariant-loop-slot : goal.invariant-loop-slot
 invariant-loop-slot l = record {
   after : l.home ≤ l.slot;
-  placed : IsPlaced l.numbers l.slot l.number;
+  placed : IsSlotPlaced l.numbers l.slot l.number;
   filled : (q : ℕ) → l.home ≤ q → q < l.slot → slice_index l.numbers q ≢ 0;
 }
 

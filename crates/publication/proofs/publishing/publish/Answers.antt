@@ -1,5 +1,5 @@
 use Rattle.std.proofs.Common.{◌≡◌, [], drop, ap}
-use Rattle.publication.specs.Lines.{Line}
+use Rattle.publication.specs.Lines.{HistoryLine}
 use Rattle.publication.proofs.Rules.{publishes}
 use Rattle.publication.proofs.Shows.{gives_right, known_after, grows_after}
 use Rattle.publication.proofs.publishing.publish.Goals as goal
@@ -8,7 +8,7 @@ pub publish_as-writer-requires : goal.publish_as-writer-requires
 publish_as-writer-requires g c next is =
     let w = c.args.writer in
     let all = gives_right w.desk.shown.value next (drop w.behind w.log.items) c.args.front.now is c.requires.appended c.requires.history in
-    publishes _ _ w.desk.shown.value next all.0 all.1 (rw (ap (λ (l : Line). l.list) all.2) c.requires.grows)
+    publishes _ _ w.desk.shown.value next all.0 all.1 (rw (ap (λ (l : HistoryLine). l.list) all.2) c.requires.grows)
 
 pub returns-clause-name : goal.returns-clause-name
 returns-clause-name g c =

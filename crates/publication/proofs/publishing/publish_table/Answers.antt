@@ -1,7 +1,7 @@
 use Rattle.std.proofs.Common.{refl, sym, ap, ◌∙◌, drop, subst, List, fold}
 use Rattle.publication.specs.declared.published_table.PublishedTable.{PublishedTable}
 use Rattle.publication.specs.declared.published_table.Update.{Update}
-use Rattle.publication.specs.Lines.{Line}
+use Rattle.publication.specs.Lines.{HistoryLine}
 use Rattle.publication.specs.Published.{IsTableFor}
 use Rattle.publication.specs.Updates.{updated, shown_state_of, IsRightState}
 use Rattle.publication.proofs.Folds.{gives_whole}
@@ -13,4 +13,4 @@ publish-requires-clause-appended g c =
     let front = c.front-front.ensures ∙ c.look.ensures.same in
     let same = ap (λ d. d.shown.value) c.append_whole.ensures.desk in
     subst (λ (z : PublishedTable × List Update). IsRightState c.front-front.result z.0.base (fold updated (shown_state_of z.0) z.1)) (λ i. (sym same i, sym (c.if-not-append_whole.ensures.pending refl) i))
-    (gives_whole (shown_state_of w.desk.shown.value) (drop w.behind w.log.items) c.args.table.now c.front-front.result (subst (λ (l : Line). IsTableFor w.desk.shown.value.base l.list c.args.table.now) (sym front) c.requires.right))
+    (gives_whole (shown_state_of w.desk.shown.value) (drop w.behind w.log.items) c.args.table.now c.front-front.result (subst (λ (l : HistoryLine). IsTableFor w.desk.shown.value.base l.list c.args.table.now) (sym front) c.requires.right))

@@ -1,6 +1,6 @@
 use Rattle.std.proofs.Common.{◌∙◌, All, sym, subst, refl, arith}
 use Rattle.std.proofs.lemmas.Grind.{common_steps}
-use Rattle.recording.specs.Recordings.{AreWhole, HasKind}
+use Rattle.recording.specs.Recordings.{AreLsasOfBytes, HasKind}
 use Rattle.recording.proofs.Pieces.{lines_none, lines_item, piece_appended, recording_appended}
 use Rattle.recording.proofs.printing.append_lines.Goals as goal
 
@@ -22,5 +22,5 @@ returns c =
     record {
       ok = all.0.text;
       kept = grind (arith, common_steps);
-      text = record { spelled = refl; forms = all.0.legal; held = subst (λ b. AreWhole b.lsas) c.base.ensures.value front.lsas; lsas = all.1; kept = c.lines-line-items.ensures.kept };
+      text = record { spelled = refl; forms = all.0.legal; held = subst (λ b. AreLsasOfBytes b.lsas) c.base.ensures.value front.lsas; lsas = all.1; kept = c.lines-line-items.ensures.kept };
     }

@@ -1,8 +1,8 @@
 use Rattle.std.proofs.Common.{ℕ, List, [], sym, subst, ◌∙◌}
 use Rattle.std.specs.FinMap.{get}
 use Rattle.ospf_types.specs.declared.entry.Vertex.{Vertex}
-use Rattle.vertex_graph.specs.Link.{Link}
-use Rattle.spf.specs.Suspects.{WasLeast, IsHead, AreToldOf, AreWithin, AreSuspected}
+use Rattle.vertex_graph.specs.GraphLink.{GraphLink}
+use Rattle.spf.specs.Suspects.{WasLeast, IsHead, AreToldOf, AreSuspectsWithin, AreSuspected}
 use Rattle.spf.proofs.Suspecting.{within_none, within_popped, suspected_at_start, suspected_next, suspects_fall, lost_at_end}
 use Rattle.spf.proofs.lose_support.lose_support.Goals as goal
 
@@ -10,8 +10,8 @@ pub suspect_heads-requires : goal.suspect_heads-requires
 suspect_heads-requires c =
     let first = c.clear.new.self in
     record {
-      within = subst (λ (vs : List Vertex). AreWithin vs first.suspects first.pending.stale) (sym c.clear.ensures.lost)
-          (subst (λ (vs : List Vertex). AreWithin [] vs first.pending.stale) (sym c.clear.ensures.suspects) (within_none first.pending.stale));
+      within = subst (λ (vs : List Vertex). AreSuspectsWithin vs first.suspects first.pending.stale) (sym c.clear.ensures.lost)
+          (subst (λ (vs : List Vertex). AreSuspectsWithin [] vs first.pending.stale) (sym c.clear.ensures.suspects) (within_none first.pending.stale));
     }
 
 pub judge-requires : goal.judge-requires
@@ -34,7 +34,7 @@ loop-suspect-init c =
     (subst (λ (vs : List Vertex). AreToldOf (IsHead (WasLeast g.root old) gone) vs [] new.pending.stale [] new.suspects) c.clear.ensures.lost
     (subst (λ (vs : List Vertex). AreToldOf (IsHead (WasLeast g.root old) gone) first.lost vs new.pending.stale [] new.suspects) c.clear.ensures.stale
     (subst (λ (vs : List Vertex). AreToldOf (IsHead (WasLeast g.root old) gone) first.lost first.pending.stale new.pending.stale vs new.suspects) c.clear.ensures.suspects
-    (subst (λ (ls : List Link). AreToldOf (IsHead (WasLeast g.root old) ls) first.lost first.pending.stale new.pending.stale first.suspects new.suspects) c.as_slice.ensures.value
+    (subst (λ (ls : List GraphLink). AreToldOf (IsHead (WasLeast g.root old) ls) first.lost first.pending.stale new.pending.stale first.suspects new.suspects) c.as_slice.ensures.value
     (subst (λ (r : ℕ). AreToldOf (IsHead (WasLeast r old) c.as_slice.result.now) first.lost first.pending.stale new.pending.stale first.suspects new.suspects) c.root.ensures.value told))))))
 
 pub loop-suspect-preserved : goal.loop-suspect-preserved

@@ -3,7 +3,7 @@ use Rattle.std.proofs.Common.{List, ℕ, sym, subst, ◌∙◌}
 use Rattle.std.proofs.lemmas.List.{take_all}
 use Rattle.ospf_types.specs.declared.prefix.Prefix.{Prefix}
 use Rattle.ospf_types.proofs.KeyOrders.{prefixes_decided}
-use Rattle.static_routes.specs.Routes.{IsConfigured, IsLeast}
+use Rattle.static_routes.specs.Routes.{IsRouteConfigured, IsLeast}
 use Rattle.static_routes.proofs.Least.{least_first, least_more}
 use Rattle.static_routes.proofs.routes.least_of.Goals as goal
 
@@ -18,4 +18,4 @@ loop-other-preserved c =
     (λ yea. decided.0 (sym c.eq.ensures ∙ yea), λ same. c.eq.ensures ∙ decided.1 same) c.least_with-least.ensures.other c.least_with-least.ensures.its c.loop-other.invariant
 
 pub returns : goal.returns
-returns c = subst (λ (rs : List (Prefix × ℕ)). IsLeast (IsConfigured rs c.args.network) c.loop-other.least) (take_all c.loop-other.other-index c.args.configured.now c.loop-other-test.false) c.loop-other.invariant
+returns c = subst (λ (rs : List (Prefix × ℕ)). IsLeast (IsRouteConfigured rs c.args.network) c.loop-other.least) (take_all c.loop-other.other-index c.args.configured.now c.loop-other-test.false) c.loop-other.invariant

@@ -6,7 +6,7 @@ use Rattle.std.specs.FinMap.{get}
 use Rattle.ospf_types.specs.declared.entry.Entry.{Entry}
 use Rattle.summaries.specs.declared.giving.Through.{Through}
 use Rattle.summaries.specs.Inputs.{SummaryInputsValue}
-use Rattle.summaries.specs.Giving.{IsOutside}
+use Rattle.summaries.specs.Giving.{IsOutsideRanges}
 use Rattle.summaries.specs.Candidates.{LeadsThrough}
 use Rattle.summaries.proofs.Throughs.{leads_nowhere, leads_outside, leads_inside}
 use Rattle.summaries.proofs.giving.intra_through.Goals as goal
@@ -26,7 +26,7 @@ returns-then-is_outside c =
     let through = c.in_ok-through.through in
     let kept = c.get.ensures.value ∙ ap (λ (w : SummaryInputsValue). get w.intra.entries p) c.inputs.view_is in
     let leads = subst (λ (o : Option Entry). (t : Through) → (c.finite.result ≡ Some t) ↔ LeadsThrough o t) kept c.finite.ensures in
-    let outside = subst (λ (w : SummaryInputsValue). IsOutside w.areas through.area p) c.inputs.view_is (c.is_outside.ensures.0 c.if-is_outside.true) in
+    let outside = subst (λ (w : SummaryInputsValue). IsOutsideRanges w.areas through.area p) c.inputs.view_is (c.is_outside.ensures.0 c.if-is_outside.true) in
     leads_outside v p c.finite.result leads through c.in_ok-through.was outside
 
 pub returns : goal.returns
@@ -37,4 +37,4 @@ returns c =
     let kept = c.get.ensures.value ∙ ap (λ (w : SummaryInputsValue). get w.intra.entries p) c.inputs.view_is in
     let leads = subst (λ (o : Option Entry). (t : Through) → (c.finite.result ≡ Some t) ↔ LeadsThrough o t) kept c.finite.ensures in
     leads_inside v p c.finite.result leads through c.in_ok-through.was
-    (λ outside. let wrong : true ≡ false = sym (c.is_outside.ensures.1 (subst (λ (w : SummaryInputsValue). IsOutside w.areas through.area p) (sym c.inputs.view_is) outside)) ∙ c.if-is_outside.false in absurd cc)
+    (λ outside. let wrong : true ≡ false = sym (c.is_outside.ensures.1 (subst (λ (w : SummaryInputsValue). IsOutsideRanges w.areas through.area p) (sym c.inputs.view_is) outside)) ∙ c.if-is_outside.false in absurd cc)

@@ -5,7 +5,7 @@ use Rattle.std.specs.FinMap.{get}
 use Rattle.std.specs.Map.{lookup}
 use Rattle.std.proofs.lemmas.Result.{on_ok_weaker}
 use Rattle.active_ranges.specs.Active.{ActiveValue}
-use Rattle.active_ranges.specs.Grouped.{IsPutIn, Networks, member_of, range_cmp}
+use Rattle.active_ranges.specs.Grouped.{IsPutIn, RangeNetworksValue, member_of, range_cmp}
 use Rattle.active_ranges.specs.declared.member.RangeMember.{RangeMember}
 use Rattle.active_ranges.proofs.Grouped.{cost_among, found, put_here, put_elsewhere}
 use Rattle.active_ranges.proofs.Lists.{nothing_there}
@@ -17,7 +17,7 @@ put_first-requires c = record {
       let old = c.self.inside.ranges.entries in
       let none : lookup (is_at (range_cmp c.args.range)) old ≡ None = nothing_there (lookup (is_at (range_cmp c.args.range)) old) (sym c.contains_key.ensures ∙ c.if-not-contains_key.true) in
       ap (λ (v : ActiveValue). get v.members (member_of c.args.range p)) (sym c.self.view_is)
-      ∙ found old c.self.inside.spent (member_of c.args.range p) ∙ ap (λ (o : Option Networks). cost_among o p) none;
+      ∙ found old c.self.inside.spent (member_of c.args.range p) ∙ ap (λ (o : Option RangeNetworksValue). cost_among o p) none;
 }
 
 pub returns-clause-here : goal.returns-clause-here

@@ -1,7 +1,7 @@
 use Rattle.std.proofs.Common.{◌<◌, refl, sym, ap, subst, arith, inl}
 use Rattle.std.specs.Prelude.{Contains, option_copied}
 use Rattle.advertised_index.specs.declared.index_key.IndexKey.TheVariants.{To, By, Forwarded}
-use Rattle.advertised_index.specs.LsasByKey.{IsOf}
+use Rattle.advertised_index.specs.LsasByKey.{IsIndexedUnder}
 use Rattle.advertised_index.proofs.Listing.{come_by, listed_in_all}
 use Rattle.advertised_index.proofs.lsas_by_key.LsasByKey.list.Goals as goal
 
@@ -9,15 +9,15 @@ pub returns-in_err-add-clause-only : goal.returns-in_err-add-clause-only
 returns-in_err-add-clause-only c =
     let k = c.args.key in
     let o = option_copied c.args.route in
-    let to : IsOf o k (To c.dest.result) = (c.in-Some.route.now, ap option_copied c.in-Some.is, sym c.dest.ensures) in
+    let to : IsIndexedUnder o k (To c.dest.result) = (c.in-Some.route.now, ap option_copied c.in-Some.is, sym c.dest.ensures) in
     come_by k o c.args.self.now c.args.self.now c.add.new.self (To c.dest.result) to c.add.ensures.only (λ m had. inl had)
 
 pub returns-in_err-add-2-clause-only : goal.returns-in_err-add-2-clause-only
 returns-in_err-add-2-clause-only c =
     let k = c.args.key in
     let o = option_copied c.args.route in
-    let to : IsOf o k (To c.dest.result) = (c.in-Some.route.now, ap option_copied c.in-Some.is, sym c.dest.ensures) in
-    let by : IsOf o k (By k.router) = (c.in-Some.route.now, ap option_copied c.in-Some.is, refl) in
+    let to : IsIndexedUnder o k (To c.dest.result) = (c.in-Some.route.now, ap option_copied c.in-Some.is, sym c.dest.ensures) in
+    let by : IsIndexedUnder o k (By k.router) = (c.in-Some.route.now, ap option_copied c.in-Some.is, refl) in
     come_by k o c.args.self.now c.add.new.self c.add-2.new.self (By k.router) by c.add-2.ensures.only
     (come_by k o c.args.self.now c.args.self.now c.add.new.self (To c.dest.result) to c.add.ensures.only (λ m had. inl had))
 
@@ -25,8 +25,8 @@ pub returns-then-forwarding-eq0-clause-only : goal.returns-then-forwarding-eq0-c
 returns-then-forwarding-eq0-clause-only c =
     let k = c.args.key in
     let o = option_copied c.args.route in
-    let to : IsOf o k (To c.dest.result) = (c.in-Some.route.now, ap option_copied c.in-Some.is, sym c.dest.ensures) in
-    let by : IsOf o k (By k.router) = (c.in-Some.route.now, ap option_copied c.in-Some.is, refl) in
+    let to : IsIndexedUnder o k (To c.dest.result) = (c.in-Some.route.now, ap option_copied c.in-Some.is, sym c.dest.ensures) in
+    let by : IsIndexedUnder o k (By k.router) = (c.in-Some.route.now, ap option_copied c.in-Some.is, refl) in
     come_by k o c.args.self.now c.add.new.self c.add-2.new.self (By k.router) by c.add-2.ensures.only
     (come_by k o c.args.self.now c.args.self.now c.add.new.self (To c.dest.result) to c.add.ensures.only (λ m had. inl had))
 
@@ -45,10 +45,10 @@ pub returns-in_err-add-3-clause-only : goal.returns-in_err-add-3-clause-only
 returns-in_err-add-3-clause-only c =
     let k = c.args.key in
     let o = option_copied c.args.route in
-    let to : IsOf o k (To c.dest.result) = (c.in-Some.route.now, ap option_copied c.in-Some.is, sym c.dest.ensures) in
-    let by : IsOf o k (By k.router) = (c.in-Some.route.now, ap option_copied c.in-Some.is, refl) in
+    let to : IsIndexedUnder o k (To c.dest.result) = (c.in-Some.route.now, ap option_copied c.in-Some.is, sym c.dest.ensures) in
+    let by : IsIndexedUnder o k (By k.router) = (c.in-Some.route.now, ap option_copied c.in-Some.is, refl) in
     let some : 0 < c.forwarding-2.result = omega (arith, c.forwarding.ensures, c.forwarding-2.ensures, c.if-forwarding-eq0.false) in
-    let forwarded : IsOf o k (Forwarded c.forwarding-2.result) = (c.in-Some.route.now, ap option_copied c.in-Some.is, (some, sym c.forwarding-2.ensures)) in
+    let forwarded : IsIndexedUnder o k (Forwarded c.forwarding-2.result) = (c.in-Some.route.now, ap option_copied c.in-Some.is, (some, sym c.forwarding-2.ensures)) in
     come_by k o c.args.self.now c.add-2.new.self c.add-3.new.self (Forwarded c.forwarding-2.result) forwarded c.add-3.ensures.only
     (come_by k o c.args.self.now c.add.new.self c.add-2.new.self (By k.router) by c.add-2.ensures.only
     (come_by k o c.args.self.now c.args.self.now c.add.new.self (To c.dest.result) to c.add.ensures.only (λ m had. inl had)))
@@ -60,10 +60,10 @@ pub returns-clause-only : goal.returns-clause-only
 returns-clause-only c =
     let k = c.args.key in
     let o = option_copied c.args.route in
-    let to : IsOf o k (To c.dest.result) = (c.in-Some.route.now, ap option_copied c.in-Some.is, sym c.dest.ensures) in
-    let by : IsOf o k (By k.router) = (c.in-Some.route.now, ap option_copied c.in-Some.is, refl) in
+    let to : IsIndexedUnder o k (To c.dest.result) = (c.in-Some.route.now, ap option_copied c.in-Some.is, sym c.dest.ensures) in
+    let by : IsIndexedUnder o k (By k.router) = (c.in-Some.route.now, ap option_copied c.in-Some.is, refl) in
     let some : 0 < c.forwarding-2.result = omega (arith, c.forwarding.ensures, c.forwarding-2.ensures, c.if-forwarding-eq0.false) in
-    let forwarded : IsOf o k (Forwarded c.forwarding-2.result) = (c.in-Some.route.now, ap option_copied c.in-Some.is, (some, sym c.forwarding-2.ensures)) in
+    let forwarded : IsIndexedUnder o k (Forwarded c.forwarding-2.result) = (c.in-Some.route.now, ap option_copied c.in-Some.is, (some, sym c.forwarding-2.ensures)) in
     come_by k o c.args.self.now c.add-2.new.self c.add-3.new.self (Forwarded c.forwarding-2.result) forwarded c.add-3.ensures.only
     (come_by k o c.args.self.now c.add.new.self c.add-2.new.self (By k.router) by c.add-2.ensures.only
     (come_by k o c.args.self.now c.args.self.now c.add.new.self (To c.dest.result) to c.add.ensures.only (λ m had. inl had)))

@@ -5,7 +5,7 @@ use Rattle.ospf_types.specs.declared.key.Scope.{Scope}
 use Rattle.area_trees.specs.Areas.{AreaTreeValue}
 use Rattle.intra.specs.Changes.{InputsDifferAmong}
 use Rattle.event_state.proofs.InPlace.{items_of_slice}
-use Rattle.active_ranges.specs.Active.{IsWithin}
+use Rattle.active_ranges.specs.Active.{IsRangeNetwork}
 use Rattle.calculation.specs.Calculations.{CalculationValue, IsCalculationOf, IsItemOf}
 use Rattle.route_layers.specs.Trees.{inputs_with, AreTreesOf, StatesDifferAmong}
 use Rattle.calculation.specs.Summaries.{RoutesDifferAmong}
@@ -64,7 +64,7 @@ pub returns-clause-named : goal.returns-clause-named
 returns-clause-named c =
     λ area prefix e.
     let named = c.in_ok-networks.ensures.named area prefix e in
-    (named.0, λ network within. named.1 network (subst (λ (k : CalculationValue). IsWithin k.intra.entries area prefix network) (sym c.self.view_is) within))
+    (named.0, λ network within. named.1 network (subst (λ (k : CalculationValue). IsRangeNetwork k.intra.entries area prefix network) (sym c.self.view_is) within))
 
 pub returns-clause-work : goal.returns-clause-work
 returns-clause-work c =

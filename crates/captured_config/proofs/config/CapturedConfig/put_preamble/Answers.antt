@@ -2,7 +2,7 @@ use Rattle.std.proofs.Common.{◌∙◌, OnOk, subst}
 use Rattle.std.specs.Result.{IfErr}
 use Rattle.ospf_types.specs.declared.config.Config.{Config}
 use Rattle.recording.specs.Recordings.{GainsLines, RecordingValue, forms_of}
-use Rattle.captured_config.specs.Faults.{IsRefused}
+use Rattle.captured_config.specs.Faults.{IsPreambleRefused}
 use Rattle.captured_config.proofs.Fronts.{both_ok, front_text, is_captured, same_by}
 use Rattle.captured_config.proofs.config.CapturedConfig.put_preamble.Goals as goal
 
@@ -20,6 +20,6 @@ returns-clause-recording c = λ captured are.
 
 pub returns-clause-fault : goal.returns-clause-fault
 returns-clause-fault c = λ captured are.
-    subst (λ (k : Config). IfErr c.put_front_of.result (IsRefused k c.args.text.now c.put_front_of.new.text))
+    subst (λ (k : Config). IfErr c.put_front_of.result (IsPreambleRefused k c.args.text.now c.put_front_of.new.text))
     (same_by captured c.args.areas.now c.deref.result.now c.args.self.now are (c.deref.ensures.value ∙ c.in_ok-ids.ensures))
     c.put_front_of.ensures.fault

@@ -6,10 +6,10 @@ use Rattle.event_state.specs.declared.base.Base.{Base}
 use Rattle.event_state.specs.Steps.{run_of}
 use Rattle.event_core.specs.DueSummary.{DueSummary}
 use Rattle.event_core.specs.Right.{IsDueIn}
-use Rattle.publication.specs.Published.{IsLegal, name_of}
+use Rattle.publication.specs.Published.{IsLegalHistory, name_of}
 use Rattle.publication.proofs.Prefixes.{take_prefix}
 use Rattle.engine.specs.Answers.{IsDueListOf, HasArea, after}
-use Rattle.engine.specs.EngineStates.{Held, Tells, list_of}
+use Rattle.engine.specs.EngineStates.{Held, IsTokenFor, list_of}
 use Rattle.engine.proofs.Runs.{legal_built}
 use Rattle.engine.proofs.Replying.{tells_beside, built_now, built_prefix}
 use Rattle.engine.proofs.Duing.{due_after, has_area, has_no_area}
@@ -33,7 +33,7 @@ returns-clause-due c =
       subst (λ (l : List DueSummary). IsDueIn (after shown.base list) c.args.area (Some l)) (sym c.in-Ok.ensures.items) due,
       tells_beside (name_of shown) (list_of c.self.inside.parts.rolled core) _ told.result shown.front.list list (built_prefix rolled core) count (omega (arith, long, kept.published.built, length-append rolled (take core.built core.journal)))
           (subst (λ (h : Held). IfNone told.result (¬ (c.built-serial.result ≡ h.name.base.serial + length h.published))) (sym c.self.view_is) told.ensures.none)
-          (subst (λ (h : Held). IfSome told.result (Tells h.name h.list c.built-serial.result)) (sym c.self.view_is) told.ensures.some),
+          (subst (λ (h : Held). IfSome told.result (IsTokenFor h.name h.list c.built-serial.result)) (sym c.self.view_is) told.ensures.some),
     )
 
 pub returns-clause-built : goal.returns-clause-built

@@ -7,8 +7,8 @@ use Rattle.event_core.specs.declared.reply.Status.TheVariants.{Current}
 use Rattle.publication.specs.Names.{Name}
 use Rattle.publication.specs.Published.{name_of}
 use Rattle.publication.proofs.Prefixes.{prefix_length, prefix_self}
-use Rattle.engine.specs.Answers.{Answers, Refusals}
-use Rattle.engine.specs.EngineStates.{Held, IsFresh, IsKept, Tells, list_of}
+use Rattle.engine.specs.Answers.{IsAnswerTo, Refusals}
+use Rattle.engine.specs.EngineStates.{Held, IsFresh, IsEngineKept, IsTokenFor, list_of}
 use Rattle.engine.proofs.Following.{follows}
 use Rattle.engine.proofs.Keeping.{core_kept}
 use Rattle.engine.proofs.Runs.{legal_core, refused_whole}
@@ -27,7 +27,7 @@ returns-in-Ok-clause-answer g c =
     let kept = c.self.invariant.1 in
     let same = c.answer.ensures.same in
     let replies = replied shown.base rolled core kept.base kept.limits c.apply.new.self event c.in-Ok.reply c.answer.result.reply c.self.invariant.0 taken same.0 same.1 in
-    subst (λ (n : Name). Answers n event c.answer.result) (ap (λ (h : Held). h.name) c.self.view_is)
+    subst (λ (n : Name). IsAnswerTo n event c.answer.result) (ap (λ (h : Held). h.name) c.self.view_is)
     (answers name (rolled ++ core.journal) event c.answer.result c.told-told.result c.publish-engine_state.result c.in-Ok.reply.serial same.0 replies same.2 c.answer.ensures.state
     p.same.0 (p.same.1 ∙ ap (λ j. rolled ++ j) taken.joins ∙ sym (append_assoc rolled core.journal (event ∷ []))) c.told-told.ensures.some)
 
@@ -56,7 +56,7 @@ returns-in-Err-clause-answer g c =
           (serial_now shown.base rolled.list core kept.base kept.limits c.apply.new.self c.serial.result same c.serial.ensures.state)
           (prefix_length shown.front.list list kept.published.begins)
           told.ensures.none
-          (subst (λ (v : CoreValue). IfSome told.result (Tells (name_of shown) (list_of rolled v) c.serial.result)) same told.ensures.some),
+          (subst (λ (v : CoreValue). IfSome told.result (IsTokenFor (name_of shown) (list_of rolled v) c.serial.result)) same told.ensures.some),
     )
 
 pub returns-in-Err-clause-told : goal.returns-in-Err-clause-told
@@ -117,11 +117,11 @@ publish-engine_state-requires-clause-kept g c =
 pub invariant_of-engine_state : goal.invariant_of-engine_state
 invariant_of-engine_state g c =
     let i = c.self.inside.parts in
-    subst (λ (v : CoreValue). IsCore v × IsKept v i.history i.rolled i.writer.desk.shown.value (known_to i.writer.desk.place) × IsFresh c.self.inside.stale v i.history i.rolled i.writer.desk.shown.value (drop i.writer.behind i.writer.log.items))
+    subst (λ (v : CoreValue). IsCore v × IsEngineKept v i.history i.rolled i.writer.desk.shown.value (known_to i.writer.desk.place) × IsFresh c.self.inside.stale v i.history i.rolled i.writer.desk.shown.value (drop i.writer.behind i.writer.log.items))
     (sym c.in-Err.ensures.applied.unchanged) c.self.invariant
 
 pub invariant_of-engine_state-in-Err : goal.invariant_of-engine_state-in-Err
 invariant_of-engine_state-in-Err g c =
     let i = c.self.inside.parts in
-    subst (λ (v : CoreValue). IsCore v × IsKept v i.history i.rolled i.writer.desk.shown.value (known_to i.writer.desk.place) × IsFresh c.self.inside.stale v i.history i.rolled i.writer.desk.shown.value (drop i.writer.behind i.writer.log.items))
+    subst (λ (v : CoreValue). IsCore v × IsEngineKept v i.history i.rolled i.writer.desk.shown.value (known_to i.writer.desk.place) × IsFresh c.self.inside.stale v i.history i.rolled i.writer.desk.shown.value (drop i.writer.behind i.writer.log.items))
     (sym c.in-Err.ensures.applied.unchanged) c.self.invariant

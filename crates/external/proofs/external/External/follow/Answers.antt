@@ -7,7 +7,7 @@ use Rattle.ospf_types.specs.declared.key.Scope.{Scope}
 use Rattle.ospf_types.specs.declared.key.Scope.TheVariants.{As}
 use Rattle.lsdb.specs.Contents.{body_at}
 use Rattle.advertised_index.specs.AdvertisedRoute.{advertised_at}
-use Rattle.advertised_index.specs.Indexes.{OfferIndexValue, AreTouched, IsIndexOf}
+use Rattle.advertised_index.specs.Indexes.{OfferIndexValue, AreDestsAffected, IsIndexOf}
 use Rattle.external.specs.Externals.{ExternalValue}
 use Rattle.external.specs.Inputs.{ExternalInputsValue}
 use Rattle.external.proofs.Frame.{stands_after}
@@ -35,6 +35,6 @@ returns-clause-stands c =
     let first = c.none-affected.result in
     let affected = c.follow.new.affected in
     let is = subst (λ (v : ExternalInputsValue). IsIndexOf v.root As v.lsas i) c.inputs.view_is c.in_ok-follow.ensures.index in
-    let touched = subst (λ (w : ExternalValue). AreTouched w.index i first affected) c.self.view_is c.in_ok-follow.ensures.touched in
+    let touched = subst (λ (w : ExternalValue). AreDestsAffected w.index i first affected) c.self.view_is c.in_ok-follow.ensures.touched in
     stands_after dirty.keys.items dirty.dests.items b.0 c.args.inputs.now c.args.self.now _ first affected b.1 b.2 is touched
     (ap (λ (w : ExternalValue). w.preferred) c.self.view_is) (ap (λ (w : ExternalValue). w.forwards) c.self.view_is) (ap (λ (w : ExternalValue). w.entries) c.self.view_is) (ap (λ (w : ExternalValue). w.spent) c.self.view_is)

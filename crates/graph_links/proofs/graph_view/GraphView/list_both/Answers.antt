@@ -6,7 +6,7 @@ use Rattle.std.proofs.lemmas.List.{nil_from_length}
 use Rattle.ospf_types.specs.declared.entry.Vertex.{Vertex}
 use Rattle.graph_links.specs.declared.link_end.LinkEnd.{LinkEnd}
 use Rattle.graph_links.specs.declared.vertex_pair.VertexPair.{VertexPair}
-use Rattle.graph_links.specs.Pairs.{AddsBetween, AreAllAt, KeepsApart}
+use Rattle.graph_links.specs.Pairs.{AddsBetween, AreAllAt, KeepsLinksApart}
 use Rattle.graph_links.specs.Sides.{ends_in, ends_or, LinksIn, IsOutTo, IsIntoFrom}
 use Rattle.graph_links.proofs.Linking.{as_listed, none_into, none_out, none_listed, some_at}
 use Rattle.graph_links.proofs.graph_view.GraphView.list_both.Goals.{In_ok-list_links-2}
@@ -74,11 +74,11 @@ returns-clause-into c =
     (listed (ends_or (leading to)) (ends_or (leading v)) (there c) (own (ends_or (leading v)) c.args.own.ends.now to c.vertex.result c.vertex.ensures c.requires.own))
 
 pub returns-clause-out_apart : goal.returns-clause-out_apart
-returns-clause-out_apart c = subst (λ (w : Vertex). KeepsApart c.args.own.vertex w c.args.row.now.out.items c.list_links.new.links.items) c.vertex.ensures c.in_ok-list_links.ensures.apart
+returns-clause-out_apart c = subst (λ (w : Vertex). KeepsLinksApart c.args.own.vertex w c.args.row.now.out.items c.list_links.new.links.items) c.vertex.ensures c.in_ok-list_links.ensures.apart
 
 pub returns-clause-into_apart : goal.returns-clause-into_apart
-returns-clause-into_apart c = subst (λ (w : Vertex). KeepsApart w c.args.own.vertex c.args.row.now.into.items c.list_links-2.new.links.items) c.vertex.ensures
-    (subst (λ (p : VertexPair). KeepsApart p.from.vertex p.to.vertex c.args.row.now.into.items c.list_links-2.new.links.items) c.turned.ensures c.in_ok-list_links-2.ensures.apart)
+returns-clause-into_apart c = subst (λ (w : Vertex). KeepsLinksApart w c.args.own.vertex c.args.row.now.into.items c.list_links-2.new.links.items) c.vertex.ensures
+    (subst (λ (p : VertexPair). KeepsLinksApart p.from.vertex p.to.vertex c.args.row.now.into.items c.list_links-2.new.links.items) c.turned.ensures c.in_ok-list_links-2.ensures.apart)
 
 pub returns-then-is_empty-clause-cheap : goal.returns-then-is_empty-clause-cheap
 returns-then-is_empty-clause-cheap c = (λ cheap. cheap, λ cheap. cheap)

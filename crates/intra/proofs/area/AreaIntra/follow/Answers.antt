@@ -5,17 +5,17 @@ use Rattle.ospf_types.specs.declared.entry.Vertex.TheVariants.{Router}
 use Rattle.ospf_types.specs.declared.key.Key.{Key}
 use Rattle.ospf_types.specs.declared.key.Scope.{Scope}
 use Rattle.spf.specs.HandedOn.{IsOfSome}
-use Rattle.intra.specs.Indexes.{IsIndexOf}
-use Rattle.intra.specs.Following.{NamesVertex, NamesIn, IsTaken, HasOffered}
+use Rattle.intra.specs.Indexes.{IsAreaIndexOf}
+use Rattle.intra.specs.Following.{NamesVertex, NamesIn, IsIndexUpdated, HasOffered}
 use Rattle.intra.proofs.Following.{index_followed, by_keys, by_vertices, area_gathered, area_updated, none_of_empty, offered_none}
 use Rattle.intra.proofs.area.AreaIntra.follow.Goals as goal
 
 pub returns-in_ok-name_prefixes-clause-index : goal.returns-in_ok-name_prefixes-clause-index
 returns-in_ok-name_prefixes-clause-index c =
     let before = c.requires.before in
-    let taken = subst (λ (keys : List (Scope × Key)). IsTaken c.args.rooted.now.area.now.lsas (IsOfSome keys (NamesVertex c.args.self.now.id)) c.args.self.now c.follow_keys.new.self c.args.named.now.prefixes.items c.follow_keys.new.prefixes.items)
+    let taken = subst (λ (keys : List (Scope × Key)). IsIndexUpdated c.args.rooted.now.area.now.lsas (IsOfSome keys (NamesVertex c.args.self.now.id)) c.args.self.now c.follow_keys.new.self c.args.named.now.prefixes.items c.follow_keys.new.prefixes.items)
     c.deref.ensures.value c.in_ok-follow_keys.ensures in
-    subst (IsIndexOf c.args.rooted.now.area.now.lsas) (sym (c.in_ok-follow_vertices.ensures.updated.index ∙ c.in_ok-update_by_keys.ensures.index))
+    subst (IsAreaIndexOf c.args.rooted.now.area.now.lsas) (sym (c.in_ok-follow_vertices.ensures.updated.index ∙ c.in_ok-update_by_keys.ensures.index))
     (index_followed c.args.dirty.now.keys.items c.args.self.now.id before.0 c.args.rooted.now.area.now.lsas c.args.self.now c.follow_keys.new.self _ _ before.1 before.2 taken)
 
 pub returns-in_ok-name_prefixes-clause-gathered : goal.returns-in_ok-name_prefixes-clause-gathered
@@ -62,9 +62,9 @@ returns-in_ok-name_prefixes-clause-updated c =
 pub returns-else-not-is_empty-clause-index : goal.returns-else-not-is_empty-clause-index
 returns-else-not-is_empty-clause-index c =
     let before = c.requires.before in
-    let taken = subst (λ (keys : List (Scope × Key)). IsTaken c.args.rooted.now.area.now.lsas (IsOfSome keys (NamesVertex c.args.self.now.id)) c.args.self.now c.follow_keys.new.self c.args.named.now.prefixes.items c.follow_keys.new.prefixes.items)
+    let taken = subst (λ (keys : List (Scope × Key)). IsIndexUpdated c.args.rooted.now.area.now.lsas (IsOfSome keys (NamesVertex c.args.self.now.id)) c.args.self.now c.follow_keys.new.self c.args.named.now.prefixes.items c.follow_keys.new.prefixes.items)
     c.deref.ensures.value c.in_ok-follow_keys.ensures in
-    subst (IsIndexOf c.args.rooted.now.area.now.lsas) (sym (c.in_ok-follow_vertices.ensures.updated.index ∙ c.in_ok-update_by_keys.ensures.index))
+    subst (IsAreaIndexOf c.args.rooted.now.area.now.lsas) (sym (c.in_ok-follow_vertices.ensures.updated.index ∙ c.in_ok-update_by_keys.ensures.index))
     (index_followed c.args.dirty.now.keys.items c.args.self.now.id before.0 c.args.rooted.now.area.now.lsas c.args.self.now c.follow_keys.new.self _ _ before.1 before.2 taken)
 
 pub returns-else-not-is_empty-clause-gathered : goal.returns-else-not-is_empty-clause-gathered

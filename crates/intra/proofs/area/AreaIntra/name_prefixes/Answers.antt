@@ -3,7 +3,7 @@ use Rattle.std.proofs.Common.{◌≡◌, List, ap, sym, subst, ◌∙◌}
 use Rattle.std.specs.List.{Contains}
 use Rattle.std.specs.FinMap.{get}
 use Rattle.ospf_types.specs.declared.entry.Vertex.{Vertex}
-use Rattle.intra.specs.declared.offered.Offer.{Offer}
+use Rattle.intra.specs.declared.offered.OfferedPrefix.{OfferedPrefix}
 use Rattle.intra.specs.Intras.{AreaIntraValue}
 use Rattle.intra.specs.Indexes.{offers_of}
 use Rattle.intra.proofs.area.AreaIntra.name_prefixes.Goals as goal
@@ -15,6 +15,6 @@ returns-in_ok-push_prefixes-in-Some-clause-offered c =
     record {
       kept = c.in_ok-push_prefixes-in-Some.ensures.kept;
       offered = λ v e p metric d.
-          c.in_ok-push_prefixes-in-Some.ensures.offered p metric (subst (λ (os : List Offer). Contains os (record { prefix = p; metric = metric }))
+          c.in_ok-push_prefixes-in-Some.ensures.offered p metric (subst (λ (os : List OfferedPrefix). Contains os (record { prefix = p; metric = metric }))
           (ap (λ (w : Vertex). offers_of (get c.args.self.now.index.offered w)) e ∙ sym here) d);
     }

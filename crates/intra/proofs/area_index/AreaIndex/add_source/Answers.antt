@@ -5,7 +5,7 @@ use Rattle.std.specs.Map.{lookup}
 use Rattle.smallvec.specs.SmallVec.{SmallVec}
 use Rattle.ospf_types.proofs.Elements.{no_element}
 use Rattle.ospf_types.specs.declared.entry.Vertex.{Vertex}
-use Rattle.intra.specs.declared.area_index.Source.{Source}
+use Rattle.intra.specs.declared.area_index.PrefixSource.{PrefixSource}
 use Rattle.intra.specs.Indexes.{IndexValue, SourcesByPrefix, AreSourceLists, sources_of}
 use Rattle.intra.proofs.KeptSources.{IsSourceList, kept_with, one_more}
 use Rattle.ospf_types.proofs.KeyOrders.{prefixes_equal}
@@ -48,7 +48,7 @@ invariant_of-self c =
     let stood : Some c.in-Some.sources.now ≡ lookup (prefixes_equal p) es = c.in-Some.ensures.value in
     let written : sources_map fs ≡ insert (sources_map es) p more.items = sources_written es p fs more ((c.get_mut.follows.holds more).3 (rw (sym stood) refl)).0 in
     let had = c.self.invariant p c.in-Some.sources.now.items (sym (sources_at es p (Some c.in-Some.sources.now) stood)) in
-    subst AreSourceLists (sym written) (kept_with (sources_map es) p c.self.invariant more.items (subst IsSourceList (sym (ap (λ (v : SmallVec Source). v.items) c.in_err-push-in-Some.ensures.err)) had))
+    subst AreSourceLists (sym written) (kept_with (sources_map es) p c.self.invariant more.items (subst IsSourceList (sym (ap (λ (v : SmallVec PrefixSource). v.items) c.in_err-push-in-Some.ensures.err)) had))
 
 pub invariant_of-self-in-Some : goal.invariant_of-self-in-Some
 invariant_of-self-in-Some c =
@@ -57,12 +57,12 @@ invariant_of-self-in-Some c =
     let more = c.push.new.self in
     let fs = (c.get_mut.follows.lender more).entries in
     let list = c.in-Some.sources.now.items in
-    let source : Source = record { vertex = c.args.vertex.now; metric = c.args.offer.metric } in
+    let source : PrefixSource = record { vertex = c.args.vertex.now; metric = c.args.offer.metric } in
     let was : sources_map es ≡ c.args.self.now.sources = ap (λ (i : IndexValue). i.sources) c.self.view_is in
     let stood : Some c.in-Some.sources.now ≡ lookup (prefixes_equal p) es = c.in-Some.ensures.value in
     let written : sources_map fs ≡ insert (sources_map es) p more.items = sources_written es p fs more ((c.get_mut.follows.holds more).3 (rw (sym stood) refl)).0 in
     let here : Some list ≡ get (sources_map es) p = sources_at es p (Some c.in-Some.sources.now) stood in
-    let absent : Contains list source → ⊥ = λ there. c.requires (subst (λ (xs : List Source). Contains xs source) (ap sources_of (here ∙ ap (λ (m : SourcesByPrefix). get m p) was)) there) in
+    let absent : Contains list source → ⊥ = λ there. c.requires (subst (λ (xs : List PrefixSource). Contains xs source) (ap sources_of (here ∙ ap (λ (m : SourcesByPrefix). get m p) was)) there) in
     subst AreSourceLists (sym written) (kept_with (sources_map es) p c.self.invariant more.items
     (subst IsSourceList (sym (c.in_ok-push-in-Some.ensures.ok ∙ ap (λ (v : Vertex). list ++ record { vertex = v; metric = c.args.offer.metric } ∷ []) c.copy.ensures)) (one_more list source (c.self.invariant p list (sym here)).1 absent)))
 
@@ -72,7 +72,7 @@ invariant_of-self-in-None c =
     let es = c.self.inside.sources.entries in
     let gs = c.insert.new.self.entries in
     let first = c.from_buf-first.result in
-    let source : Source = record { vertex = c.args.vertex.now; metric = c.args.offer.metric } in
+    let source : PrefixSource = record { vertex = c.args.vertex.now; metric = c.args.offer.metric } in
     let updates = rw c.get_mut.follows.holds-at-none at c.in_ok-insert-in-None.ensures.updates.0 in
     let written : sources_map gs ≡ insert (sources_map es) p first.items = sources_written es p gs first updates in
     subst AreSourceLists (sym written) (kept_with (sources_map es) p c.self.invariant first.items

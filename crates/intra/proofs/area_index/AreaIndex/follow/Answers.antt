@@ -2,7 +2,7 @@ use Rattle.std.proofs.Common.{◌≡◌, List, Option, sym, ap, subst, ◌∙◌
 use Rattle.std.specs.FinMap.{get}
 use Rattle.ospf_types.specs.Lsa.{Body}
 use Rattle.area_trees.specs.Areas.{IsStanding}
-use Rattle.intra.specs.declared.offered.Offer.{Offer}
+use Rattle.intra.specs.declared.offered.OfferedPrefix.{OfferedPrefix}
 use Rattle.intra.specs.Indexes.{OfferedByVertex, OfferedValue, IsOfferedFor, offers_of}
 use Rattle.intra.specs.IndexSteps.{AreAlike}
 use Rattle.intra.specs.Inputs.{AreaValue}
@@ -38,7 +38,7 @@ returns-in-Some-clause-touched c =
     let one : c.listed.result.now ≡ offers_of (get c.args.self.now.offered v) = c.listed.ensures ∙ ap offers_of (c.as_ref-2.ensures.value ∙ c.take_out-gone.ensures.value) in
     let other : c.listed-2.result.now ≡ offers_of (get c.put_in.new.self.offered v) = c.listed-2.ensures ∙ ap offers_of (c.as_ref-3.ensures.value ∙ sym now) in
     touched_by c.args.self.now c.put_in.new.self v c.args.dirty.now.items after c.requires.index c.in_ok-put_in-in-Some.ensures.index (returns-in-Some-clause-others c) c.in_ok-name_differing.ensures.kept
-    (subst (λ (os : List Offer). AreAlike after os (offers_of (get c.put_in.new.self.offered v))) one (subst (λ (os : List Offer). AreAlike after c.listed.result.now os) other c.in_ok-name_differing.ensures.alike))
+    (subst (λ (os : List OfferedPrefix). AreAlike after os (offers_of (get c.put_in.new.self.offered v))) one (subst (λ (os : List OfferedPrefix). AreAlike after c.listed.result.now os) other c.in_ok-name_differing.ensures.alike))
 
 pub returns-clause-taken : goal.returns-clause-taken
 returns-clause-taken c =
@@ -62,4 +62,4 @@ returns-clause-touched c =
     let one : c.listed.result.now ≡ offers_of (get c.args.self.now.offered v) = c.listed.ensures ∙ ap offers_of (c.as_ref-2.ensures.value ∙ c.take_out-gone.ensures.value) in
     let other : c.listed-2.result.now ≡ offers_of (get c.take_out-gone.new.self.offered v) = c.listed-2.ensures ∙ ap offers_of (c.as_ref-3.ensures.value ∙ sym now) in
     touched_by c.args.self.now c.take_out-gone.new.self v c.args.dirty.now.items after c.requires.index c.take_out-gone.ensures.index (returns-clause-others c) c.in_ok-name_differing.ensures.kept
-    (subst (λ (os : List Offer). AreAlike after os (offers_of (get c.take_out-gone.new.self.offered v))) one (subst (λ (os : List Offer). AreAlike after c.listed.result.now os) other c.in_ok-name_differing.ensures.alike))
+    (subst (λ (os : List OfferedPrefix). AreAlike after os (offers_of (get c.take_out-gone.new.self.offered v))) one (subst (λ (os : List OfferedPrefix). AreAlike after c.listed.result.now os) other c.in_ok-name_differing.ensures.alike))

@@ -3,7 +3,7 @@ use Rattle.std.proofs.lemmas.Bool.{false≢true}
 use Rattle.std.specs.FinMap.{get, insert, remove}
 use Rattle.std.specs.Map.{lookup}
 use Rattle.std.proofs.lemmas.Bool.Decides.{Decides-eqb}
-use Rattle.intra.specs.declared.area_index.Source.{Source}
+use Rattle.intra.specs.declared.area_index.PrefixSource.{PrefixSource}
 use Rattle.intra.specs.Indexes.{IndexValue, SourcesByPrefix, AreSourceLists, sources_of}
 use Rattle.intra.proofs.KeptSources.{kept_with, taken_out}
 use Rattle.ospf_types.proofs.KeyOrders.{prefixes_equal}
@@ -59,7 +59,7 @@ invariant_of-self-else-is_empty c =
     let written : sources_map fs ≡ insert (sources_map es) p left.items = sources_written es p fs left ((c.get_mut.follows.holds left).3 (rw (sym stood) refl)).0 in
     let had = c.self.invariant p c.in-Some.sources.now.items (sym (sources_at es p (Some c.in-Some.sources.now) stood)) in
     subst AreSourceLists (sym written) (kept_with (sources_map es) p c.self.invariant left.items (
-      λ none. false≢true (c.if-is_empty.ensures ∙ (Decides-eqb (length left.items) 0).1 (ap (λ (xs : List Source). length xs) none)),
+      λ none. false≢true (c.if-is_empty.ensures ∙ (Decides-eqb (length left.items) 0).1 (ap (λ (xs : List PrefixSource). length xs) none)),
       c.leave_out.ensures.each_once had.1,
     ))
 

@@ -2,8 +2,8 @@ use Rattle.std.proofs.Common.{sym, subst, ◌∙◌}
 use Rattle.std.specs.FinMap.{FinMap}
 use Rattle.prefix_index.proofs.Standing.{none_removed}
 use Rattle.ospf_types.specs.Network.{network_cmp}
-use Rattle.prefix_index.specs.Kept.{AreNoted, AreOrdered, IsWhole}
-use Rattle.prefix_index.specs.Noted.{IsNoted}
+use Rattle.prefix_index.specs.Kept.{AreLengthsNoted, AreOrdered, IsWhole}
+use Rattle.prefix_index.specs.Noted.{IsLengthNoted}
 use Rattle.prefix_index.proofs.Entries.{none_by, of_each_left}
 use Rattle.prefix_index.proofs.Ordering.{order_left}
 use Rattle.std.specs.FinMap as map
@@ -24,7 +24,7 @@ pub invariant_of-self-2 : goal.invariant_of-self-2
 invariant_of-self-2 g c =
     let s = c.self.inside in
     record {
-      noted = subst (λ (m : FinMap network_cmp g.row.V.Denot). AreNoted s.lengths m) (sym c.remove.ensures.removed) (of_each_left (IsNoted s.lengths) s.items c.args.network c.self.invariant.noted);
+      noted = subst (λ (m : FinMap network_cmp g.row.V.Denot). AreLengthsNoted s.lengths m) (sym c.remove.ensures.removed) (of_each_left (IsLengthNoted s.lengths) s.items c.args.network c.self.invariant.noted);
       ordered = c.drop_others.ensures.ordered;
       few = c.drop_others.ensures.few;
     }

@@ -1,7 +1,7 @@
 use Rattle.std.proofs.Common.{◌<◌, List, length, is_some, refl, sym, ap, subst, ◌∙◌, arith}
 use Rattle.std.specs.FinMap.{FinMap, remove}
 use Rattle.ospf_types.specs.Network.{Network, network_cmp}
-use Rattle.prefix_index.specs.Slots.{HasNetwork, IsTaken}
+use Rattle.prefix_index.specs.Slots.{HasNetwork, IsEntryRemoved}
 use Rattle.prefix_index.proofs.Lookups.{has_within}
 use Rattle.prefix_index.proofs.Standing.{none_removed}
 use Rattle.prefix_index.proofs.Taking.{swapped_by}
@@ -34,7 +34,7 @@ invariant_of-self g c =
     let s = c.self.inside in
     let has = subst (λ (es : List (Network × g.row.V.Denot)). HasNetwork es c.in-Some.place c.args.network) c.as_slice.ensures.value c.in-Some.ensures.found in
     let within = has_within s.entries.items c.in-Some.place c.args.network has in
-    let gone = subst (λ (es : List (Network × g.row.V.Denot)). IsTaken s.hashing es c.in-Some.place s.slots c.take.new.self) c.as_slice-2.ensures.value c.take.ensures in
+    let gone = subst (λ (es : List (Network × g.row.V.Denot)). IsEntryRemoved s.hashing es c.in-Some.place s.slots c.take.new.self) c.as_slice-2.ensures.value c.take.ensures in
     let swapped = swapped_by s.entries.items c.swap_remove.new.self.items c.in-Some.place _ _ s.entries.ok.0 c.swap_remove.new.self.ok.0 within c.swap_remove.ensures.len c.swap_remove.ensures.by_index in
     taken s.entries.items c.swap_remove.new.self.items c.in-Some.place swapped s.hashing s.slots c.take.new.self c.self.invariant gone
 

@@ -1,6 +1,6 @@
 use Rattle.std.proofs.Common.{◌≡◌, sym, ◌∙◌, ap, arith, length, length-append, [], ◌∷◌, ◌++◌}
 use Rattle.publication.specs.HistoryRules.{key_in, written}
-use Rattle.publication.specs.Lines.{Line}
+use Rattle.publication.specs.Lines.{HistoryLine}
 use Rattle.publication.proofs.Adding.{adds_moves}
 use Rattle.publication.proofs.Written.{wrote}
 use Rattle.publication.proofs.history.History.add.Goals as goal
@@ -38,6 +38,6 @@ returns c =
     let offer = c.plain-offer.ensures in
     let step = c.compare_exchange.ensures in
     let done = wrote (key_in i.first.log) i.log.log c.compare_exchange.new.seen.log i.pen.nib.key c.new_pen-next.result.nib.key c.args.event.now c.plain-offer.result.ask offer.1 history.next step.7 in (
-      (λ j. record { book = step.0 j; first = key_in i.first.log }) ∙ ap (λ (l : Line). l.book) c.self.view_is,
-      done.0 ∙ ap (λ (l : Line). l.list ++ c.args.event.now ∷ []) c.self.view_is,
+      (λ j. record { book = step.0 j; first = key_in i.first.log }) ∙ ap (λ (l : HistoryLine). l.book) c.self.view_is,
+      done.0 ∙ ap (λ (l : HistoryLine). l.list ++ c.args.event.now ∷ []) c.self.view_is,
     )

@@ -1,7 +1,7 @@
 use Rattle.std.proofs.Common.{◌≡◌, sym, ◌∙◌, ap, subst, length}
 use mathlib.Core.List.{IsPrefix}
 use Rattle.publication.specs.HistoryRules.{key_in, key_after, written, AreOthers}
-use Rattle.publication.specs.Lines.{Line, HistoryBook}
+use Rattle.publication.specs.Lines.{HistoryLine, HistoryBook}
 use Rattle.publication.proofs.Adding.{looks_moves}
 use Rattle.publication.proofs.Written.{looked}
 use Rattle.publication.proofs.history.History.look.Goals as goal
@@ -30,7 +30,7 @@ told c =
     let log = c.compare_exchange.new.seen.log in
     let others : AreOthers (key_after (key_in i.first.log) i.log.log) log = rw history.next step.7.0 in
     let first : key_in c.front.inside.first.log ≡ key_in i.first.log =
-    ap (λ (l : Line). l.book.first) c.front.view_is ∙ ap (λ (h : HistoryBook). h.first) c.requires ∙ sym (ap (λ (l : Line). l.book.first) c.self.view_is) in
+    ap (λ (l : HistoryLine). l.book.first) c.front.view_is ∙ ap (λ (h : HistoryBook). h.first) c.requires ∙ sym (ap (λ (l : HistoryLine). l.book.first) c.self.view_is) in
     looked (key_in i.first.log) (key_in c.front.inside.first.log) i.log.log c.front.inside.log.log c.learn.new.self.log log first c.learn.ensures.2 c.learn.ensures.3 step.6 others
 
 pub invariant_of-self : goal.invariant_of-self
@@ -49,4 +49,4 @@ returns-clause-same c =
     (λ j. record { book = record { book = (c.compare_exchange.ensures.0 ∙ c.learn.ensures.0) j; first = key_in c.self.inside.first.log }; list = (told c).0 j }) ∙ c.self.view_is
 
 pub returns-clause-begun : goal.returns-clause-begun
-returns-clause-begun c = subst (λ (z : Line × Line). IsPrefix z.0.list z.1.list) (λ j. (c.front.view_is j, c.self.view_is j)) (told c).2
+returns-clause-begun c = subst (λ (z : HistoryLine × HistoryLine). IsPrefix z.0.list z.1.list) (λ j. (c.front.view_is j, c.self.view_is j)) (told c).2

@@ -1,7 +1,7 @@
 use Rattle.std.proofs.Common.{ap, subst, sym, arith, List, ◌∙◌}
 use mathlib.Core.List.{IsPrefix}
 use Rattle.publication.specs.declared.history.Page.{Page}
-use Rattle.publication.specs.Lines.{Line}
+use Rattle.publication.specs.Lines.{HistoryLine}
 use Rattle.publication.specs.HistoryRules.{key_in}
 use Rattle.publication.proofs.Written.{shorter_begins}
 use Rattle.publication.proofs.history.HistoryPrefix.longer.Goals as goal
@@ -14,7 +14,7 @@ returns-then-self-other-clause-this c =
     let this : IsPrefix mine.log.log both = subst (λ (l : List Page). IsPrefix l both) (ap (λ s. s.log) c.again-both.ensures) c.learn.ensures.2 in
     rw (c.again.ensures, ← c.self.view_is, ← c.other.view_is)
     (shorter_begins (key_in mine.first.log) (key_in theirs.first.log) mine.log.log theirs.log.log both
-    (ap (λ (l : Line). l.book.first) c.self.view_is ∙ ap (λ h. h.first) (sym c.requires) ∙ sym (ap (λ (l : Line). l.book.first) c.other.view_is))
+    (ap (λ (l : HistoryLine). l.book.first) c.self.view_is ∙ ap (λ h. h.first) (sym c.requires) ∙ sym (ap (λ (l : HistoryLine). l.book.first) c.other.view_is))
     this c.learn.ensures.3 (omega (arith, c.self.invariant, c.other.invariant)))
 
 pub returns-clause-that : goal.returns-clause-that
@@ -25,5 +25,5 @@ returns-clause-that c =
     let this : IsPrefix mine.log.log both = subst (λ (l : List Page). IsPrefix l both) (ap (λ s. s.log) c.again-both.ensures) c.learn.ensures.2 in
     rw (c.again-else-self-other.ensures, ← c.self.view_is, ← c.other.view_is)
     (shorter_begins (key_in theirs.first.log) (key_in mine.first.log) theirs.log.log mine.log.log both
-    (ap (λ (l : Line). l.book.first) c.other.view_is ∙ ap (λ h. h.first) c.requires ∙ sym (ap (λ (l : Line). l.book.first) c.self.view_is))
+    (ap (λ (l : HistoryLine). l.book.first) c.other.view_is ∙ ap (λ h. h.first) c.requires ∙ sym (ap (λ (l : HistoryLine). l.book.first) c.self.view_is))
     c.learn.ensures.3 this (omega (arith, c.self.invariant, c.other.invariant)))

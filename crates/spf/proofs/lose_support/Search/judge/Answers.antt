@@ -3,7 +3,7 @@ use Rattle.std.specs.FinMap.{get}
 use Rattle.std.specs.List.{Contains}
 use Rattle.std.specs.Prelude.{Result, Ok, Err, OnOk}
 use Rattle.ospf_types.specs.declared.entry.Vertex.{Vertex}
-use Rattle.spf.specs.Suspects.{MaySupport, IsHead, AreToldOf, IsJudged}
+use Rattle.spf.specs.Suspects.{MaySupport, IsHead, AreToldOf, IsSuspectJudged}
 use Rattle.spf.proofs.Suspecting.{judged_lost, within_lost}
 use Rattle.spf.proofs.lose_support.Search.judge.Goals as goal
 
@@ -21,7 +21,7 @@ returns c =
     let not_yet : Contains lost c.args.suspect.now → ⊥ = λ there. let yes = c.has.ensures.1 there in let no = c.if-has.false in absurd cc in
     on_both c.suspect_beyond.result c.suspect_beyond.ensures.told c.suspect_beyond.ensures.lost
     (λ told same.
-    subst (λ (vs : List Vertex). IsJudged c.args.graph.now old lost vs s.suspects new.suspects s.pending.stale new.pending.stale c.args.suspect.now) (sym same)
+    subst (λ (vs : List Vertex). IsSuspectJudged c.args.graph.now old lost vs s.suspects new.suspects s.pending.stale new.pending.stale c.args.suspect.now) (sym same)
     (judged_lost c.args.graph.now old lost s.suspects s.pending.stale c.args.suspect.now c.push.new.self new.suspects new.pending.stale true c.in-Some.distance c.links_from_at.result.now
     not_yet
     (sym c.in-Some.ensures.value)

@@ -2,7 +2,7 @@ use Rattle.std.proofs.Common.{◌≡◌, ◌+◌, List, take, sym, subst, ◌∙
 use Rattle.std.specs.FinMap.{get}
 use Rattle.ospf_types.specs.declared.entry.Vertex.{Vertex}
 use Rattle.spf.specs.declared.lose_support.Search.{Search}
-use Rattle.spf.specs.Suspects.{WasLeast, IsHead, AreToldOf, AreWithin}
+use Rattle.spf.specs.Suspects.{WasLeast, IsHead, AreToldOf, AreSuspectsWithin}
 use Rattle.spf.proofs.Suspecting.{within_told, told_next, told_skipped}
 use Rattle.spf.proofs.lose_support.Search.suspect_heads.Goals as goal
 use Rattle.spf.proofs.lose_support.Search.suspect_heads.Goals.{then-was_least+in_ok-suspect, else-was_least}
@@ -12,7 +12,7 @@ suspect-requires c =
     let s = c.args.self.now in
     let now = c.loop-link.self in
     record {
-      within = subst (λ (lost : List Vertex). AreWithin lost now.suspects now.pending.stale) (sym c.loop-link.invariant.lost)
+      within = subst (λ (lost : List Vertex). AreSuspectsWithin lost now.suspects now.pending.stale) (sym c.loop-link.invariant.lost)
           (within_told s.lost s.pending.stale now.pending.stale s.suspects now.suspects c.requires.within c.loop-link.invariant.told);
     }
 

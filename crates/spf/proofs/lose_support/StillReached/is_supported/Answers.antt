@@ -4,7 +4,7 @@ use Rattle.std.specs.List.{All, Contains}
 use Rattle.std.specs.Prelude.{◌↔◌, IsTrue, is_some, IfSome, IfNone}
 use Rattle.std.proofs.lemmas.List.{take-append-drop}
 use Rattle.std.proofs.lemmas.List.Elements.{Contains-append_left, Contains-append_right}
-use Rattle.vertex_graph.specs.Link.{Link}
+use Rattle.vertex_graph.specs.GraphLink.{GraphLink}
 use Rattle.vertex_graph.specs.Graphs.{LinksOf}
 use Rattle.spf.specs.Repairs.{IsSupported}
 use Rattle.spf.specs.Suspects.{Supports}
@@ -24,7 +24,7 @@ returns-in-Some c =
     let parts : links ≡ c.split_at.result.0.now ++ others = sym (take-append-drop c.min-start.result links) ∙ (λ i. sym c.split_at.ensures.front i ++ sym c.split_at.ensures.back i) in
     let found = c.in-Some.ensures.found in (
       λ t. supported_by c.args.graph.now old c.args.self.lost.now c.args.vertex.now c.args.distance links c.links_to_at-links.ensures.exact found.0
-          (subst (λ (ls : List Link). Contains ls found.0) (sym parts) (Contains-append_right c.split_at.result.0.now others found.0 found.1)) found.2,
+          (subst (λ (ls : List GraphLink). Contains ls found.0) (sym parts) (Contains-append_right c.split_at.result.0.now others found.0 found.1)) found.2,
       λ s. refl,
     )
 
@@ -37,8 +37,8 @@ returns c =
     let parts : links ≡ passed ++ others = sym (take-append-drop c.min-start.result links) ∙ (λ i. sym c.split_at.ensures.front i ++ sym c.split_at.ensures.back i) in
     let Q = IsSupported (LinksOf c.args.graph.now) old c.args.self.lost.now c.args.vertex.now c.args.distance in
     subst (λ b. IsTrue b ↔ Q) (sym c.is_some.ensures)
-    (decided_by c.find_support-2.result ((l : Link) × Contains passed l × Supports old c.args.self.lost.now c.args.distance l) (All (λ l. Supports old c.args.self.lost.now c.args.distance l → ⊥) passed) Q
+    (decided_by c.find_support-2.result ((l : GraphLink) × Contains passed l × Supports old c.args.self.lost.now c.args.distance l) (All (λ l. Supports old c.args.self.lost.now c.args.distance l → ⊥) passed) Q
     c.find_support-2.ensures.found c.find_support-2.ensures.none
     (λ found. supported_by c.args.graph.now old c.args.self.lost.now c.args.vertex.now c.args.distance links c.links_to_at-links.ensures.exact found.0
-    (subst (λ (ls : List Link). Contains ls found.0) (sym parts) (Contains-append_left passed others found.0 found.1)) found.2)
+    (subst (λ (ls : List GraphLink). Contains ls found.0) (sym parts) (Contains-append_left passed others found.0 found.1)) found.2)
     (λ none. unsupported c.args.graph.now old c.args.self.lost.now c.args.vertex.now c.args.distance links c.links_to_at-links.ensures.exact passed others parts none c.in_default.ensures.none))

@@ -2,14 +2,14 @@ use Rattle.std.proofs.Common.{◌≡◌, ◌+◌, [], ◌∷◌, ◌++◌, lengt
 use Rattle.std.specs.FinMap.{len}
 use Rattle.std.proofs.lemmas.List.{length_push}
 use Rattle.std.proofs.lemmas.List.Elements.{Contains-get_or}
-use Rattle.vertex_graph.specs.Link.{Link}
+use Rattle.vertex_graph.specs.GraphLink.{GraphLink}
 use Rattle.spf.proofs.GraphVertices.{fits}
 use Rattle.spf.proofs.Nearest.{AreSought, sought_at_start, sought_more, unmoved, relax_leaves, moved_most, taken_right, fewer_left}
 use Rattle.spf.proofs.relax.Pending.relax.Goals as goal
 
 pub offer_reached-requires : goal.offer_reached-requires
 offer_reached-requires c = λ k d within.
-    let l : Link = get_or c.args.after.came.now k d in
+    let l : GraphLink = get_or c.args.after.came.now k d in
     c.root.ensures.cheap l.from l.to l.cost l.label (c.requires.links l (Contains-get_or c.args.after.came.now k d within))
 
 pub loop-vertex-init : goal.loop-vertex-init

@@ -1,6 +1,6 @@
 use Rattle.std.proofs.Common.{List, ◌∷◌, map, refl, sym, ap, subst, ◌∙◌}
 use Rattle.ospf_types.specs.declared.entry.Vertex.{Vertex}
-use Rattle.vertex_graph.specs.Link.{Link}
+use Rattle.vertex_graph.specs.GraphLink.{GraphLink}
 use Rattle.vertex_queue.specs.Maps.{AreHopsInOrder}
 use Rattle.spf.specs.contracts.tree.Tree.{the_view}
 use Rattle.spf.specs.TreeValues.{TreeValue, IsTreeBefore, IsBegun}
@@ -56,7 +56,7 @@ returns-clause-idle c = λ none_gone none_came.
     let lost = c.lose_support.new.search.lost in
     let stale = c.lose_support.new.search.pending.stale in
     let begins : IsBegun c.args.graph.now c.args.changes.now.gone.items came c.args.self.now lost stale = begun _ _ c.self.view_is refl c.requires c.in_ok-lose_support.ensures in
-    let none = is.idle (subst (λ (gone : List Link). IsBegun c.args.graph.now gone came c.args.self.now lost stale) none_gone begins) none_came in
+    let none = is.idle (subst (λ (gone : List GraphLink). IsBegun c.args.graph.now gone came c.args.self.now lost stale) none_gone begins) none_came in
     λ j. record { taken = none.0 j; hop_sets = none.1 j }
 
 pub returns-clause-work : goal.returns-clause-work

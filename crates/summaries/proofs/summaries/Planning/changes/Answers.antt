@@ -7,7 +7,7 @@ use Rattle.summary_lists.specs.declared.due.DueSummary.{DueSummary}
 use Rattle.summary_lists.specs.Lists.{Metrics, IsMetricIn, due_for}
 use Rattle.summary_lists.proofs.Parts.{IsLeft, all_left, left_after}
 use Rattle.summary_lists.proofs.Changing.{left_at}
-use Rattle.summaries.specs.declared.giving.Candidate.{Candidate}
+use Rattle.summaries.specs.declared.giving.SummaryCandidate.{SummaryCandidate}
 use Rattle.summaries.specs.Candidates.{dests_in}
 use Rattle.summaries.specs.Giving.{IsServed}
 use Rattle.summaries.specs.Inputs.{SummaryInputsValue}
@@ -34,10 +34,10 @@ loop-candidate-preserved c =
     let cands = c.args.self.candidates.now in
     let dests = dests_in cands in
     let i = c.loop-candidate.candidate-index in
-    let x : Candidate = c.candidate-item.result in
+    let x : SummaryCandidate = c.candidate-item.result in
     let d = x.dest in
-    let lt : i < length dests = subst (λ (n : ℕ). i < n) (sym (length-map cands (λ (y : Candidate). y.dest))) c.loop-candidate-test.true in
-    let at : d ≡ get_or dests i d = ap (λ (y : Candidate). y.dest) c.candidate-item.is ∙ sym (get_or-map (λ (y : Candidate). y.dest) cands i x d c.loop-candidate-test.true) in
+    let lt : i < length dests = subst (λ (n : ℕ). i < n) (sym (length-map cands (λ (y : SummaryCandidate). y.dest))) c.loop-candidate-test.true in
+    let at : d ≡ get_or dests i d = ap (λ (y : SummaryCandidate). y.dest) c.candidate-item.is ∙ sym (get_or-map (λ (y : SummaryCandidate). y.dest) cands i x d c.loop-candidate-test.true) in
     let was = c.loop-candidate.invariant in
     let rest = c.loop-candidate.rest.now in
     let left : IsLeft list rest (d ∷ drop (i + 1) dests) = subst (IsLeft list rest) (left_at dests i d lt at) was.1 in
@@ -57,5 +57,5 @@ returns c =
     let cands = c.args.self.candidates.now in
     let dests = dests_in cands in
     let i = c.loop-candidate.candidate-index in
-    let past : length dests ≤ i = subst (λ (n : ℕ). n ≤ i) (sym (length-map cands (λ (y : Candidate). y.dest))) c.loop-candidate-test.false in
+    let past : length dests ≤ i = subst (λ (n : ℕ). n ≤ i) (sym (length-map cands (λ (y : SummaryCandidate). y.dest))) c.loop-candidate-test.false in
     compared_all c.args.self.inputs.now c.args.area.now c.args.list.now dests c.loop-candidate.metrics.items i past c.loop-candidate.invariant.0

@@ -1,6 +1,6 @@
 use Rattle.std.proofs.Common.{List, [], sym, ap, subst, ◌∙◌}
 use Rattle.std.specs.Prelude.{option_map}
-use Rattle.graph_links.specs.declared.link.Link.{Link}
+use Rattle.graph_links.specs.declared.link.GraphLink.{GraphLink}
 use Rattle.graph_links.specs.declared.row.Row.{Row}
 use Rattle.vertex_graph.specs.Graphs.{GraphValue, AreLinksTo}
 use Rattle.graph_links.specs.Pairs.{AreApart, AreCheap}
@@ -13,7 +13,7 @@ returns-in-Some-clause-exact c =
     let i = c.self.inside in
     let is = c.self.invariant.right c.args.vertex.now c.in-Some.row.now (sym c.in-Some.ensures) in
     subst (λ (g : GraphValue). AreLinksTo g c.args.vertex.now c.deref.result.now) c.self.view_is
-    (subst (λ (links : List Link). AreLinksTo (graph_of i.root i.rows.entries i.interfaces.items) c.args.vertex.now links) (sym c.deref.ensures.value) is.into)
+    (subst (λ (links : List GraphLink). AreLinksTo (graph_of i.root i.rows.entries i.interfaces.items) c.args.vertex.now links) (sym c.deref.ensures.value) is.into)
 
 pub returns-in-Some-clause-cheap : goal.returns-in-Some-clause-cheap
 returns-in-Some-clause-cheap c =

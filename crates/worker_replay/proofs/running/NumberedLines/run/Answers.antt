@@ -1,6 +1,6 @@
 use Rattle.std.proofs.Common.{arith, string_bytes}
 use Rattle.std.proofs.lemmas.Result.{IfOk-weaker}
-use Rattle.worker_replay.specs.Parts.{Looks, HasPrinted}
+use Rattle.worker_replay.specs.Parts.{LooksOnce, HasPrinted}
 use Rattle.worker_replay.proofs.Ran.{own, enough, as_many_lines, has_printed, roll_answered}
 use Rattle.worker_replay.proofs.running.NumberedLines.run.Goals as goal
 
@@ -17,7 +17,7 @@ look-requires-clause-few g c = omega (arith, as_many_lines c.args.self.lines.ite
 
 pub returns-clause-printed : goal.returns-clause-printed
 returns-clause-printed g c =
-    IfOk-weaker c.look.result (λ text. Looks c.args.format c.in_ok-forwarder.forwarder c.args.self.first c.in_ok-events.field-0.asks.items c.in_ok-forwarder.replies.items c.roll-rolled.result (string_bytes text))
+    IfOk-weaker c.look.result (λ text. LooksOnce c.args.format c.in_ok-forwarder.forwarder c.args.self.first c.in_ok-events.field-0.asks.items c.in_ok-forwarder.replies.items c.roll-rolled.result (string_bytes text))
     (λ text. HasPrinted c.args.format c.args.engine.now c.args.self.lines.items c.args.self.first (string_bytes text))
     (λ text looks. has_printed c.args.format c.args.engine.now c.args.self.lines.items c.in_ok-events.field-0.events.items c.in_ok-events.field-0.asks.items c.in_ok-answers.answers.items c.args.forwarder c.in_ok-forwarder.forwarder c.in_ok-forwarder.replies.items
     c.roll-rolled.result c.args.self.first (string_bytes text) c.in_ok-events.ensures.events c.in_ok-events.ensures.asks c.in_ok-answers.ensures.answered c.requires.named c.in_ok-forwarder.ensures.name c.in_ok-forwarder.ensures.learned
