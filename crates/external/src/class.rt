@@ -4,7 +4,7 @@ ghost use Rattle.std.specs.Prelude.{◌≡◌};
 ghost use Rattle.external.specs.Classes.{class_number, kind_number};
 
 /// The type of an AS external path, from the most to the least preferred (RFC 2328, 16.4).
-#[derive(Clone, Copy, Debug, PartialEq, Eq)]
+#[derive(Clone, Copy, Debug, PartialEq, Eq, PartialOrd, Ord)]
 pub enum ExternalType {
     /// Type 1: its cost includes the internal path.
     Type1,
@@ -13,7 +13,7 @@ pub enum ExternalType {
 }
 
 /// The class of an internal path, from the most to the least preferred (RFC 2328, 16.4.1).
-#[derive(Clone, Copy, Debug, PartialEq, Eq)]
+#[derive(Clone, Copy, Debug, PartialEq, Eq, PartialOrd, Ord)]
 pub enum PathClass {
     /// An intra-area path through another area than the backbone. With RFC1583Compatibility all
     /// paths are of this class.
