@@ -50,8 +50,8 @@ MOST_IN_ALL = 2050
 UNBOUNDED = {"CHANGELOG.md", "bench/README.md", "docs/internal/PROOF_NOTES.md"}
 LINK = re.compile(r"\[[^\]]*\]\(([^()\s]+)\)")
 PICTURE = re.compile(r"!\[[^\]]*\]\(([^()\s]+[.]svg)\)")
-# The table of crates, and a row of it: its crates, and the files of their sources at which to begin.
-CRATES, CRATE = "docs/ARCHITECTURE.md", re.compile(r"\| [\w ]*\| (`\w+`(?:, `\w+`)*) \|.*\| ([\w, -]+) \|")
+# The table of crates, and a row of it: its crates, and the files of each, crate by crate.
+CRATES, CRATE = "docs/ARCHITECTURE.md", re.compile(r"\| [\w ]*\| (`\w+`(?:, `\w+`)*) \|.*\| ([\w,; -]+) \|")
 # A file that a row of the table of questions names: its crate, and its path in src/ or specs/ of that.
 QUESTION, ANSWER = re.compile(r"\| [^|]*\? \| (.*) \|"), re.compile(r"`(\w+)`: `(specs/)?(\w+)`")
 # The table of wrong bodies, the heading above it, and the edits in a row: their crate, and their names.
@@ -116,19 +116,22 @@ def faults_of_versions():
 
 
 def faults_of_crates():
-    """Yields what is wrong with the table of crates: it has each crate of crates.txt once, in that order, and names only files that
-    one of the crates of their row has."""
+    """Yields what is wrong with the table of crates: it has each crate of crates.txt once, in that order, with its files."""
     table = lines_of(CRATES)[lines_of(CRATES).index("## The crates") :]
-    shown = [(re.findall(r"\w+", it[1]), it[2]) for it in map(CRATE.fullmatch, table) if it]
+    shown = [(re.findall(r"\w+", it[1]), it[2].split("; ")) for it in map(CRATE.fullmatch, table) if it]
     crates = [it.partition(":")[0].split()[0] for it in lines_of("crates.txt") if not it.startswith("#")]
     named = [it for row, _ in shown for it in row]
     if named != crates:
         wrong = next((a for a, b in zip([*named, "its end"], [*crates, "its end"]) if a != b), "its end")
         yield f"{CRATES}: the table does not have the crates of crates.txt in their order, at {wrong}"
-    for row, files in shown:
-        for file in files.split(", ") if files != "-" else []:
-            if not any(os.path.isfile(f"{TOP}/crates/{crate}/src/{file}.rt") for crate in row):
-                yield f"{CRATES}: {', '.join(row)}: no file {file}.rt"
+    for row, cells in shown:
+        if len(row) != len(cells):
+            yield f"{CRATES}: {', '.join(row)}: files of {len(cells)} crates"
+        for crate, files in zip(row, cells):
+            wanted = [it[:-3] for it in sorted(os.listdir(f"{TOP}/crates/{crate}/src")) if it.endswith(".rt")]
+            wanted = [it for it in wanted if it not in ("lib", "main")] or ["-"]
+            if sorted(files.split(", ")) != sorted(wanted):
+                yield f"{CRATES}: the files of {crate} are {', '.join(wanted)}"
 
 
 def faults_of_questions():
