@@ -169,17 +169,6 @@ job_is_fit s (Page file output progress) h = tt
 job_is_fit s (Capture words) h = tt
 job_is_fit s (Fault number) h = tt
 
--- ---- a known line
-
-pub gives : (met : Option (Text × List Row)) (words line : List Text) (job : Job) (texts : JobTexts) → met ≡ subcommand_of program words → IsJob met job → words ≡ line
-    → HasTexts (subcommand_of program line) texts → job_texts job ≡ texts
-gives met words line job texts given is same has =
-    unique met (job_texts job) texts is (subst (λ (s : Option (Text × List Row)). HasTexts s texts) (sym (given ∙ ap (subcommand_of program) same)) has)
-
-pub has_job : (met : Option (Text × List Row)) (words line : List Text) (texts : JobTexts) → met ≡ subcommand_of program words → words ≡ line
-    → HasTexts (subcommand_of program line) texts → HasJob met
-has_job met words line texts given same has = (texts, subst (λ (s : Option (Text × List Row)). HasTexts s texts) (sym (given ∙ ap (subcommand_of program) same)) has)
-
 -- ---- where there is none
 
 abbrev UsageOf : Error → Usage → Type 0
@@ -190,7 +179,8 @@ mistake_is words e u h (inl m) = subst (λ (x : Usage). IsMistake words x) (sym 
 mistake_is words e u (inl memory) (inr m) = absurd (m.1 memory)
 mistake_is words e u (inr among) (inr m) = subst (λ (x : Usage). IsMistake words x) (sym m.0) (inl among)
 
-pub only_memory : (words line : List Text) (e : Error) (u : Usage) → HasKind (fault_of program words) e → UsageOf e u → words ≡ line → fault_of program line ≡ [] → u ≡ Memory
-only_memory words line e u h (inl m) is none = m.0
-only_memory words line e u (inl memory) (inr m) is none = absurd (m.1 memory)
-only_memory words line e u (inr among) (inr m) is none = absurd (subst (λ (kinds : Kinds). IsAmong (kind_of e) kinds) (ap (fault_of program) is ∙ none) among)
+-- where the words have no fault
+pub only_memory : (words : List Text) (e : Error) (u : Usage) → HasKind (fault_of program words) e → UsageOf e u → fault_of program words ≡ [] → u ≡ Memory
+only_memory words e u h (inl m) none = m.0
+only_memory words e u (inl memory) (inr m) none = absurd (m.1 memory)
+only_memory words e u (inr among) (inr m) none = absurd (subst (λ (kinds : Kinds). IsAmong (kind_of e) kinds) none among)

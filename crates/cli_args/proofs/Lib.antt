@@ -3,11 +3,6 @@ pub mod Matches
 pub mod Parsers
 pub mod Names
 pub mod Walks
-pub mod Line
-pub mod ReplayLines
-pub mod ChangesLines
-pub mod ExplainLines
-pub mod FollowLines
-pub mod PageLines
-pub mod CaptureLines
+pub mod Lines
 pub mod Jobs
+pub mod JobInstances

@@ -460,10 +460,6 @@ IsMistake words (Told e) = IsAmong (kind_of e) (fault_of program words)
     ⊎ ((kind_of e ≡ MissingRequiredArgument) × (¬ HasJob (subcommand_of program words)))
 IsMistake words Memory = Unit {0}
 
--- the command line `abr one` with these words, whatever the program is called
-abbrev pub one_line : Text → OneTexts → List Text
-one_line name t = name ∷ codes "one" ∷ t.router ∷ t.area ∷ t.address ∷ t.lsa ∷ t.lookup ∷ []
-
 -- the word does not begin with a hyphen
 abbrev pub IsPlainWord : Text → Type 0
 IsPlainWord word = strip_byte 45 word ≡ None
@@ -475,101 +471,13 @@ pub record ArePlain (t : OneTexts) : Type 0 where
   pub lsa : IsPlainWord t.lsa
   pub lookup : IsPlainWord t.lookup
 
--- the command line `abr decode` with this word, whatever the program is called
-abbrev pub decode_line : Text → Text → List Text
-decode_line name hex = name ∷ codes "decode" ∷ hex ∷ []
-
--- the command line `abr decode` with this word and `--long`
-abbrev pub long_line : Text → Text → List Text
-long_line name hex = name ∷ codes "decode" ∷ hex ∷ codes "--long" ∷ []
-
 -- the word does not begin with a hyphen, or is one
 abbrev pub IsFileWord : Text → Type 0
 IsFileWord word = IsPlainWord word ⊎ (word ≡ codes "-")
 
--- the command line `abr replay` with this file, whatever the program is called
-abbrev pub replay_line : Text → Text → List Text
-replay_line name file = name ∷ codes "replay" ∷ file ∷ []
-
--- the command line `abr replay` with this file, `--show` and a name
-abbrev pub show_line : Text → Text → Show → List Text
-show_line name file show = name ∷ codes "replay" ∷ file ∷ codes "--show" ∷ show_name show ∷ []
-
--- the command line `abr replay` with this file, `--workers` and a number
-abbrev pub workers_line : Text → Text → Text → List Text
-workers_line name file number = name ∷ codes "replay" ∷ file ∷ codes "--workers" ∷ number ∷ []
-
--- the command line `abr replay` with this file, `--format` and a name
-abbrev pub replay_format_line : Text → Text → Format → List Text
-replay_format_line name file format = name ∷ codes "replay" ∷ file ∷ codes "--format" ∷ format_name format ∷ []
-
--- the command line `abr replay` with this file and `--progress`
-abbrev pub replay_progress_line : Text → Text → List Text
-replay_progress_line name file = name ∷ codes "replay" ∷ file ∷ codes "--progress" ∷ []
-
--- the command line `abr changes` with this file, whatever the program is called
-abbrev pub changes_line : Text → Text → List Text
-changes_line name file = name ∷ codes "changes" ∷ file ∷ []
-
--- the command line `abr changes` with this file, `--only` and a network
-abbrev pub only_line : Text → Text → Text → List Text
-only_line name file prefix = name ∷ codes "changes" ∷ file ∷ codes "--only" ∷ prefix ∷ []
-
--- the command line `abr changes` with this file, `--format` and a name
-abbrev pub changes_format_line : Text → Text → Format → List Text
-changes_format_line name file format = name ∷ codes "changes" ∷ file ∷ codes "--format" ∷ format_name format ∷ []
-
--- the command line `abr changes` with this file and `--progress`
-abbrev pub changes_progress_line : Text → Text → List Text
-changes_progress_line name file = name ∷ codes "changes" ∷ file ∷ codes "--progress" ∷ []
-
--- the command line `abr follow`, whatever the program is called
-abbrev pub follow_line : Text → List Text
-follow_line name = name ∷ codes "follow" ∷ []
-
--- the command line `abr follow` with `--strict`
-abbrev pub strict_line : Text → List Text
-strict_line name = name ∷ codes "follow" ∷ codes "--strict" ∷ []
-
--- the command line `abr follow` with `--only` and a network
-abbrev pub follow_only_line : Text → Text → List Text
-follow_only_line name prefix = name ∷ codes "follow" ∷ codes "--only" ∷ prefix ∷ []
-
--- the command line `abr follow` with `--format` and a name
-abbrev pub follow_format_line : Text → Format → List Text
-follow_format_line name format = name ∷ codes "follow" ∷ codes "--format" ∷ format_name format ∷ []
-
--- the command line `abr explain` with this file and this address, whatever the program is called
-abbrev pub explain_line : Text → Text → Text → List Text
-explain_line name file address = name ∷ codes "explain" ∷ file ∷ address ∷ []
-
--- the command line `abr explain` with these, `--due` and an area
-abbrev pub due_line : Text → Text → Text → Text → List Text
-due_line name file address area = name ∷ codes "explain" ∷ file ∷ address ∷ codes "--due" ∷ area ∷ []
-
--- the command line `abr explain` with these, `--format` and a name
-abbrev pub explain_format_line : Text → Text → Text → Format → List Text
-explain_format_line name file address format = name ∷ codes "explain" ∷ file ∷ address ∷ codes "--format" ∷ format_name format ∷ []
-
--- the command line `abr explain` with these and `--progress`
-abbrev pub explain_progress_line : Text → Text → Text → List Text
-explain_progress_line name file address = name ∷ codes "explain" ∷ file ∷ address ∷ codes "--progress" ∷ []
-
--- the command line `abr page` with this file, whatever the program is called
-abbrev pub page_line : Text → Text → List Text
-page_line name file = name ∷ codes "page" ∷ file ∷ []
-
 -- a word that names the file for the page
 abbrev pub IsOutputFlag : Text → Type 0
 IsOutputFlag flag = (flag ≡ codes "-o") ⊎ (flag ≡ codes "--output")
-
--- the command line `abr page` with this file, `-o` or `--output`, and the file for the page
-abbrev pub output_line : Text → Text → Text → Text → List Text
-output_line name file flag output = name ∷ codes "page" ∷ file ∷ flag ∷ output ∷ []
-
--- the command line `abr page` with this file and `--progress`
-abbrev pub page_progress_line : Text → Text → List Text
-page_progress_line name file = name ∷ codes "page" ∷ file ∷ codes "--progress" ∷ []
 
 -- the words of an option, if it has a value
 abbrev pub option_words : Text → Option Text → List Text
@@ -587,11 +495,6 @@ capture_words t =
     option_words (codes "--router") t.router
     ++ (option_words (codes "--begin") t.begin ++ (flag_words (codes "--all") t.keeps_all ++ flag_words (codes "--no-seconds") t.without_seconds))
 
--- the command line `abr capture` that says this, with its words in the order of the help, whatever
--- the program is called
-abbrev pub capture_line : Text → CaptureTexts → List Text
-capture_line name t = name ∷ codes "capture" ∷ t.file ∷ capture_words t
-
 -- the word does not begin with a hyphen, if there is one
 abbrev pub IsPlainIfGiven : Option Text → Type 0
 IsPlainIfGiven None = Unit {0}
@@ -607,10 +510,6 @@ pub record AreReadable (t : CaptureTexts) : Type 0 where
   pub file : IsFileWord t.file
   pub router : IsPlainIfGiven t.router
   pub begin : IsFileIfGiven t.begin
-
--- the command line `abr fault` with this word, whatever the program is called
-abbrev pub fault_line : Text → Text → List Text
-fault_line name number = name ∷ codes "fault" ∷ number ∷ []
 
 -- ---- what each command line gives
 
@@ -635,6 +534,51 @@ plain_explain file address = record { file = file; address = address; due = None
 abbrev pub plain_page : Text → PageTexts
 plain_page file = record { file = file; output = None; progress = false }
 
+-- The command line spells the job, whatever the program is called: its command, with the words that
+-- are required and at most one option. For `capture` any options may be given, in the order of the
+-- help.
+pub data Spells : List Text → JobTexts → Type 0 where
+  SpellsOne : (name : Text) (t : OneTexts) → ArePlain t → Spells (name ∷ codes "one" ∷ t.router ∷ t.area ∷ t.address ∷ t.lsa ∷ t.lookup ∷ []) (OfOne t)
+  SpellsDecode : (name hex : Text) → IsPlainWord hex → Spells (name ∷ codes "decode" ∷ hex ∷ []) (OfDecode hex false)
+  SpellsLong : (name hex : Text) → IsPlainWord hex → Spells (name ∷ codes "decode" ∷ hex ∷ codes "--long" ∷ []) (OfDecode hex true)
+  SpellsReplay : (name file : Text) → IsFileWord file → Spells (name ∷ codes "replay" ∷ file ∷ []) (OfReplay (plain_replay file))
+  SpellsWorkers : (name file number : Text) (count : ℕ) → IsFileWord file → WritesWorkers number count
+      → Spells (name ∷ codes "replay" ∷ file ∷ codes "--workers" ∷ number ∷ []) (OfReplay (record (plain_replay file) { workers = count }))
+  SpellsShow : (name file : Text) (show : Show) → IsFileWord file
+      → Spells (name ∷ codes "replay" ∷ file ∷ codes "--show" ∷ show_name show ∷ []) (OfReplay (record (plain_replay file) { show = show }))
+  SpellsReplayFormat : (name file : Text) (format : Format) → IsFileWord file
+      → Spells (name ∷ codes "replay" ∷ file ∷ codes "--format" ∷ format_name format ∷ []) (OfReplay (record (plain_replay file) { format = format }))
+  SpellsReplayProgress : (name file : Text) → IsFileWord file
+      → Spells (name ∷ codes "replay" ∷ file ∷ codes "--progress" ∷ []) (OfReplay (record (plain_replay file) { progress = true }))
+  SpellsChanges : (name file : Text) → IsFileWord file → Spells (name ∷ codes "changes" ∷ file ∷ []) (OfChanges (plain_changes file))
+  SpellsOnly : (name file prefix : Text) → IsFileWord file → IsPlainWord prefix
+      → Spells (name ∷ codes "changes" ∷ file ∷ codes "--only" ∷ prefix ∷ []) (OfChanges (record (plain_changes file) { only = Some prefix }))
+  SpellsChangesFormat : (name file : Text) (format : Format) → IsFileWord file
+      → Spells (name ∷ codes "changes" ∷ file ∷ codes "--format" ∷ format_name format ∷ []) (OfChanges (record (plain_changes file) { format = format }))
+  SpellsChangesProgress : (name file : Text) → IsFileWord file
+      → Spells (name ∷ codes "changes" ∷ file ∷ codes "--progress" ∷ []) (OfChanges (record (plain_changes file) { progress = true }))
+  SpellsFollow : (name : Text) → Spells (name ∷ codes "follow" ∷ []) (OfFollow plain_follow)
+  SpellsStrict : (name : Text) → Spells (name ∷ codes "follow" ∷ codes "--strict" ∷ []) (OfFollow (record plain_follow { strict = true }))
+  SpellsFollowOnly : (name prefix : Text) → IsPlainWord prefix
+      → Spells (name ∷ codes "follow" ∷ codes "--only" ∷ prefix ∷ []) (OfFollow (record plain_follow { only = Some prefix }))
+  SpellsFollowFormat : (name : Text) (format : Format)
+      → Spells (name ∷ codes "follow" ∷ codes "--format" ∷ format_name format ∷ []) (OfFollow (record plain_follow { format = format }))
+  SpellsExplain : (name file address : Text) → IsFileWord file → IsPlainWord address
+      → Spells (name ∷ codes "explain" ∷ file ∷ address ∷ []) (OfExplain (plain_explain file address))
+  SpellsDue : (name file address area : Text) → IsFileWord file → IsPlainWord address → IsPlainWord area
+      → Spells (name ∷ codes "explain" ∷ file ∷ address ∷ codes "--due" ∷ area ∷ []) (OfExplain (record (plain_explain file address) { due = Some area }))
+  SpellsExplainFormat : (name file address : Text) (format : Format) → IsFileWord file → IsPlainWord address
+      → Spells (name ∷ codes "explain" ∷ file ∷ address ∷ codes "--format" ∷ format_name format ∷ []) (OfExplain (record (plain_explain file address) { format = format }))
+  SpellsExplainProgress : (name file address : Text) → IsFileWord file → IsPlainWord address
+      → Spells (name ∷ codes "explain" ∷ file ∷ address ∷ codes "--progress" ∷ []) (OfExplain (record (plain_explain file address) { progress = true }))
+  SpellsPage : (name file : Text) → IsFileWord file → Spells (name ∷ codes "page" ∷ file ∷ []) (OfPage (plain_page file))
+  SpellsOutput : (name file flag output : Text) → IsOutputFlag flag → IsFileWord file → IsFileWord output
+      → Spells (name ∷ codes "page" ∷ file ∷ flag ∷ output ∷ []) (OfPage (record (plain_page file) { output = Some output }))
+  SpellsPageProgress : (name file : Text) → IsFileWord file
+      → Spells (name ∷ codes "page" ∷ file ∷ codes "--progress" ∷ []) (OfPage (record (plain_page file) { progress = true }))
+  SpellsCapture : (name : Text) (t : CaptureTexts) → AreReadable t → Spells (name ∷ codes "capture" ∷ t.file ∷ capture_words t) (OfCapture t)
+  SpellsFault : (name number : Text) → IsPlainWord number → Spells (name ∷ codes "fault" ∷ number ∷ []) (OfFault number)
+
 -- the command line that the words are
 abbrev pub command_words : List (Bor Text) → List Text
 command_words words = map (λ w. w.now) words
@@ -642,155 +586,3 @@ command_words words = map (λ w. w.now) words
 -- the job is this one, unless memory runs out
 abbrev pub GivesJob : Result Job Usage → JobTexts → Type 0
 GivesJob result texts = MatchResult result (λ job. job_texts job ≡ texts) (λ u. u ≡ Memory)
-
--- if the line is `abr one` with plain words, the job is `one` with these
-abbrev pub ParsesAsOne : List Text → Result Job Usage → Type 0
-ParsesAsOne line result = (name : Text) (t : OneTexts) → line ≡ one_line name t → ArePlain t → GivesJob result (OfOne t)
-
--- if the line is `abr decode` with a plain word, the job is `decode` with it, not long
-abbrev pub GivesDecode : List Text → Result Job Usage → Type 0
-GivesDecode line result = (name hex : Text) → line ≡ decode_line name hex → IsPlainWord hex → GivesJob result (OfDecode hex false)
-
--- if the line is `abr decode` with a plain word and `--long`, the job is `decode` with it, long
-abbrev pub GivesLong : List Text → Result Job Usage → Type 0
-GivesLong line result = (name hex : Text) → line ≡ long_line name hex → IsPlainWord hex → GivesJob result (OfDecode hex true)
-
--- if the line is `abr replay` with a file, the job is `replay` of it by one worker, to show the
--- routing table as text, and no progress
-abbrev pub GivesReplay : List Text → Result Job Usage → Type 0
-GivesReplay line result = (name file : Text) → line ≡ replay_line name file → IsFileWord file → GivesJob result (OfReplay (plain_replay file))
-
--- if the line is `abr replay` with a file and `--workers`, the job is `replay` of it by this number
-abbrev pub GivesWorkers : List Text → Result Job Usage → Type 0
-GivesWorkers line result =
-    (name file number : Text) (count : ℕ) → line ≡ workers_line name file number
-    → IsFileWord file → WritesWorkers number count → GivesJob result (OfReplay (record (plain_replay file) { workers = count }))
-
--- if the line is `abr replay` with a file and `--show`, the job is `replay` of it by one worker, to
--- show that
-abbrev pub GivesShow : List Text → Result Job Usage → Type 0
-GivesShow line result =
-    (name file : Text) (show : Show) → line ≡ show_line name file show → IsFileWord file → GivesJob result (OfReplay (record (plain_replay file) { show = show }))
-
--- if the line is `abr changes` with a file, the job is `changes` of it, of all networks, as text
--- and without progress
-abbrev pub GivesChanges : List Text → Result Job Usage → Type 0
-GivesChanges line result = (name file : Text) → line ≡ changes_line name file → IsFileWord file → GivesJob result (OfChanges (plain_changes file))
-
--- if the line is `abr changes` with a file, `--only` and a plain word, the job is `changes` of it,
--- of that network
-abbrev pub GivesOnly : List Text → Result Job Usage → Type 0
-GivesOnly line result =
-    (name file prefix : Text) → line ≡ only_line name file prefix
-    → IsFileWord file → IsPlainWord prefix → GivesJob result (OfChanges (record (plain_changes file) { only = Some prefix }))
-
--- if the line is `abr follow`, the job is `follow` of all networks, not strict, as text
-abbrev pub GivesFollow : List Text → Result Job Usage → Type 0
-GivesFollow line result = (name : Text) → line ≡ follow_line name → GivesJob result (OfFollow plain_follow)
-
--- if the line is `abr follow` with `--strict`, the job is `follow` of all networks, strict
-abbrev pub GivesStrict : List Text → Result Job Usage → Type 0
-GivesStrict line result = (name : Text) → line ≡ strict_line name → GivesJob result (OfFollow (record plain_follow { strict = true }))
-
--- if the line is `abr follow` with `--only` and a plain word, the job is `follow` of that network,
--- not strict
-abbrev pub GivesFollowOnly : List Text → Result Job Usage → Type 0
-GivesFollowOnly line result =
-    (name prefix : Text) → line ≡ follow_only_line name prefix → IsPlainWord prefix → GivesJob result (OfFollow (record plain_follow { only = Some prefix }))
-
--- if the line is `abr explain` with a file and a plain word, the job explains the word by the
--- file's routing table, as text and without progress
-abbrev pub GivesExplain : List Text → Result Job Usage → Type 0
-GivesExplain line result =
-    (name file address : Text) → line ≡ explain_line name file address
-    → IsFileWord file → IsPlainWord address → GivesJob result (OfExplain (plain_explain file address))
-
--- if the line is `abr explain` with a file, a plain word, `--due` and another, the job explains the
--- first word's summary in the area that the other names
-abbrev pub GivesDue : List Text → Result Job Usage → Type 0
-GivesDue line result =
-    (name file address area : Text) → line ≡ due_line name file address area
-    → IsFileWord file → IsPlainWord address → IsPlainWord area → GivesJob result (OfExplain (record (plain_explain file address) { due = Some area }))
-
--- if the line is `abr page` with a file, the job writes the page of it to standard output, without
--- progress
-abbrev pub GivesPage : List Text → Result Job Usage → Type 0
-GivesPage line result = (name file : Text) → line ≡ page_line name file → IsFileWord file → GivesJob result (OfPage (plain_page file))
-
--- if the line is `abr page` with a file, `-o` or `--output`, and another, the job writes the page
--- of the first to the second
-abbrev pub GivesOutput : List Text → Result Job Usage → Type 0
-GivesOutput line result =
-    (name file flag output : Text) → line ≡ output_line name file flag output → IsOutputFlag flag
-    → IsFileWord file → IsFileWord output → GivesJob result (OfPage (record (plain_page file) { output = Some output }))
-
--- if the line is `abr capture` with a file and any of its options and flags, in the order of the
--- help, the job is `capture` with these, and has none of the others
-abbrev pub GivesCapture : List Text → Result Job Usage → Type 0
-GivesCapture line result = (name : Text) (t : CaptureTexts) → line ≡ capture_line name t → AreReadable t → GivesJob result (OfCapture t)
-
--- if the line is `abr replay` with a file and `--format`, the job is `replay` of it, in that form
-abbrev pub GivesReplayFormat : List Text → Result Job Usage → Type 0
-GivesReplayFormat line result =
-    (name file : Text) (format : Format) → line ≡ replay_format_line name file format
-    → IsFileWord file → GivesJob result (OfReplay (record (plain_replay file) { format = format }))
-
--- if the line is `abr changes` with a file and `--format`, the job is `changes` of it, in that form
-abbrev pub GivesChangesFormat : List Text → Result Job Usage → Type 0
-GivesChangesFormat line result =
-    (name file : Text) (format : Format) → line ≡ changes_format_line name file format
-    → IsFileWord file → GivesJob result (OfChanges (record (plain_changes file) { format = format }))
-
--- if the line is `abr follow` with `--format`, the job is `follow` in that form
-abbrev pub GivesFollowFormat : List Text → Result Job Usage → Type 0
-GivesFollowFormat line result =
-    (name : Text) (format : Format) → line ≡ follow_format_line name format → GivesJob result (OfFollow (record plain_follow { format = format }))
-
--- if the line is `abr explain` with a file, a plain word and `--format`, the job explains the word
--- in that form
-abbrev pub GivesExplainFormat : List Text → Result Job Usage → Type 0
-GivesExplainFormat line result =
-    (name file address : Text) (format : Format) → line ≡ explain_format_line name file address format
-    → IsFileWord file → IsPlainWord address → GivesJob result (OfExplain (record (plain_explain file address) { format = format }))
-
--- `--format` gives the form, in each command that takes it
-abbrev pub GivesFormat : List Text → Result Job Usage → Type 0
-GivesFormat line result =
-    GivesReplayFormat line result × GivesChangesFormat line result × GivesFollowFormat line result × GivesExplainFormat line result
-
--- if the line is `abr replay` with a file and `--progress`, the job is `replay` of it, with
--- progress
-abbrev pub GivesReplayProgress : List Text → Result Job Usage → Type 0
-GivesReplayProgress line result =
-    (name file : Text) → line ≡ replay_progress_line name file
-    → IsFileWord file → GivesJob result (OfReplay (record (plain_replay file) { progress = true }))
-
--- if the line is `abr changes` with a file and `--progress`, the job is `changes` of it, with
--- progress
-abbrev pub GivesChangesProgress : List Text → Result Job Usage → Type 0
-GivesChangesProgress line result =
-    (name file : Text) → line ≡ changes_progress_line name file
-    → IsFileWord file → GivesJob result (OfChanges (record (plain_changes file) { progress = true }))
-
--- if the line is `abr explain` with a file, a plain word and `--progress`, the job explains the
--- word, with progress
-abbrev pub GivesExplainProgress : List Text → Result Job Usage → Type 0
-GivesExplainProgress line result =
-    (name file address : Text) → line ≡ explain_progress_line name file address
-    → IsFileWord file → IsPlainWord address → GivesJob result (OfExplain (record (plain_explain file address) { progress = true }))
-
--- if the line is `abr page` with a file and `--progress`, the job writes the page of it, with
--- progress
-abbrev pub GivesPageProgress : List Text → Result Job Usage → Type 0
-GivesPageProgress line result =
-    (name file : Text) → line ≡ page_progress_line name file
-    → IsFileWord file → GivesJob result (OfPage (record (plain_page file) { progress = true }))
-
--- `--progress` asks for progress, in each command that takes it
-abbrev pub GivesProgress : List Text → Result Job Usage → Type 0
-GivesProgress line result =
-    GivesReplayProgress line result × GivesChangesProgress line result × GivesExplainProgress line result × GivesPageProgress line result
-
--- if the line is `abr fault` with a plain word, the job is `fault` with it
-abbrev pub GivesFault : List Text → Result Job Usage → Type 0
-GivesFault line result = (name number : Text) → line ≡ fault_line name number → IsPlainWord number → GivesJob result (OfFault number)

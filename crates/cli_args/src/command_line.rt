@@ -20,12 +20,7 @@ ghost use Rattle.cli_args.specs.Command.{HasExplainWords, HasPageWords, HasCaptu
 ghost use Rattle.cli_args.specs.Command.{WritesWorkers, workers_option, long_flag, only_option};
 ghost use Rattle.cli_args.specs.Command.{due_option, output_option, router_option};
 ghost use Rattle.cli_args.specs.Command.{begin_option, all_flag, no_seconds_flag, strict_flag};
-ghost use Rattle.cli_args.specs.Command.{progress_flag, command_words, GivesCapture};
-ghost use Rattle.cli_args.specs.Command.{GivesChanges, GivesDecode, GivesDue, GivesExplain};
-ghost use Rattle.cli_args.specs.Command.{GivesFault, GivesFollow, GivesFollowOnly, GivesFormat};
-ghost use Rattle.cli_args.specs.Command.{GivesLong, ParsesAsOne, GivesOnly, GivesOutput};
-ghost use Rattle.cli_args.specs.Command.{GivesPage, GivesProgress, GivesReplay, GivesShow};
-ghost use Rattle.cli_args.specs.Command.{GivesStrict, GivesWorkers};
+ghost use Rattle.cli_args.specs.Command.{progress_flag, command_words, GivesJob, JobTexts, Spells};
 
 use crate::command::{CaptureWords, Job, OneWords, Usage};
 use clap::builder::ValueParser;
@@ -73,25 +68,7 @@ pub fn job<'a>(alloc: Global, words: &'a [&'a str]) -> Result<Job<'a>, Usage>
     ensures job { IfOk result (IsJob (subcommand_of program (command_words words.entry.now))) }
     ensures fit { IfOk result IsJobFit }
     ensures mistake { IfErr result (IsMistake (command_words words.entry.now)) }
-    ensures one { ParsesAsOne (command_words words.entry.now) result }
-    ensures decode { GivesDecode (command_words words.entry.now) result }
-    ensures long { GivesLong (command_words words.entry.now) result }
-    ensures replay { GivesReplay (command_words words.entry.now) result }
-    ensures workers { GivesWorkers (command_words words.entry.now) result }
-    ensures show { GivesShow (command_words words.entry.now) result }
-    ensures changes { GivesChanges (command_words words.entry.now) result }
-    ensures only { GivesOnly (command_words words.entry.now) result }
-    ensures follow { GivesFollow (command_words words.entry.now) result }
-    ensures strict { GivesStrict (command_words words.entry.now) result }
-    ensures follow_only { GivesFollowOnly (command_words words.entry.now) result }
-    ensures explain { GivesExplain (command_words words.entry.now) result }
-    ensures due { GivesDue (command_words words.entry.now) result }
-    ensures page { GivesPage (command_words words.entry.now) result }
-    ensures output { GivesOutput (command_words words.entry.now) result }
-    ensures capture { GivesCapture (command_words words.entry.now) result }
-    ensures format { GivesFormat (command_words words.entry.now) result }
-    ensures progress { GivesProgress (command_words words.entry.now) result }
-    ensures fault { GivesFault (command_words words.entry.now) result }
+    ensures gives { (t : JobTexts) → Spells (command_words words.entry.now) t → GivesJob result t }
 {
     let command = program_command(alloc)?;
     match command.try_get_matches_from(words) {
