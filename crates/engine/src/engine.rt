@@ -283,23 +283,78 @@ fn open_over<R: Wait>(
     ensures count { IfOk result (λ r. length r.1.items ≡ readers) }
     ensures forwarders { IfOk result (λ r. AreNew r.0 r.1.items) }
 {
-    let Ok(mut engine_state) = EngineState::open(rt, alloc, core, readers) else {
-        return Err(OpenFault::Config(ConfigFault::Memory));
-    };
-    let all = match forwarders(&mut engine_state, alloc, readers) {
-        Ok(all) => all,
+    match EngineState::open(rt, alloc, core, readers) {
+        Ok(engine_state) => begin(rt, alloc, engine_state, readers),
+        Err(_) => Err(OpenFault::Config(ConfigFault::Memory)),
+    }
+}
+
+// Opens an engine with `readers` forwarders over its state.
+fn begin<R: Wait>(
+    rt: &R,
+    alloc: Global,
+    engine_state: EngineState,
+    readers: usize,
+) -> Result<(Engine, Vec<Forwarder>), OpenFault>
+    requires { engine_state.published ≡ [] }
+    ensures fault { IfErr result IsLastFault }
+    ensures config { IfOk result (λ r. r.0 ≡ engine_state.name) }
+    ensures count { IfOk result (λ r. length r.1.items ≡ readers) }
+    ensures forwarders { IfOk result (λ r. AreNew r.0 r.1.items) }
+{
+    let mut engine_state = engine_state;
+    match forwarders(&mut engine_state, alloc, readers) {
+        Ok(all) => enter(rt, alloc, engine_state, all),
         Err(fault) => {
             drop(engine_state.end(rt));
-            return Err(fault);
+            Err(fault)
         }
-    };
-    let Ok(slot) = EngineSlot::open(alloc, &engine_state.tag()) else {
-        drop(engine_state.end(rt));
-        return Err(OpenFault::Config(ConfigFault::Memory));
-    };
-    slot.put(rt, engine_state);
-    let door = Mutex::new(());
-    Ok((Engine { alloc, door, slot }, all))
+    }
+}
+
+// Opens an engine over its state, and returns it with its forwarders.
+fn enter<R: Wait>(
+    rt: &R,
+    alloc: Global,
+    engine_state: EngineState,
+    all: Vec<Forwarder>,
+) -> Result<(Engine, Vec<Forwarder>), OpenFault>
+    ensures fault { IfErr result (λ e. e ≡ open_value.Config fault.Memory) }
+    ensures config { IfOk result (λ r. r.0 ≡ engine_state.name) }
+    ensures forwarders { IfOk result (λ r. r.1.items ≡ all.items) }
+{
+    match slot_of(rt, alloc, engine_state) {
+        Ok(slot) => Ok((
+            Engine {
+                alloc,
+                door: Mutex::new(()),
+                slot,
+            },
+            all,
+        )),
+        Err(fault) => Err(fault),
+    }
+}
+
+// Creates a slot with the engine's state in it.
+fn slot_of<R: Wait>(
+    rt: &R,
+    alloc: Global,
+    engine_state: EngineState,
+) -> Result<EngineSlot, OpenFault>
+    ensures fault { IfErr result (λ e. e ≡ open_value.Config fault.Memory) }
+    ensures name { IfOk result (λ slot. slot ≡ engine_state.name) }
+{
+    match EngineSlot::open(alloc, &engine_state.tag()) {
+        Ok(slot) => {
+            slot.put(rt, engine_state);
+            Ok(slot)
+        }
+        Err(_) => {
+            drop(engine_state.end(rt));
+            Err(OpenFault::Config(ConfigFault::Memory))
+        }
+    }
 }
 
 // Creates `count` forwarders, which know the empty history.
