@@ -79,9 +79,12 @@ module _ (scope : Scope) (lsa : Lsa) (is_scope : IsScope scope) (are : AreBytes 
       let known = kind_is_known lsa legal in
       record { form = (is_scope, record { kind = known; id = legal.id; router = legal.router }); kind = known; lsa = tt {0}; version = λ v. tt {0} }
 
+  only_install : All IsRecordable (installed scope lsa)
+  only_install = All-cons IsRecordable (InstallEvent scope lsa) [] install_recordable (All-nil IsRecordable)
+
   all_recordable : (purges : Bool) → All IsRecordable (install_events scope lsa purges)
-  all_recordable true = All-append IsRecordable (installed scope lsa) (purged scope (key_of lsa)) (all_recordable false) (All-cons IsRecordable (Purge scope (key_of lsa)) [] purge_recordable (All-nil IsRecordable))
-  all_recordable false = All-cons IsRecordable (InstallEvent scope lsa) [] install_recordable (All-nil IsRecordable)
+  all_recordable true = All-append IsRecordable (installed scope lsa) (purged scope (key_of lsa)) only_install (All-cons IsRecordable (Purge scope (key_of lsa)) [] purge_recordable (All-nil IsRecordable))
+  all_recordable false = only_install
 
   pub lsa_kept : (bytes more : List ℕ) (all : List KeptEvent) (start size : ℕ) (purges : Bool) → AreKeptWithin bytes all → IsLsaAt (bytes ++ more) start size lsa
       → AreAppended (text_of bytes all) (text_of (bytes ++ more) (all ++ Install scope start size purges ∷ [])) (install_events scope lsa purges)

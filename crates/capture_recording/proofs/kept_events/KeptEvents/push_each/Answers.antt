@@ -1,6 +1,6 @@
-use Rattle.std.proofs.Common.{List, ℕ, take, rules, subst, sym, length, ◌<◌}
-use Rattle.std.proofs.lemmas.List.{take_more}
+use Rattle.std.proofs.Common.{◌≡◌, ◌∙◌, ◌++◌, ◌<◌, ℕ, List, [], ◌∷◌, ap, get_or, length, rules, subst, sym, take}
 use Rattle.std.specs.List.{flat_map}
+use Rattle.std.proofs.lemmas.List.{take_more}
 use Rattle.captured_lsas.specs.declared.recorded.Recorded.{Recorded}
 use Rattle.capture_recording.specs.Events.{AreAppended, recorded_events}
 use Rattle.capture_recording.proofs.Gained.{appended_item}
@@ -10,6 +10,9 @@ pub loop-one-preserved : goal.loop-one-preserved
 loop-one-preserved c =
     let all = c.args.recorded.now in
     let at = c.loop-one.one-index in
+    let one = c.one-item.result in
     let below : at < length all = search rules in
-    let more = appended_item recorded_events _ _ _ (take at all) _ c.loop-one.invariant c.in_ok-push_one.ensures in
-    subst (λ (done : List Recorded). AreAppended c.args.self.now c.push_one.new.self (flat_map recorded_events done)) (sym (take_more all at _ below)) more
+    let is : one ≡ get_or all at one = search rules in
+    let next = take_more all at one below ∙ ap (λ (r : Recorded). take at all ++ r ∷ []) (sym is) in
+    subst (λ (done : List Recorded). AreAppended c.args.self.now c.push_one.new.self (flat_map recorded_events done)) (sym next)
+    (appended_item recorded_events c.args.self.now c.loop-one.self c.push_one.new.self (take at all) one c.loop-one.invariant c.in_ok-push_one.ensures)
