@@ -1,5 +1,4 @@
-//! Records a capture of many LSAs, whose packets are hours apart, and whose preamble is known at its
-//! end only.
+//! Records a capture of many LSAs, whose packets are hours apart. The preamble is known at its end.
 
 use crate::failures::samples::{CAPTURE, FIRST, FRONT, HEADER};
 use anyhow::{Result, ensure};
