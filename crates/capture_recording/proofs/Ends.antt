@@ -28,7 +28,7 @@ use Rattle.capture_recording.specs.Said.{AppendsUpTo, HasSaid, WritesSaidPart}
 use Rattle.capture_recording.specs.Steps.{PacketStep}
 use Rattle.capture_recording.specs.Texts.{notes_of}
 use Rattle.capture_recording.proofs.Outcomes.{of_none, of_taken, outcome_part, outcome_recorded, outcome_lacking}
-use Rattle.capture_recording.proofs.Said.{up_to_all, up_to_behind, up_to_more, part_behind, part_more}
+use Rattle.capture_recording.proofs.Said.{up_to_all, up_to_behind, part_behind, part_more}
 
 -- ---- what is said at the end
 

@@ -12,12 +12,12 @@ use Rattle.lsa_codec.specs.Checksum.{IsSound}
 use Rattle.lsa_codec.specs.Decoding.{lsa_of}
 use Rattle.lsa_codec.specs.Spelling.{Spells, spelling}
 use Rattle.lsa_codec.proofs.Again.{spelled_same}
-use Rattle.recording.specs.Forms.{AreBytes, IsKey, IsScope}
+use Rattle.recording.specs.Forms.{AreBytes, IsScope}
 use Rattle.recording.specs.Recordings.{IsLsaOfBytes}
 use Rattle.capture_recording.specs.declared.kept_events.KeptEvent.{KeptEvent}
 use Rattle.capture_recording.specs.declared.kept_events.KeptEvent.TheVariants.{Seconds, Install}
 use Rattle.capture_recording.specs.Events.{IsRecordable, AreAppended, install_events, installed, lines_of, purged, second_events}
-use Rattle.capture_recording.specs.Kept.{part, kept_lines, text_of, AreOfLsa, IsLsaWithin, IsKeptWithin, AreKeptWithin, IsLsaAt}
+use Rattle.capture_recording.specs.Kept.{part, kept_lines, text_of, AreOfLsa, IsKeptWithin, AreKeptWithin, IsLsaAt}
 use Rattle.capture_recording.proofs.LsTypes.{kind_is_known}
 
 -- ---- what was kept, where more bytes come after it

@@ -1,8 +1,8 @@
 //! The events of a capture whose recording is written at its end: the bytes of each LSA, and the
 //! number of seconds before it.
 
-ghost use Rattle.std.specs.Prelude.{◌≡◌, ◌≤◌, ◌++◌, [], OnOk, IfOk};
-ghost use Rattle.std.specs.List.{All, flat_map};
+ghost use Rattle.std.specs.Prelude.{◌≡◌, ◌≤◌, [], OnOk, IfOk};
+ghost use Rattle.std.specs.List.{flat_map};
 ghost use Rattle.lsa_codec.specs.Spelling.{spelling};
 ghost use Rattle.ospf_types.specs.Lsa.{MaxAge};
 ghost use Rattle.recording.specs.Forms.{AreBytes};

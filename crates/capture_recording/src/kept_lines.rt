@@ -2,7 +2,7 @@
 ghost use Rattle.std.specs.Prelude.{◌≡◌, OnOk, IfOk, IfErr};
 ghost use Rattle.std.specs.Io.KnownBytes.{Appends};
 ghost use Rattle.lsa_codec.specs.Decoding.{lsa_of};
-ghost use Rattle.capture_recording.specs.Events.{AreAppended, GainsEvents};
+ghost use Rattle.capture_recording.specs.Events.{GainsEvents};
 ghost use Rattle.capture_recording.specs.Kept.{kept_events, kept_if, text_of, AreOfLsa};
 ghost use Rattle.capture_recording.specs.Kept.{AreKeptWithin, IsKeptWithin};
 ghost use Rattle.capture_recording.specs.Said.{WritesSaidPart};
