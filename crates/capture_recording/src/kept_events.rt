@@ -35,8 +35,8 @@ pub(crate) enum KeptEvent {
     },
 }
 
-/// Events of a recording, in order. They take about 16 bytes more than the bytes of each LSA, and
-/// 16 for a number of seconds.
+/// Events of a recording, in order. They take about 20 bytes more than the bytes of each LSA, and
+/// as many for a number of seconds.
 pub(crate) struct KeptEvents {
     pub(crate) alloc: Global,
     /// The bytes of the LSAs, end to end.
