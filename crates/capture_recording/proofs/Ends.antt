@@ -1,6 +1,6 @@
 -- The end of a capture that was read.
-use Rattle.std.proofs.Common.{◌≡◌, ◌∙◌, ◌++◌, List, [], ℕ, Option, Some, ◌⊎◌, inl, inr, Result, Err, Bool, refl, ap, sym, subst, append_assoc}
-use Rattle.std.specs.Prelude.{length, string_bytes}
+use Rattle.std.proofs.Common.{◌≡◌, ◌∙◌, ◌++◌, List, [], ℕ, Option, Some, ◌⊎◌, inl, inr, Result, Err, Bool, refl, ap, sym, subst, append_assoc, append-nil}
+use Rattle.std.specs.Prelude.{length}
 use Rattle.std.specs.Io.KnownBytes.{Appends}
 use Rattle.ospf_types.specs.Configs.{config_fault_of}
 use Rattle.ospf_types.specs.declared.fault.ConfigFault.{ConfigFault}
@@ -18,18 +18,17 @@ use Rattle.capture_recording.specs.declared.fault.CapturingFault.{CapturingFault
 use Rattle.capture_recording.specs.declared.fault.CapturingFault.TheVariants.{Capture, Read, Line, Config, Unsaid, Write, Closed, Memory}
 use Rattle.capture_recording.specs.declared.gathered.Gathered.{Gathered}
 use Rattle.capture_recording.specs.declared.going.Ended.{Ended}
-use Rattle.capture_recording.specs.declared.going.PackedCapture.{PackedCapture}
 use Rattle.capture_recording.specs.Ending.{fault_lacking, result_of, unless_silent}
 use Rattle.capture_recording.specs.Finishing.{IsCaptureBegun, IsBehind, IsLacking, IsWhollyWritten, router_of, unknown_if}
 use Rattle.capture_recording.specs.Folds.{areas_of, captured_of, counts_of}
-use Rattle.capture_recording.specs.Gathering.{AreGathered, config_of}
+use Rattle.capture_recording.specs.Gathering.{AreGathered, config_of, waiting}
 use Rattle.capture_recording.specs.Going.{GoesThrough}
 use Rattle.capture_recording.specs.Outputs.{FaultOutcome, IsFront, RuledOutcome, IsRecordedUpTo, counts_text, unknown_of}
 use Rattle.capture_recording.specs.Said.{AppendsUpTo, HasSaid, WritesSaidPart}
 use Rattle.capture_recording.specs.Steps.{PacketStep}
 use Rattle.capture_recording.specs.Texts.{notes_of}
 use Rattle.capture_recording.proofs.Outcomes.{of_none, of_taken, outcome_part, outcome_recorded, outcome_lacking}
-use Rattle.capture_recording.proofs.Said.{up_to_all, up_to_behind, up_to_more, part_behind, part_more}
+use Rattle.capture_recording.proofs.Said.{up_to_all, up_to_behind, part_behind, part_more}
 
 -- ---- what is said at the end
 
@@ -53,23 +52,40 @@ ends_are rules beginning steps g are =
 -- ---- a front was written
 
 module _ (rules : Rules) (beginning : Preamble) (before after old now told_before told : Option (List ℕ)) (ended : Ended) (is : IsCaptureBegun rules beginning before after old now told_before told ended) where
-  -- the lines that are left could not be written
-  pub lines_unwritten : (new : Option (List ℕ)) (fault : CapturingFault) → (fault ≡ Write) ⊎ (fault ≡ Closed) → AppendsPart now new (string_bytes ended.session.lines)
-      → FaultOutcome rules beginning before after old new told_before told fault
-  lines_unwritten new fault kind part =
-      let all = subst (AppendsPart old new) (append_assoc is.front is.written (string_bytes ended.session.lines)) (part_behind old now new (is.front ++ is.written) (string_bytes ended.session.lines) is.begun part) in
+  lines_part : (new : Option (List ℕ)) (fault : CapturingFault) → (fault ≡ Write) ⊎ (fault ≡ Closed) → AppendsPart now new (waiting ended.session) → FaultOutcome rules beginning before after old new told_before told fault
+  lines_part new fault kind part =
+      let all = subst (AppendsPart old new) (append_assoc is.front is.written (waiting ended.session)) (part_behind old now new (is.front ++ is.written) (waiting ended.session) is.begun part) in
       outcome_part rules beginning before after old new told_before told fault kind
       (of_taken rules (router_of beginning) before told_before is.through.to after told ended.session is.written is.through.recorded _
       (record { front = is.front; is = is.is; written = all }, is.through.recorded.said.begun))
 
-  pub lines_written : (new : Option (List ℕ)) → Appends now new (string_bytes ended.session.lines) → IsWhollyWritten rules beginning before after old new told_before told ended
+  lines_up_to : (new : Option (List ℕ)) → AppendsUpTo now new (waiting ended.session) → IsRecordedUpTo rules beginning before old new told_before told
+  lines_up_to new part =
+      let all = subst (AppendsUpTo old new) (append_assoc is.front is.written (waiting ended.session)) (up_to_behind old now new (is.front ++ is.written) (waiting ended.session) is.begun part) in (
+        after,
+        of_taken rules (router_of beginning) before told_before is.through.to after told ended.session is.written is.through.recorded _
+            (inr (record { front = is.front; is = is.is; written = all }), is.through.recorded.said.begun),
+      )
+
+  -- the lines that are left could not be written
+  pub lines_unwritten : (new : Option (List ℕ)) (fault : CapturingFault) → WritesSaidPart now new (waiting ended.session) fault → FaultOutcome rules beginning before after old new told_before told fault
+  lines_unwritten new (Capture kind place) part = absurd part
+  lines_unwritten new Read part = absurd part
+  lines_unwritten new (Line fault) part = absurd part
+  lines_unwritten new (Config fault) part = absurd part
+  lines_unwritten new Unsaid part = absurd part
+  lines_unwritten new Write part = lines_part new Write (inl refl) part
+  lines_unwritten new Closed part = lines_part new Closed (inr refl) part
+  lines_unwritten new Memory part = lines_up_to new part
+
+  pub lines_written : (new : Option (List ℕ)) → Appends now new (waiting ended.session) → IsWhollyWritten rules beginning before after old new told_before told ended
   lines_written new written = record {
     written = is.written;
     through = is.through;
     all = record {
       front = is.front;
       is = is.is;
-      written = subst (Appends old new) (append_assoc is.front is.written (string_bytes ended.session.lines)) (appends_more old now new (is.front ++ is.written) (string_bytes ended.session.lines) is.begun written);
+      written = subst (Appends old new) (append_assoc is.front is.written (waiting ended.session)) (appends_more old now new (is.front ++ is.written) (waiting ended.session) is.begun written);
     };
   }
 
@@ -97,100 +113,60 @@ module _ (rules : Rules) (beginning : Preamble) (before after old new told_befor
 
 -- ---- the front is not written yet
 
-pub front_unwritten : (rules : Rules) (beginning : Preamble) (before after told_before told old new : Option (List ℕ)) (kept : PackedCapture) (front : List ℕ) → IsBehind rules beginning before after told_before told kept front
-    → (fault : CapturingFault) → (fault ≡ Write) ⊎ (fault ≡ Closed) → AppendsPart old new front → FaultOutcome rules beginning before after old new told_before told fault
-front_unwritten rules beginning before after told_before told old new kept front is fault kind part =
-    outcome_part rules beginning before after old new told_before told fault kind
-    (of_taken rules (router_of beginning) before told_before is.through.to after told kept.ended.session kept.packed is.through.recorded _
-    (record { front = front; is = is.is; written = part_more old new front (kept.packed ++ string_bytes kept.ended.session.lines) part }, is.through.recorded.said.begun))
+module _ (rules : Rules) (beginning : Preamble) (before after told_before told : Option (List ℕ)) (ended : Ended) (front : List ℕ) (is : IsBehind rules beginning before after told_before told ended front) where
+  pub front_unwritten : (old new : Option (List ℕ)) (fault : CapturingFault) → (fault ≡ Write) ⊎ (fault ≡ Closed) → AppendsPart old new front → FaultOutcome rules beginning before after old new told_before told fault
+  front_unwritten old new fault kind part =
+      outcome_part rules beginning before after old new told_before told fault kind
+      (of_taken rules (router_of beginning) before told_before is.through.to after told ended.session [] is.through.recorded _
+      (record { front = front; is = is.is; written = part_more old new front (waiting ended.session) part }, is.through.recorded.said.begun))
 
--- ---- the front was written, and the lines are not yet
-
-module _ (rules : Rules) (beginning : Preamble) (before after told_before told old mid : Option (List ℕ)) (kept : PackedCapture) (front : List ℕ)
-    (is : IsBehind rules beginning before after told_before told kept front) (begun : Appends old mid front) where
-  pub packed_begun : (now : Option (List ℕ)) → Appends mid now kept.packed → IsCaptureBegun rules beginning before after old now told_before told kept.ended
-  packed_begun now written = record {
-    written = kept.packed;
+  pub front_begun : (old now : Option (List ℕ)) → Appends old now front → IsCaptureBegun rules beginning before after old now told_before told ended
+  front_begun old now begun = record {
+    written = [];
     through = is.through;
     front = front;
     is = is.is;
-    begun = appends_more old mid now front kept.packed begun written;
+    begun = subst (Appends old now) (sym (append-nil front)) begun;
   }
 
-  -- some of them were written
-  packed_part : (new : Option (List ℕ)) (fault : CapturingFault) → (fault ≡ Write) ⊎ (fault ≡ Closed) → AppendsPart mid new kept.packed → FaultOutcome rules beginning before after old new told_before told fault
-  packed_part new fault kind part =
-      outcome_part rules beginning before after old new told_before told fault kind
-      (of_taken rules (router_of beginning) before told_before is.through.to after told kept.ended.session kept.packed is.through.recorded _ (
-        record {
-          front = front;
-          is = is.is;
-          written = part_behind old mid new front (kept.packed ++ string_bytes kept.ended.session.lines) begun (part_more mid new kept.packed (string_bytes kept.ended.session.lines) part);
-        },
-        is.through.recorded.said.begun,
-      ))
-
-  packed_up_to : (new : Option (List ℕ)) → AppendsUpTo mid new kept.packed → IsRecordedUpTo rules beginning before old new told_before told
-  packed_up_to new part = (
-    after,
-    of_taken rules (router_of beginning) before told_before is.through.to after told kept.ended.session kept.packed is.through.recorded _ (
-      inr (record {
-        front = front;
-        is = is.is;
-        written = up_to_behind old mid new front (kept.packed ++ string_bytes kept.ended.session.lines) begun (up_to_more mid new kept.packed (string_bytes kept.ended.session.lines) part);
-      }),
-      is.through.recorded.said.begun,
-    ),
-  )
-
-  pub packed_unwritten : (new : Option (List ℕ)) (fault : CapturingFault) → WritesSaidPart mid new kept.packed fault → FaultOutcome rules beginning before after old new told_before told fault
-  packed_unwritten new (Capture kind place) part = absurd part
-  packed_unwritten new Read part = absurd part
-  packed_unwritten new (Line fault) part = absurd part
-  packed_unwritten new (Config fault) part = absurd part
-  packed_unwritten new Unsaid part = absurd part
-  packed_unwritten new Write part = packed_part new Write (inl refl) part
-  packed_unwritten new Closed part = packed_part new Closed (inr refl) part
-  packed_unwritten new Memory part = packed_up_to new part
-
 -- memory ran out before anything was written
-pub nothing_written : (rules : Rules) (router : Option ℕ) (beginning : Preamble) (before after told_before told old : Option (List ℕ)) (ended : Ended) (packed : List ℕ) → GoesThrough rules router before told_before after told ended packed
+pub nothing_written : (rules : Rules) (router : Option ℕ) (beginning : Preamble) (before after told_before told old : Option (List ℕ)) (ended : Ended) → GoesThrough rules router before told_before after told ended []
     → IsRecordedUpTo rules beginning before old old told_before told
-nothing_written rules router beginning before after told_before told old ended packed through =
-    (after, of_taken rules router before told_before through.to after told ended.session packed through.recorded _ (inl (appends_none old), through.recorded.said.begun))
+nothing_written rules router beginning before after told_before told old ended through =
+    (after, of_taken rules router before told_before through.to after told ended.session [] through.recorded _ (inl (appends_none old), through.recorded.said.begun))
 
 -- nor a packet was read
 pub none_recorded : (rules : Rules) (beginning : Preamble) (before told old : Option (List ℕ)) → IsRecordedUpTo rules beginning before old old told told
 none_recorded rules beginning before told old = (before, of_none rules before _ (inl (appends_none old), up_to_all told told [] (appends_none told)))
 
-pub lacking_said : (rules : Rules) (router : ℕ) (before after told_before told now old : Option (List ℕ)) (ended : Ended) (packed : List ℕ) (fault : ConfigFault) (is : IsLacking rules router before after told_before told ended packed fault)
+pub lacking_said : (rules : Rules) (router : ℕ) (before after told_before told now old : Option (List ℕ)) (ended : Ended) (fault : ConfigFault) (is : IsLacking rules router before after told_before told ended fault)
     (is_silent : Bool) (text : List ℕ) → HasSaid told_before now is_silent (notes_of is.through.recorded.steps ++ text)
     → text ≡ counts_line ended.session.gathered.counts (length ended.session.gathered.areas)
     → (answer : Result (Unit {0}) CapturingFault) (found : CapturingFault) → answer ≡ unless_silent is_silent (Err found) → found ≡ fault_lacking ended.ending fault → RuledOutcome rules (Router router) before after old old told_before now answer
-lacking_said rules router before after told_before told now old ended packed fault is is_silent text said same answer found answers found_is =
+lacking_said rules router before after told_before told now old ended fault is is_silent text said same answer found answers found_is =
     let steps = is.through.recorded.steps in
     let notes = subst (λ (l : List ℕ). HasSaid told_before now is_silent (notes_of steps ++ l)) (same ∙ counts_are rules (Some router) steps ended.session.gathered is.through.recorded.gathered) said in
     subst (RuledOutcome rules (Router router) before after old old told_before now) (sym (answers ∙ ap (λ f. unless_silent is_silent (Err f)) found_is))
     (outcome_lacking rules (Router router) before after old old told_before now ended.ending fault is_silent
-    (of_taken rules (Some router) before told_before is.through.to after told ended.session packed is.through.recorded _
+    (of_taken rules (Some router) before told_before is.through.to after told ended.session [] is.through.recorded _
     (is.through.ending, is.has, appends_none old, notes)))
 
 -- ---- what is known of the router
 
-module _ (rules : Rules) (router : ℕ) (before after told_before told : Option (List ℕ)) (kept : PackedCapture) (through : GoesThrough rules (Some router) before told_before after told kept.ended kept.packed) where
-  its_areas : kept.ended.session.gathered.areas ≡ areas_of through.recorded.steps
+module _ (rules : Rules) (router : ℕ) (before after told_before told : Option (List ℕ)) (ended : Ended) (through : GoesThrough rules (Some router) before told_before after told ended []) where
+  its_areas : ended.session.gathered.areas ≡ areas_of through.recorded.steps
   its_areas = through.recorded.gathered.areas
 
-  pub is_known : kept.ended.session.gathered.config ≡ Some (facts_of (captured_of router through.recorded.steps))
+  pub is_known : ended.session.gathered.config ≡ Some (facts_of (captured_of router through.recorded.steps))
   is_known = through.recorded.gathered.config
 
-  pub is_behind : (front : List ℕ) → IsText front (captured_recording (captured_of router through.recorded.steps) kept.ended.session.gathered.areas) → IsBehind rules (Router router) before after told_before told kept front
+  pub is_behind : (front : List ℕ) → IsText front (captured_recording (captured_of router through.recorded.steps) ended.session.gathered.areas) → IsBehind rules (Router router) before after told_before told ended front
   is_behind front text = record {
     through = through;
     is = subst (λ (areas : List ℕ). IsText front (captured_recording (captured_of router through.recorded.steps) areas)) its_areas text;
   }
 
-  pub is_lacking : (fault : ConfigFault) → config_fault_of (config_by (captured_of router through.recorded.steps) kept.ended.session.gathered.areas) ≡ Some fault → IsLacking rules router before after told_before told kept.ended kept.packed fault
+  pub is_lacking : (fault : ConfigFault) → config_fault_of (config_by (captured_of router through.recorded.steps) ended.session.gathered.areas) ≡ Some fault → IsLacking rules router before after told_before told ended fault
   is_lacking fault has = record {
     through = through;
     has = subst (λ (areas : List ℕ). config_fault_of (config_by (captured_of router through.recorded.steps) areas) ≡ Some fault) its_areas has;

@@ -11,11 +11,8 @@ use Rattle.lsa_codec.specs.Spelling.{IsLegal}
 use Rattle.event_state.specs.declared.event.Event.{Event}
 use Rattle.recording.specs.Forms.{IsKind}
 use Rattle.recording.specs.Recordings.{event_form, ended, text_of_forms}
-use Rattle.capture_recording.specs.Events.{IsRecordable, AreAppended, install_events, installed, purged}
+use Rattle.capture_recording.specs.Events.{IsRecordable, AreAppended, install_events, installed, lines_of, purged}
 use Rattle.capture_recording.proofs.LsTypes.{kind_is_known}
-
-abbrev lines_of : List Event → List ℕ
-lines_of events = text_of_forms (map event_form events)
 
 lines_more : (events more : List Event) → lines_of (events ++ more) ≡ lines_of events ++ lines_of more
 lines_more events more = ap text_of_forms (map-append event_form events more) ∙ flat_map-append ended (map event_form events) (map event_form more)
@@ -44,3 +41,7 @@ pub appended_purge : (old mid new : List ℕ) (scope : Scope) (lsa : Lsa) (key :
 appended_purge old mid new scope lsa key is legal first second =
     let known : IsKind key.kind = subst (λ (k : Key). IsKind k.kind) (sym is) (kind_is_known lsa legal) in
     appended_more old mid new (installed scope lsa) (purged scope (key_of lsa)) first (subst (λ (k : Key). AreAppended mid new (purged scope k)) is (second known))
+
+-- the same, where other lines come before
+pub appended_behind : (front old new : List ℕ) (events : List Event) → AreAppended old new events → AreAppended (front ++ old) (front ++ new) events
+appended_behind front old new events are = record { text = ap (λ (text : List ℕ). front ++ text) are.text ∙ sym (append_assoc front old (lines_of events)); each = are.each }

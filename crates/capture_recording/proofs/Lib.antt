@@ -9,6 +9,5 @@ pub mod Taking
 pub mod Recorded
 pub mod Outcomes
 pub mod Ends
-pub mod Digits
-pub mod Pushing
-pub mod Unpacked
+pub mod Keeping
+pub mod Putting

@@ -16,7 +16,8 @@ use Rattle.capture_recording.specs.declared.fault.CapturingFault.TheVariants.{Ca
 use Rattle.capture_recording.specs.declared.session.Session.{Session}
 use Rattle.capture_recording.specs.Ending.{first_position, IsEnding, result_of, fault_lacking, unless_silent}
 use Rattle.capture_recording.specs.FirstPackets.{FirstPackets}
-use Rattle.capture_recording.specs.Gathering.{past_of}
+use Rattle.capture_recording.specs.Gathering.{past_of, waiting}
+use Rattle.capture_recording.specs.Kept.{kept_if}
 use Rattle.capture_recording.specs.Going.{IsRecordedTo}
 use Rattle.capture_recording.specs.Outputs.{FaultOutcome, IsFront, IsCaptureRecorded, IsRecordedPart, Lacks, RuledOutcome}
 use Rattle.capture_recording.specs.Said.{AppendsUpTo, HasSaid}
@@ -24,7 +25,7 @@ use Rattle.capture_recording.specs.Steps.{PacketStep, AreStepsTo, begun}
 use Rattle.capture_recording.specs.Streaming.{IsGatheredUpTo, AreLinesPart, AreLinesUpTo, StreamsPart}
 use Rattle.capture_recording.specs.Texts.{notes_of}
 use Rattle.capture_recording.proofs.Recorded.{stays}
-use Rattle.capture_recording.proofs.Said.{up_to_all, up_to_more, up_to_behind, part_behind}
+use Rattle.capture_recording.proofs.Said.{up_to_all, up_to_more, up_to_behind, part_behind, part_more}
 
 -- ---- the packets so far
 
@@ -44,13 +45,13 @@ of_none rules before P holds = record {
 -- this holds of those that were taken
 pub of_taken : (rules : Rules) (router : Option ℕ) (before told_before : Option (List ℕ)) (at : Position) (left told : Option (List ℕ)) (session : Session) (written : List ℕ)
     (is : IsRecordedTo rules router before told_before at left told session written) (P : Position → List PacketStep → List ℕ → Type 0)
-    → P at is.steps (written ++ string_bytes session.lines) → FirstPackets rules before left P
+    → P at is.steps (written ++ waiting session) → FirstPackets rules before left P
 of_taken rules router before told_before at left told session written is P holds = record {
   steps = is.steps;
   at = at;
   goes = is.goes;
   are = (past_of session.gathered, is.gathered.are);
-  lines = written ++ string_bytes session.lines;
+  lines = written ++ waiting session;
   are_lines = is.lines;
   holds = holds;
 }
@@ -84,12 +85,12 @@ module _ (rules : Rules) (router : Option ℕ) (before told_before : Option (Lis
   some_streamed old new now appended same = (
     left,
     of_taken rules router before told_before at left told session written is (λ at steps lines. AppendsUpTo old new lines × AppendsUpTo told_before now (notes_of steps))
-        (up_to_more old new written (string_bytes session.lines) (up_to_all old new written appended), said_so_far now same),
+        (up_to_more old new written (waiting session) (up_to_all old new written appended), said_so_far now same),
   )
 
   pub part_streamed : (old mid new : Option (List ℕ)) → Appends old mid written → AppendsPart mid new (string_bytes session.lines) → AreLinesPart rules before left old new told_before told
   part_streamed old mid new appended part = of_taken rules router before told_before at left told session written is (λ at steps lines. AppendsPart old new lines × AppendsUpTo told_before told (notes_of steps))
-      (part_behind old mid new written (string_bytes session.lines) appended part, is.said.begun)
+      (part_behind old mid new written (waiting session) appended (part_more mid new (string_bytes session.lines) (kept_if session.kept) part), is.said.begun)
 
 -- the writing failed
 pub streams_part : (rules : Rules) (before after old new told_before told : Option (List ℕ)) (fault : CapturingFault) → (fault ≡ Write) ⊎ (fault ≡ Closed) → AreLinesPart rules before after old new told_before told

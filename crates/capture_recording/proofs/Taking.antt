@@ -18,7 +18,7 @@ use Rattle.capture_recording.specs.declared.session.Session.{Session}
 use Rattle.capture_recording.specs.Steps.{IsTakenOf}
 use Rattle.capture_recording.specs.Texts.{heard_notes}
 use Rattle.capture_recording.specs.Folds.{with_taken_area}
-use Rattle.capture_recording.specs.Gathering.{HearsOnly, TakesPacket, TakesPayload}
+use Rattle.capture_recording.specs.Gathering.{HearsOnly, TakesPacket, TakesPayload, waiting}
 
 same_option : {A : Type 0} (o : Option A) → option_map (λ (x : A). x) o ≡ o
 same_option None = refl
@@ -28,7 +28,7 @@ module _ (old : Session) (g : Gathered) (packet : ShownPacket) (heard : Heard) (
     (counted : g.counts ≡ with_heard old.gathered.counts heard) (others : HearsOnly old.gathered g) where
   -- nothing is taken of it
   untaken : (text : String _) → IsTakenOf old.gathered.recorder g.recorder packet.time heard None → string_bytes text ≡ string_bytes old.notes.text ++ heard_notes packet.time heard None
-      → TakesPacket old (record { gathered = g; lines = old.lines; notes = record { text = text; is_silent = old.notes.is_silent } }) packet
+      → TakesPacket old (record { gathered = g; lines = old.lines; kept = old.kept; notes = record { text = text; is_silent = old.notes.is_silent } }) packet
   untaken text none notes = record {
     step = record { packet = packet; heard = heard; taken = None };
     of = refl;
@@ -38,7 +38,8 @@ module _ (old : Session) (g : Gathered) (packet : ShownPacket) (heard : Heard) (
       areas = others.areas;
       config = λ known are. others.config ∙ are ∙ ap (option_map facts_of) (sym (same_option known));
     };
-    lines = appended_none (string_bytes old.lines);
+    lines = appended_none (waiting old);
+    keeps = λ none. none;
     notes = notes;
     silent = refl;
   }
@@ -52,19 +53,19 @@ module _ (old : Session) (g : Gathered) (packet : ShownPacket) (heard : Heard) (
   no_notes (inr is) = ap (λ h. heard_notes packet.time h None) is
 
   -- it brings nothing
-  pub takes_nothing : heard ≡ Other ⊎ heard ≡ Part → TakesPacket old (record { gathered = g; lines = old.lines; notes = old.notes }) packet
+  pub takes_nothing : heard ≡ Other ⊎ heard ≡ Part → TakesPacket old (record { gathered = g; lines = old.lines; kept = old.kept; notes = old.notes }) packet
   takes_nothing is = untaken old.notes.text (none_of is) (sym (append-nil (string_bytes old.notes.text)) ∙ ap (λ l. string_bytes old.notes.text ++ l) (sym (no_notes is)))
 
   -- its datagram has a fault
   pub takes_fault : (fault : DatagramFault) (text : String _) → heard ≡ Fault fault → string_bytes text ≡ string_bytes old.notes.text ++ datagram_note packet.time fault
-      → TakesPacket old (record { gathered = g; lines = old.lines; notes = record { text = text; is_silent = old.notes.is_silent } }) packet
+      → TakesPacket old (record { gathered = g; lines = old.lines; kept = old.kept; notes = record { text = text; is_silent = old.notes.is_silent } }) packet
   takes_fault fault text is notes =
       untaken text (subst (λ h. IsTakenOf old.gathered.recorder g.recorder packet.time h None) (sym is) (refl, others.recorder))
       (notes ∙ ap (λ h. string_bytes old.notes.text ++ heard_notes packet.time h None) (sym is))
 
   -- it brings a payload, which is taken
   pub takes_whole : (sender : ℕ) (payload : Payload) (bytes : List ℕ) (new : Session) → heard ≡ Whole sender payload → bytes ≡ bytes_of payload
-      → TakesPayload (record { gathered = g; lines = old.lines; notes = old.notes }) new packet.time sender bytes → TakesPacket old new packet
+      → TakesPayload (record { gathered = g; lines = old.lines; kept = old.kept; notes = old.notes }) new packet.time sender bytes → TakesPacket old new packet
   takes_whole sender payload bytes new is same t = record {
     step = record { packet = packet; heard = heard; taken = Some t.taken };
     of = refl;
@@ -78,6 +79,7 @@ module _ (old : Session) (g : Gathered) (packet : ShownPacket) (heard : Heard) (
       config = λ known are. t.config known (others.config ∙ are);
     };
     lines = t.lines;
+    keeps = t.keeps;
     notes = t.notes ∙ ap (λ h. string_bytes old.notes.text ++ heard_notes packet.time h (Some t.taken)) (sym is);
     silent = t.silent;
   } where

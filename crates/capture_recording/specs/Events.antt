@@ -57,9 +57,13 @@ pub record IsRecordable (e : Event) : Type 0 where
   pub lsa : HasWholeLsa (line.Event e)
   pub version : (v : Version) → IsLineIn v (line.Event e)
 
--- the lines of the events are appended to the old text, as a recording has them
+-- their lines, as a recording has them
+abbrev pub lines_of : List Event → List ℕ
+lines_of events = text_of_forms (map event_form events)
+
+-- the lines of the events are appended to the old text
 pub record AreAppended (old new : List ℕ) (events : List Event) : Type 0 where
-  pub text : new ≡ old ++ text_of_forms (map event_form events)
+  pub text : new ≡ old ++ lines_of events
   pub each : All IsRecordable events
 
 abbrev pub GainsEvents : {Z : Type 0} → (old new : String Z) → List Event → Type 0

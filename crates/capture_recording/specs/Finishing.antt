@@ -1,5 +1,5 @@
 -- The end of a capture that was read.
-use Rattle.std.specs.Prelude.{ℕ, ◌≡◌, ◌++◌, List, [], Option, Some, None, string_bytes}
+use Rattle.std.specs.Prelude.{ℕ, ◌≡◌, ◌++◌, List, [], Option, Some, None}
 use Rattle.std.specs.Io.KnownBytes.{Appends}
 use Rattle.captured_config.specs.Configs.{config_of}
 use Rattle.captured_config.specs.declared.fault.PreambleFault.{PreambleFault}
@@ -12,7 +12,7 @@ use Rattle.ospf_types.specs.declared.fault.ConfigFault.{ConfigFault}
 use Rattle.capture_recording.specs.declared.capturing.Preamble.{Preamble}
 use Rattle.capture_recording.specs.declared.capturing.Preamble.TheVariants.{Given, Router}
 use Rattle.capture_recording.specs.declared.going.Ended.{Ended}
-use Rattle.capture_recording.specs.declared.going.PackedCapture.{PackedCapture}
+use Rattle.capture_recording.specs.Gathering.{waiting}
 use Rattle.capture_recording.specs.Going.{GoesThrough}
 use Rattle.capture_recording.specs.Outputs.{HasConfigFault, IsFront, IsRecordingWritten}
 
@@ -30,20 +30,20 @@ pub record IsCaptureBegun (rules : Rules) (beginning : Preamble) (before after o
   pub begun : Appends old now (front ++ written)
 
 -- a capture was read, and this has to come before its lines
-pub record IsBehind (rules : Rules) (beginning : Preamble) (before after told_before told : Option (List ℕ)) (kept : PackedCapture) (front : List ℕ) : Type 0 where
-  pub through : GoesThrough rules (router_of beginning) before told_before after told kept.ended kept.packed
+pub record IsBehind (rules : Rules) (beginning : Preamble) (before after told_before told : Option (List ℕ)) (ended : Ended) (front : List ℕ) : Type 0 where
+  pub through : GoesThrough rules (router_of beginning) before told_before after told ended []
   pub is : IsFront beginning through.recorded.steps front
 
 -- a capture was read, and its configuration of the router has this fault
-pub record IsLacking (rules : Rules) (router : ℕ) (before after told_before told : Option (List ℕ)) (ended : Ended) (packed : List ℕ) (fault : ConfigFault) : Type 0 where
-  pub through : GoesThrough rules (Some router) before told_before after told ended packed
+pub record IsLacking (rules : Rules) (router : ℕ) (before after told_before told : Option (List ℕ)) (ended : Ended) (fault : ConfigFault) : Type 0 where
+  pub through : GoesThrough rules (Some router) before told_before after told ended []
   pub has : HasConfigFault (Router router) through.recorded.steps fault
 
 -- all of it was written
 pub record IsWhollyWritten (rules : Rules) (beginning : Preamble) (before after old new told_before told : Option (List ℕ)) (ended : Ended) : Type 0 where
   pub written : List ℕ
   pub through : GoesThrough rules (router_of beginning) before told_before after told ended written
-  pub all : IsRecordingWritten beginning old new through.recorded.steps (written ++ string_bytes ended.session.lines)
+  pub all : IsRecordingWritten beginning old new through.recorded.steps (written ++ waiting ended.session)
 
 -- ---- what is known of the router
 

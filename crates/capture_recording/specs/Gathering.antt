@@ -1,5 +1,5 @@
 -- The changes of the gathered results by one packet.
-use Rattle.std.specs.Prelude.{ℕ, ◌≡◌, ◌++◌, false, List, [], Option, Some, option_map, string_bytes}
+use Rattle.std.specs.Prelude.{ℕ, ◌≡◌, ◌++◌, false, List, [], Option, None, Some, option_map, string_bytes}
 use Rattle.captures.specs.Runs.{ShownPacket}
 use Rattle.captured_config.specs.Facts.{Facts, facts_of}
 use Rattle.captured_config.specs.Lsas.{Captured}
@@ -8,7 +8,8 @@ use Rattle.captured_lsas.specs.declared.taken.Taken.{Taken}
 use Rattle.captured_lsas.specs.Packets.{IsPacketTaken, with_packet}
 use Rattle.captured_lsas.specs.Progress.{start}
 use Rattle.capture_recording.specs.Counts.{with_taken}
-use Rattle.capture_recording.specs.Events.{GainsEvents, taken_events}
+use Rattle.capture_recording.specs.Events.{AreAppended, taken_events}
+use Rattle.capture_recording.specs.Kept.{kept_if}
 use Rattle.capture_recording.specs.Notes.{taken_text}
 use Rattle.capture_recording.specs.declared.gathered.Gathered.{Gathered}
 use Rattle.capture_recording.specs.declared.session.Session.{Session}
@@ -29,9 +30,15 @@ AreFactsOf known facts = facts ≡ option_map facts_of known
 abbrev pub first_gathered : Rules → (router : Option ℕ) → Gathered
 first_gathered rules router = record { listener = []; recorder = start rules.options rules.areas; counts = none_counted; areas = []; config = option_map facts_of (config_of router []) }
 
+-- the lines that are not written yet
+abbrev pub waiting : Session → List ℕ
+waiting session = string_bytes session.lines ++ kept_if session.kept
+
 pub record IsFirstSession (rules : Rules) (router : Option ℕ) (session : Session) : Type 0 where
   pub gathered : session.gathered ≡ first_gathered rules router
   pub lines : string_bytes session.lines ≡ []
+  pub none : kept_if session.kept ≡ []
+  pub keeps : router ≡ None → session.kept ≡ None
   pub notes : string_bytes session.notes.text ≡ []
   pub speaks : session.notes.is_silent ≡ false
 
@@ -61,7 +68,8 @@ pub record TakesPayload (old new : Session) (time : Option ℕ) (sender : ℕ) (
   pub counts : new.gathered.counts ≡ with_taken old.gathered.counts taken
   pub areas : new.gathered.areas ≡ with_taken_area old.gathered.areas taken
   pub config : (known : Option Captured) → AreFactsOf known old.gathered.config → AreFactsOf (option_map (λ c. with_taken_lsas c taken) known) new.gathered.config
-  pub lines : GainsEvents old.lines new.lines (taken_events taken)
+  pub lines : AreAppended (waiting old) (waiting new) (taken_events taken)
+  pub keeps : old.kept ≡ None → new.kept ≡ None
   pub notes : string_bytes new.notes.text ≡ string_bytes old.notes.text ++ taken_text time (Some sender) taken
   pub silent : new.notes.is_silent ≡ old.notes.is_silent
 
@@ -77,7 +85,8 @@ pub record TakesPacket (old new : Session) (packet : ShownPacket) : Type 0 where
   pub step : PacketStep
   pub of : step.packet ≡ packet
   pub gathers : GathersPacket old.gathered step new.gathered
-  pub lines : GainsEvents old.lines new.lines (step_events step)
+  pub lines : AreAppended (waiting old) (waiting new) (step_events step)
+  pub keeps : old.kept ≡ None → new.kept ≡ None
   pub notes : string_bytes new.notes.text ≡ string_bytes old.notes.text ++ step_notes step
   pub silent : new.notes.is_silent ≡ old.notes.is_silent
 

@@ -2,6 +2,7 @@ pub mod Seconds
 pub mod Notes
 pub mod Counts
 pub mod Events
+pub mod Kept
 pub mod Rules
 pub mod Steps
 pub mod Texts
@@ -14,5 +15,3 @@ pub mod FirstPackets
 pub mod Streaming
 pub mod Outputs
 pub mod Finishing
-pub mod Digits
-pub mod Packed

@@ -24,12 +24,6 @@ pub record WritesSome (old new : Option (List ℕ)) (lines left : List ℕ) : Ty
   pub joined : lines ≡ front ++ left
   pub written : Appends old new front
 
--- a front of the lines was packed, and the others are left
-pub record Packs (old new : List ℕ) (lines left : List ℕ) : Type 0 where
-  pub front : List ℕ
-  pub joined : lines ≡ front ++ left
-  pub packed : new ≡ old ++ front
-
 -- the reason why not all of the text was written, and the part that was
 abbrev pub WritesSaidPart : (old new : Option (List ℕ)) → (text : List ℕ) → CapturingFault → Type 0
 WritesSaidPart old new text (Capture kind place) = ⊥

@@ -166,7 +166,7 @@ fn record_router<R: io::Read, W: io::Write, F: io::Write>(
         (F.contents faults.old) (F.contents faults.new) result }
 {
     match gather(alloc, start, router, input, faults) {
-        Ok(kept) => kept.finish_router(alloc, out, faults),
+        Ok(ended) => ended.finish_router(alloc, out, faults),
         Err(_) => Err(CapturingFault::Memory),
     }
 }

@@ -36,7 +36,8 @@ pub fn put_taken(taken: Taken, text: &mut String) -> Result<(), Memory>
     }
 }
 
-fn put_seconds(seconds: u64, text: &mut String) -> Result<(), Memory>
+/// Appends `second` lines.
+pub(crate) fn put_seconds(seconds: u64, text: &mut String) -> Result<(), Memory>
     ensures { OnOk result (GainsEvents text.old text.new (second_events seconds)) }
 {
     for _ in 0..seconds {
@@ -75,8 +76,13 @@ fn put_recorded(recorded: Recorded, text: &mut String) -> Result<(), Memory>
     }
 }
 
-// Appends the line that installs an LSA, and the line that purges it if `purges` is true.
-fn put_install(scope: Scope, lsa: Checked, purges: bool, text: &mut String) -> Result<(), Memory>
+/// Appends the line that installs an LSA, and the line that purges it if `purges` is true.
+pub(crate) fn put_install(
+    scope: Scope,
+    lsa: Checked,
+    purges: bool,
+    text: &mut String,
+) -> Result<(), Memory>
     ensures { OnOk result (GainsEvents text.old text.new (install_events scope lsa purges)) }
 {
     let key = lsa.key();

@@ -1,7 +1,6 @@
 //! The output after a capture was read.
-ghost use Rattle.std.specs.Prelude.{◌≡◌, ◌++◌, ℕ, List, Option, Some, OnOk, IfOk, IfErr, length};
+ghost use Rattle.std.specs.Prelude.{◌≡◌, ◌++◌, ℕ, List, [], Option, Some, OnOk, IfOk, IfErr, length};
 ghost use Rattle.std.specs.Prelude.{string_bytes};
-ghost use Rattle.std.specs.Io.KnownBytes.{Appends};
 ghost use Rattle.captured_config.specs.Facts.{facts_of};
 ghost use Rattle.captured_config.specs.Fronts.{captured_recording};
 ghost use Rattle.captured_config.specs.Lsas.{Captured};
@@ -18,7 +17,7 @@ ghost use Rattle.capture_recording.specs.Outputs.{RuledOutcome};
 
 use crate::fault::CapturingFault;
 use crate::gathered::Gathered;
-use crate::going::{Ended, PackedCapture};
+use crate::going::Ended;
 use crate::put_counts;
 use crate::writing::write_out;
 use captured_config::PreambleFault;
@@ -27,7 +26,7 @@ use ospf_types::memory::Memory;
 use std::alloc::Global;
 use std::io;
 
-impl PackedCapture {
+impl Ended {
     /// Writes the preamble that the capture shows for the router, and then the lines.
     pub(crate) fn finish_router<W: io::Write, F: io::Write>(
         self,
@@ -36,14 +35,13 @@ impl PackedCapture {
         faults: &mut F,
     ) -> Result<(), CapturingFault>
         ensures { (rules : Rules) (router : ℕ) (before after told : Option (List ℕ))
-            → GoesThrough rules (Some router) before told after (F.contents faults.old)
-            self.ended self.packed
+            → GoesThrough rules (Some router) before told after (F.contents faults.old) self []
             → RuledOutcome rules (Router router) before after
             (W.contents out.old) (W.contents out.new) told (F.contents faults.new) result }
     {
-        match front_of(alloc, &self.ended.session.gathered) {
+        match front_of(alloc, &self.session.gathered) {
             Ok(front) => self.finish_behind(&front, out, faults),
-            Err(PreambleFault::Config(fault)) => self.ended.finish_without(fault, faults),
+            Err(PreambleFault::Config(fault)) => self.finish_without(fault, faults),
             Err(PreambleFault::Memory) => Err(CapturingFault::Memory),
         }
     }
@@ -62,32 +60,11 @@ impl PackedCapture {
             (W.contents out.old) (W.contents out.new) told (F.contents faults.new) result }
     {
         match write_out(front.as_bytes(), out) {
-            Ok(()) => self.finish_packed(out, faults),
+            Ok(()) => self.finish(out, faults),
             Err(fault) => Err(fault),
         }
     }
 
-    // Writes the lines.
-    fn finish_packed<W: io::Write, F: io::Write>(
-        self,
-        out: &mut W,
-        faults: &mut F,
-    ) -> Result<(), CapturingFault>
-        ensures { (rules : Rules) (beginning : Preamble)
-            (before after first told : Option (List ℕ)) (front : List ℕ)
-            → IsBehind rules beginning before after told (F.contents faults.old) self front
-            → Appends first (W.contents out.old) front
-            → RuledOutcome rules beginning before after first (W.contents out.new)
-            told (F.contents faults.new) result }
-    {
-        match self.packed.write_to(out) {
-            Ok(()) => self.ended.finish(out, faults),
-            Err(fault) => Err(fault),
-        }
-    }
-}
-
-impl Ended {
     /// Writes the lines that are left, and prints the notes and counts at the end.
     pub(crate) fn finish<W: io::Write, F: io::Write>(
         self,
@@ -101,7 +78,7 @@ impl Ended {
             → RuledOutcome rules beginning before after first (W.contents out.new)
             told (F.contents faults.new) result }
     {
-        match write_out(self.session.lines.as_bytes(), out) {
+        match self.session.write_waiting(out) {
             Ok(()) => self.say_end(faults),
             Err(fault) => Err(fault),
         }
@@ -133,8 +110,8 @@ impl Ended {
         faults: &mut F,
     ) -> Result<(), CapturingFault>
         ensures { (rules : Rules) (router : ℕ)
-            (before after old told : Option (List ℕ)) (packed : List ℕ)
-            → IsLacking rules router before after told (F.contents faults.old) self packed fault
+            (before after old told : Option (List ℕ))
+            → IsLacking rules router before after told (F.contents faults.old) self fault
             → RuledOutcome rules (Router router) before after old old
             told (F.contents faults.new) result }
     {

@@ -6,11 +6,10 @@ ghost use Rattle.capture_recording.specs.Streaming.{IsGatheredUpTo, StreamsPart}
 
 use crate::ending::Ending;
 use crate::fault::CapturingFault;
-use crate::packed_text::PackedText;
 use crate::session::Session;
 use crate::source::CaptureSource;
 use crate::start::Start;
-use crate::writing::{pack_many, write_due};
+use crate::writing::write_due;
 use ospf_types::memory::Memory;
 use std::alloc::Global;
 use std::io;
@@ -22,38 +21,26 @@ pub(crate) struct Ended {
     pub(crate) ending: Ending,
 }
 
-/// A capture that was read, with the lines that were packed. The lines of the session come after
-/// them.
-#[derive(Drop)]
-pub(crate) struct PackedCapture {
-    pub(crate) ended: Ended,
-    pub(crate) packed: PackedText,
-}
-
-/// Reads a capture, and keeps the lines of its packets.
+/// Reads a capture, and keeps the events of its packets.
 pub(crate) fn gather<R: io::Read, F: io::Write>(
     alloc: Global,
     start: Start,
     router: u32,
     input: &mut R,
     faults: &mut F,
-) -> Result<PackedCapture, Memory>
-    ensures ok { IfOk result (λ kept. GoesThrough start (Some router)
+) -> Result<Ended, Memory>
+    ensures ok { IfOk result (λ ended. GoesThrough start (Some router)
         (R.remaining input.old) (F.contents faults.old)
-        (R.remaining input.new) (F.contents faults.new) kept.ended kept.packed) }
+        (R.remaining input.new) (F.contents faults.new) ended []) }
     ensures err { OnErr result (IsGatheredUpTo start (R.remaining input.old)
         (F.contents faults.old) (F.contents faults.new)) }
 {
     let mut session = Session::new(alloc, start, Some(router));
     let mut source = CaptureSource::new(alloc)?;
-    let mut packed = PackedText::new(alloc);
     for _ in 0..u64::MAX {
         match source.hand_next(alloc, input, &mut session, faults)? {
-            None => pack_many(&mut session.lines, &mut packed)?,
-            Some(ending) => {
-                let ended = Ended { session, ending };
-                return Ok(PackedCapture { ended, packed });
-            }
+            None => {}
+            Some(ending) => return Ok(Ended { session, ending }),
         }
     }
     // proof: the loop ends earlier, as no input has `u64::MAX` packets.

@@ -11,9 +11,8 @@
 //! - If a preamble is given, the lines of a packet are written as soon as it is taken, or in large
 //!   pieces while more bytes are at hand. LSAs of areas that it does not have are left out, with a
 //!   line for each such area. They are counted neither as LSAs nor as repeated.
-//! - If the capture gives the preamble, all lines wait until its end, as only then all areas and
-//!   interfaces are known. They are packed: hexadecimal digits by two in a byte, repeated
-//!   beginnings once, and seconds as a number.
+//! - If the capture gives the preamble, all events wait until its end, as only then all areas and
+//!   interfaces are known. Until then the bytes of each LSA are kept, and seconds as a number.
 //! - Between two packets at most 3600 seconds are recorded. After these each LSA is at MaxAge, and
 //!   ages no further (RFC 2328, 14). A line says how many seconds passed.
 //! - If the time of a packet is before the last one by a whole second or more, a line says so.
@@ -30,18 +29,15 @@ mod fault;
 mod finishing;
 mod gathered;
 mod going;
+mod kept_events;
+mod kept_lines;
 mod note_lines;
 mod notes;
-mod packed_text;
-mod piece;
-mod pieces;
 mod place;
-mod runs;
 mod seconds;
 mod session;
 mod source;
 mod start;
-mod unpacking;
 mod writing;
 
 pub use captured_lsas::Options;

@@ -2,12 +2,10 @@
 ghost use Rattle.std.specs.Prelude.{◌≡◌, ◌⊎◌, [], false, OnOk, OnErr, IfErr, string_bytes};
 ghost use Rattle.std.specs.Io.KnownBytes.{Appends};
 ghost use Rattle.replay.specs.Writing.{AppendsPart};
-ghost use Rattle.capture_recording.specs.Said.{Packs, WritesSome};
+ghost use Rattle.capture_recording.specs.Said.{WritesSome};
 ghost use Rattle.capture_recording.specs.declared.fault.CapturingFault.TheVariants as capturing_fault;
 
 use crate::fault::CapturingFault;
-use crate::packed_text::PackedText;
-use ospf_types::memory::Memory;
 use replay::{WriteError, write_whole};
 use std::io;
 
@@ -54,42 +52,4 @@ pub(crate) fn write_due<W: io::Write>(
         }
         Err(fault) => Err(fault),
     }
-}
-
-/// Writes the text and clears it, unless it has fewer than `MANY` bytes.
-pub(crate) fn write_many<W: io::Write>(
-    text: &mut Vec<u8>,
-    out: &mut W,
-) -> Result<(), CapturingFault>
-    ensures ok { OnOk result (WritesSome (W.contents out.old) (W.contents out.new)
-        text.old.items text.new.items) }
-    ensures err { OnErr result (AppendsPart (W.contents out.old) (W.contents out.new)
-        text.old.items) }
-    ensures fault { IfErr result (λ e. (e ≡ capturing_fault.Write)
-        ⊎ (e ≡ capturing_fault.Closed)) }
-{
-    if text.len() < MANY {
-        return Ok(());
-    }
-    match write_out(text.as_slice(), out) {
-        Ok(()) => {
-            text.clear();
-            Ok(())
-        }
-        Err(fault) => Err(fault),
-    }
-}
-
-/// Packs the lines and clears them, unless they have fewer than `MANY` bytes. If memory runs out,
-/// some of the lines may be packed.
-pub(crate) fn pack_many(lines: &mut String, packed: &mut PackedText) -> Result<(), Memory>
-    ensures { OnOk result (Packs packed.old packed.new
-        (string_bytes lines.old) (string_bytes lines.new)) }
-{
-    if lines.len() < MANY {
-        return Ok(());
-    }
-    packed.push(lines.as_bytes())?;
-    lines.clear();
-    Ok(())
 }

@@ -6,8 +6,8 @@
 mod beginnings;
 mod decoding;
 mod failures;
+mod kept;
 mod live;
-mod packed;
 mod payloads;
 mod recorded;
 mod slow_input;
@@ -36,6 +36,6 @@ fn main(rt: HostRuntime) -> Result<()> {
     texts::run(&rt)?;
     beginnings::run(&rt)?;
     failures::run(&rt)?;
-    packed::run(&rt)?;
+    kept::run(&rt)?;
     live::run(&rt)
 }

@@ -1,7 +1,7 @@
-use Rattle.std.proofs.Common.{None, [], ◌++◌, ◌∙◌, ℕ, List, length, not, ◌==◌, ap}
+use Rattle.std.proofs.Common.{None, [], ◌++◌, ◌∙◌, ℕ, List, length, not, ◌==◌, ap, refl}
 use Rattle.replay.proofs.Written.{appends_none, appends_more, err_as}
 use Rattle.capture_recording.specs.declared.fault.CapturingFault.TheVariants.{Memory}
-use Rattle.capture_recording.proofs.Recorded.{ended, gone_through, recorded_first, recorded_more, recorded_written, took}
+use Rattle.capture_recording.proofs.Recorded.{ended, gone_through, none_waiting, nothing_waits, recorded_first, recorded_more, recorded_written, took}
 use Rattle.capture_recording.proofs.Outcomes.{none_streamed, part_streamed, some_streamed, streams_part}
 use Rattle.capture_recording.proofs.going.stream.Goals as goal
 
@@ -19,7 +19,7 @@ loop-init g c = record {
   appended = appends_none (g.W.Write.contents c.args.out.now);
   recorded = recorded_first c.args.start None (g.R.Read.remaining c.args.input.now) (g.F.Write.contents c.args.faults.now)
       c.in_ok-source.source.reader c.new-session.result c.new-session.ensures c.in_ok-source.ensures;
-  due = λ given none. c.new-session.ensures.lines;
+  due = λ given none. none_waiting c.args.start None c.new-session.result c.new-session.ensures;
 }
 
 pub returns-in_err-hand_next-clause-err : goal.returns-in_err-hand_next-clause-err
@@ -58,5 +58,5 @@ loop-preserved g c =
       written = inv.written ++ some.front;
       appended = appends_more (g.W.Write.contents c.args.out.now) (g.W.Write.contents c.loop.out) (g.W.Write.contents c.write_due.new.out) inv.written some.front inv.appended some.written;
       recorded = recorded_written c.args.start None (g.R.Read.remaining c.args.input.now) (g.F.Write.contents c.args.faults.now) c.hand_next.new.self.reader (g.R.Read.remaining c.hand_next.new.input) (g.F.Write.contents c.hand_next.new.faults) c.hand_next.new.session inv.written some.front c.write_due.new.lines more some.joined;
-      due = λ given none. some_due (c.has_pending.ensures ∙ ap (λ (xs : List ℕ). not (length xs == 0)) none);
+      due = λ given none. nothing_waits (record c.hand_next.new.session { lines = c.write_due.new.lines }) (more.keeps refl) (some_due (c.has_pending.ensures ∙ ap (λ (xs : List ℕ). not (length xs == 0)) none));
     }

@@ -1,14 +1,11 @@
-use Rattle.std.proofs.Common.{subst}
-use Rattle.std.specs.Io.KnownBytes.{Appends}
-use Rattle.replay.specs.Writing.{AppendsPart}
 use Rattle.capture_recording.proofs.Ends.{lines_written, lines_unwritten}
 use Rattle.capture_recording.proofs.going.Ended.finish.Goals as goal
 
 pub returns-in-Ok : goal.returns-in-Ok
 returns-in-Ok g c rules beginning before after first told is =
     c.say_end.ensures rules beginning before after first _ told
-    (lines_written rules beginning before after first _ told _ c.args.self is _ (subst (λ l. Appends (g.W.Write.contents c.args.out.now) (g.W.Write.contents c.write_out.new.out) l) c.as_bytes.ensures.value c.in-Ok.ensures.ok))
+    (lines_written rules beginning before after first _ told _ c.args.self is _ c.in-Ok.ensures.ok)
 
 pub returns-in-Err : goal.returns-in-Err
 returns-in-Err g c rules beginning before after first told is =
-    lines_unwritten rules beginning before after first _ told _ c.args.self is _ _ c.in-Err.ensures.fault (subst (λ l. AppendsPart (g.W.Write.contents c.args.out.now) (g.W.Write.contents c.write_out.new.out) l) c.as_bytes.ensures.value c.in-Err.ensures.err)
+    lines_unwritten rules beginning before after first _ told _ c.args.self is _ c.in-Err.fault c.in-Err.ensures.err
